@@ -1,0 +1,9 @@
+pub mod Block
+pub mod Bytes
+pub mod Exact
+pub mod Ip4
+pub mod Mac
+pub mod Name
+pub mod Number
+pub mod Prefix
+pub mod Text

@@ -1,0 +1,18 @@
+-- The names of objects.
+use Rattle.std.specs.Prelude.{ℕ, Bool, not, ◌&&◌, ◌||◌, ◌==◌, List, length, nat_lt, nat_le, nat_eq, codes}
+use Rattle.std.specs.List.{list_all, starts_with}
+
+-- a quotation mark, single or double
+abbrev pub is_quote : ℕ → Bool
+is_quote byte = (byte == 39) || (byte == 34)
+
+-- a printable ASCII byte that is no space, quotation mark or backslash
+abbrev pub is_name_byte : ℕ → Bool
+is_name_byte byte = nat_lt 32 byte && nat_lt byte 127 && not (is_quote byte) && not (byte == 92)
+
+-- A port, a datapath and a load balancer are named by 1 to 127 such bytes, which do not begin with `-`,
+-- as an option does, nor with `_MC_`, as a multicast group's name does (this profile's own).
+abbrev pub is_object_name : List ℕ → Bool
+is_object_name bytes =
+    nat_lt 0 (length bytes) && nat_le (length bytes) 127 && list_all is_name_byte bytes
+    && not (starts_with nat_eq bytes (codes "-")) && not (starts_with nat_eq bytes (codes "_MC_"))

@@ -1,0 +1,33 @@
+//! The base of all the crates: want of memory, names, numbers of objects, lists as plain data,
+//! and the addresses and numbers that lines, matches and flows are written with.
+#![tactic(auto)]
+
+mod bytes;
+mod ip4;
+mod items;
+mod kept;
+mod laws;
+mod mac;
+mod memory;
+mod name;
+mod number;
+mod object;
+mod prefix;
+#[cfg(test)]
+mod tests;
+mod text;
+
+pub use ip4::{Ip4, put_ip4, read_ip4};
+pub use items::Items;
+pub use kept::Kept;
+pub use laws::{
+    hexadecimals_are_read, written_addresses_are_read, written_decimals_are_read,
+    written_hexadecimals_are_read, written_macs_are_read, written_prefixes_are_read,
+};
+pub use mac::{Mac, put_mac, read_mac};
+pub use memory::OutOfMemory;
+pub use name::{Name, is_object_name};
+pub use number::{put_dec, put_hex, read_number};
+pub use object::ObjId;
+pub use prefix::{Prefix, put_prefix, read_prefix};
+pub use text::BadText;

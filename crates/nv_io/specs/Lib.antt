@@ -1,0 +1,4 @@
+pub mod Counts
+pub mod Edge
+pub mod Feed
+pub mod Store

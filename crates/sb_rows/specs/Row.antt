@@ -1,0 +1,50 @@
+-- The rows of the logical flow table: their texts, and the order that they stand in.
+use Rattle.std.specs.Prelude.{ℕ, List, [], ◌∷◌, codes, if◌then◌else◌, ◌==◌, filter, IsSorted}
+use Rattle.std.specs.declared.cmp.Ordering.{Ordering}
+use Rattle.std.specs.Ordering.{nat_cmp, is_gt, on, then_cmp, flip_args}
+use Rattle.std.specs.Cmp.Lexicographic.{slice_cmp}
+use Rattle.nv_base.specs.declared.object.ObjId.{ObjId}
+use Rattle.sb_rows.specs.declared.row.PlainMatch.{PlainMatch}
+use Rattle.sb_rows.specs.declared.row.PlainMatch.TheVariants.{Any, SrcMcast, DstMcast}
+use Rattle.sb_rows.specs.declared.row.PlainAction.{PlainAction}
+use Rattle.sb_rows.specs.declared.row.PlainAction.TheVariants.{Next, Drop, Output, Flood}
+use Rattle.sb_rows.specs.declared.row.Row.{Row}
+use Rattle.sb_rows.specs.Stage.{stage_place}
+
+-- the match, as ovn-sb(5) writes it
+abbrev pub match_text : PlainMatch → List ℕ
+match_text Any = codes "1"
+match_text SrcMcast = codes "eth.src[40]"
+match_text DstMcast = codes "eth.mcast"
+
+-- the actions, as ovn-sb(5) writes them
+abbrev pub action_text : PlainAction → List ℕ
+action_text Next = codes "next;"
+action_text Drop = codes "drop;"
+action_text Output = codes "output;"
+action_text Flood = codes "outport = \"_MC_flood\"; output;"
+
+-- rows stand by datapath, then stage
+abbrev pub place_cmp : Row → Row → Ordering
+place_cmp = then_cmp (on (λ r. r.dp.0) nat_cmp) (on (λ r. stage_place r.stage) nat_cmp)
+
+-- within a stage they stand by priority, the highest first, then by hint
+abbrev pub rank_cmp : Row → Row → Ordering
+rank_cmp = then_cmp (flip_args (on (λ r. r.priority) nat_cmp)) (on (λ r. r.hint.0) nat_cmp)
+
+-- the order of rows: place, rank, and the text of the match by its bytes
+unfoldable pub row_cmp : Row → Row → Ordering
+row_cmp = then_cmp (then_cmp place_cmp rank_cmp) (on (λ r. match_text r.matching) (slice_cmp nat_cmp))
+
+-- each row stands behind the one before it, or level with it
+abbrev pub IsInRowOrder : List Row → Type 0
+IsInRowOrder rows = IsSorted row_cmp rows
+
+-- the rows with one more, which goes before the first that stands after it
+abbrev pub put_row : Row → List Row → List Row
+put_row row [] = row ∷ []
+put_row row (x ∷ xs) = if is_gt (row_cmp x row) then row ∷ x ∷ xs else x ∷ put_row row xs
+
+-- the rows of one datapath
+abbrev pub rows_of : ObjId → List Row → List Row
+rows_of dp rows = filter (λ r. r.dp.0 == dp.0) rows

@@ -1,0 +1,10 @@
+pub mod Blanks
+pub mod Cuts
+pub mod Index
+pub mod Writing
+pub mod Splits
+pub mod Standing
+pub mod Feeding
+pub mod Conversing
+pub mod Completeness
+pub mod Rising

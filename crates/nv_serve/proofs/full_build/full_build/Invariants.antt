@@ -1,0 +1,11 @@
+use Rattle.std.proofs.Common.{◌≡◌, [], take}
+use Rattle.std.specs.List.{flat_map}
+use Rattle.nv_serve.specs.FullBuild.{switch_rows, put_rows}
+use Rattle.nv_serve.proofs.full_build.full_build.Given as goal
+
+-- the rows of the switches so far are put, and are those
+abbrev pub invariant-loop-dp : goal.invariant-loop-dp
+invariant-loop-dp l = record {
+  put : l.rows ≡ put_rows [] (flat_map switch_rows (take l.dp-index l.dp-items));
+  all : l.rows ≡ flat_map switch_rows (take l.dp-index l.dp-items);
+}

@@ -1,0 +1,11 @@
+pub mod Ending
+pub mod Feeding
+pub mod FullBuild
+pub mod Line
+pub mod Network
+pub mod Output
+pub mod Outside
+pub mod Reply
+pub mod Run
+pub mod Standing
+pub mod Status

@@ -1,0 +1,33 @@
+-- The output of a run.
+use Rattle.std.specs.Prelude.{ℕ, ◌-◌, Bool, ◌==◌, List, length, take}
+use Rattle.std.specs.List.{slice_split}
+use Rattle.nv_serve.specs.Network.{empty_network}
+use Rattle.nv_serve.specs.Reply.{replies, some_refused}
+
+abbrev pub is_newline : ℕ → Bool
+is_newline byte = byte == 10
+
+-- The lines of an input: what stands between its newlines. The last may have no newline; where nothing stands
+-- behind the last newline, that is a line without words, which gets no reply.
+abbrev pub lines_of : List ℕ → List (List ℕ)
+lines_of input = slice_split is_newline input
+
+-- the lines that end with a newline: all but the last
+abbrev pub whole_lines : List ℕ → List (List ℕ)
+whole_lines input = take (length (lines_of input) - 1) (lines_of input)
+
+-- what is written for an input that is read to its end
+abbrev pub output : List ℕ → List ℕ
+output input = replies empty_network (lines_of input)
+
+-- what is written for the lines that have come whole
+abbrev pub whole_output : List ℕ → List ℕ
+whole_output input = replies empty_network (whole_lines input)
+
+-- whether a line of the input is refused
+abbrev pub is_refused : List ℕ → Bool
+is_refused input = some_refused empty_network (lines_of input)
+
+-- no more of an input is run than this many bytes
+abbrev pub input_limit : ℕ
+input_limit = 268435456

@@ -1,0 +1,28 @@
+//! `ovn_nd`: reads a script on standard input, and answers each line on standard output.
+#![tactic(auto)]
+
+use nv_io::{StdSink, StdSource};
+use nv_serve::{Status, run};
+use std::env;
+use std::io::{self, ErrorKind};
+use std::process::ExitCode;
+use std::rt::Env;
+
+fn main(rt: HostRuntime) -> ExitCode {
+    let words = match words(&rt) {
+        Ok(words) => words,
+        Err(error) if error.kind() == ErrorKind::OutOfMemory => {
+            return ExitCode::from(Status::OutOfMemory.code());
+        }
+        // A word is not UTF-8.
+        Err(_) => return ExitCode::from(Status::Usage.code()),
+    };
+    let mut source = StdSource::new(rt.stdin());
+    let mut sink = StdSink::new(rt.stdout());
+    ExitCode::from(run(rt.alloc(), &words, &mut source, &mut sink).code())
+}
+
+// The program's words, its name first.
+fn words(rt: &(impl Env + AllocGlobal)) -> io::Result<Vec<String>> {
+    Ok(env::args(rt)?.collect(rt.alloc())?)
+}

@@ -1,6 +1,7 @@
 pub mod Block
 pub mod Bytes
 pub mod Exact
+pub mod Field
 pub mod Ip4
 pub mod Mac
 pub mod Name

@@ -3,6 +3,7 @@
 #![tactic(auto)]
 
 mod bytes;
+mod field;
 mod ip4;
 mod items;
 mod kept;
@@ -17,6 +18,7 @@ mod prefix;
 mod tests;
 mod text;
 
+pub use field::Field;
 pub use ip4::{Ip4, put_ip4, read_ip4};
 pub use items::Items;
 pub use kept::Kept;
@@ -24,7 +26,7 @@ pub use laws::{
     hexadecimals_are_read, written_addresses_are_read, written_decimals_are_read,
     written_hexadecimals_are_read, written_macs_are_read, written_prefixes_are_read,
 };
-pub use mac::{Mac, put_mac, read_mac};
+pub use mac::{Mac, mac_text, put_mac, read_mac};
 pub use memory::OutOfMemory;
 pub use name::{Name, is_object_name};
 pub use number::{put_dec, put_hex, read_number};

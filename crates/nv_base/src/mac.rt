@@ -42,8 +42,8 @@ fn pair_text(byte: u8) -> [u8; 2]
     [hex_digit(byte / 16), hex_digit(byte % 16)]
 }
 
-/// The text of a MAC.
-fn mac_text(mac: Mac) -> [u8; 17]
+/// The text of a MAC: two lower case digits a byte, joined by `:`.
+pub fn mac_text(mac: Mac) -> [u8; 17]
     ensures { result ≡ mac_text mac }
 {
     let [_, _, b1, b2, b3, b4, b5, b6] = mac.0.to_be_bytes();

@@ -1,0 +1,61 @@
+ghost use Rattle.std.specs.Prelude.{◌≡◌, ◌≢◌, ◌<◌, ◌^◌};
+ghost use Rattle.nv_base.specs.Field.{field_width};
+ghost use Rattle.pkt_core.specs.Packet.{place, value, with_value, zero_packet};
+ghost use Rattle.nv_base.specs.declared.field.Field.{Field};
+
+use nv_base::Field;
+use std::marker::Model;
+
+// How many fields there may be.
+const FIELD_COUNT: usize = 36;
+
+/// A packet: a number for each field, which fits the field's width. A clause sees the list of the numbers, in the
+/// order of the fields.
+#[derive(Clone, Copy, Debug)]
+pub struct Packet {
+    numbers: [u128; FIELD_COUNT],
+}
+
+impl Model for Packet {
+    ghost use Rattle.std.specs.Prelude.{List, ℕ};
+
+    ghost Value = { List ℕ };
+
+    ghost view = { λ p. p.numbers };
+
+    ghost use Rattle.pkt_core.specs.Packet.{Fits};
+
+    ghost invariant = { λ p. Fits p.numbers };
+
+    ghost inverse = { λ numbers. record { numbers = numbers } };
+}
+
+impl Packet {
+    /// The packet of zeros.
+    pub fn zero() -> Self
+        ensures { result ≡ zero_packet }
+    {
+        Packet {
+            numbers: [0; FIELD_COUNT],
+        }
+    }
+
+    /// The number of a field.
+    pub fn get(&self, field: Field) -> u128
+        ensures value { result ≡ value self.now field }
+        ensures fits { result < 2 ^ field_width field }
+    {
+        self.numbers[field as usize]
+    }
+
+    /// Gives a field a number, which fits its width. The other fields stay.
+    pub fn set(&mut self, field: Field, number: u128)
+        requires { number < 2 ^ field_width field }
+        ensures set { self.new ≡ with_value self.old field number }
+        ensures value { value self.new field ≡ number }
+        ensures others { (other : Field) → place other ≢ place field
+            → value self.new other ≡ value self.old other }
+    {
+        self.numbers[field as usize] = number;
+    }
+}

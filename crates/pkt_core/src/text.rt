@@ -1,0 +1,80 @@
+//! A packet as text: the match of ovn-sb(5) that says its header fields.
+ghost use Rattle.std.specs.Prelude.{◌≡◌, ◌<◌, ◌^◌, ◌++◌, false, OnOk, OnErr};
+ghost use Rattle.nv_base.specs.Field.{field_width};
+ghost use Rattle.pkt_core.specs.Text.{number_text, condition_text, separator, ending, conditions, packet_text, GrowsAtEnd};
+
+use crate::Packet;
+use nv_base::{Field, Mac, OutOfMemory, put_hex, put_mac};
+
+// The fields that the text says, in the order of their numbers.
+const HEADER_FIELDS: [Field; 3] = [Field::EthSrc, Field::EthDst, Field::EthType];
+
+/// Appends `FIELD == VALUE` for each header field whose number is not zero, joined by ` && `, or `1` where all are
+/// zero. After `OutOfMemory` the bytes are as before.
+pub fn put_packet(out: &mut Vec<u8>, packet: &Packet) -> Result<(), OutOfMemory>
+    ensures ok { OnOk result (out.new.items ≡ out.old.items ++ packet_text packet.now) }
+    ensures err { OnErr result (out.new.items ≡ out.old.items) }
+{
+    let before = out.len();
+    let put = put_conditions(out, packet, &HEADER_FIELDS);
+    if put.is_err() {
+        out.truncate(before);
+    }
+    put
+}
+
+// Appends a condition for each of the fields whose number is not zero, or `1`. After `OutOfMemory` a part may stand
+// behind what was there.
+fn put_conditions(out: &mut Vec<u8>, packet: &Packet, fields: &[Field]) -> Result<(), OutOfMemory>
+    ensures ok { OnOk result (out.new.items ≡ out.old.items ++ conditions packet.now fields.now false) }
+    ensures err { OnErr result (GrowsAtEnd out.old.items out.new.items) }
+{
+    let mut before = false;
+    for field in fields {
+        let number = packet.get(*field);
+        let is_said = number != 0;
+        if is_said {
+            out.extend_from_slice(separator(before).as_bytes())?;
+            put_condition(out, *field, number)?;
+            before = true;
+        }
+    }
+    out.extend_from_slice(ending(before).as_bytes())?;
+    Ok(())
+}
+
+// What stands in front of a condition.
+fn separator(before: bool) -> &'static str
+    ensures { result.now ≡ separator before }
+{
+    if before { " && " } else { "" }
+}
+
+// What stands at the end.
+fn ending(before: bool) -> &'static str
+    ensures { result.now ≡ ending before }
+{
+    if before { "" } else { "1" }
+}
+
+fn put_condition(out: &mut Vec<u8>, field: Field, number: u128) -> Result<(), OutOfMemory>
+    requires { number < 2 ^ field_width field }
+    ensures ok { OnOk result (out.new.items ≡ out.old.items ++ condition_text field number) }
+    ensures err { OnErr result (GrowsAtEnd out.old.items out.new.items) }
+{
+    out.extend_from_slice(field.name().as_bytes())?;
+    out.extend_from_slice(b" == ")?;
+    put_number(out, field, number)?;
+    Ok(())
+}
+
+fn put_number(out: &mut Vec<u8>, field: Field, number: u128) -> Result<(), OutOfMemory>
+    requires { number < 2 ^ field_width field }
+    ensures ok { OnOk result (out.new.items ≡ out.old.items ++ number_text field number) }
+    ensures err { OnErr result (out.new.items ≡ out.old.items) }
+{
+    match field {
+        Field::EthSrc | Field::EthDst => put_mac(out, Mac(number as u64)),
+        _ => put_hex(out, number),
+    }
+}

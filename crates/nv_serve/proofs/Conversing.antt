@@ -19,7 +19,7 @@ use Rattle.nv_serve.proofs.Writing.{nothing_appended, appended_more}
 use Rattle.nv_serve.proofs.Standing.{written_end, refused_end}
 
 -- nothing given
-nothing_given : (told : Option (List ℕ)) → Consumes told told []
+pub nothing_given : (told : Option (List ℕ)) → Consumes told told []
 nothing_given None = tt
 nothing_given (Some bytes) = refl
 

@@ -1,14 +1,14 @@
 -- How feeding a line more, or the rest, goes on with what was fed.
-use Rattle.std.proofs.Common.{◌≡◌, ℕ, ◌+◌, ◌≤◌, Bool, true, false, ◌||◌, cond, List, [], ◌∷◌, ◌++◌, Option, Result, refl, sym, ap, ◌∙◌, append_assoc, arith}
+use Rattle.std.proofs.Common.{◌≡◌, ℕ, ◌+◌, ◌≤◌, Bool, ◌||◌, List, [], ◌∷◌, ◌++◌, Option, Some, None, Result, refl, sym, ap, ◌∙◌, append_assoc, arith}
 use Rattle.std.proofs.lemmas.List.{append-nil}
 use Rattle.nv_io.specs.declared.sink.SinkFailed.{SinkFailed}
 use Rattle.nv_serve.specs.declared.line.Line.{Line}
-use Rattle.nv_serve.specs.declared.line.Line.TheVariants.{Nothing, AddSwitch, ListFlows, Refused}
+use Rattle.nv_serve.specs.declared.line.Line.TheVariants.{Nothing, AddSwitch, AddPort, SetAddress, ListFlows, Frame, Refused}
 use Rattle.nv_serve.specs.declared.stop.Stop.{Stop}
 use Rattle.nv_serve.specs.declared.stop.Stop.TheVariants.{ReadFault, WriteFault, InputTooLong, OutOfMemory}
 use Rattle.nv_serve.specs.Line.{said}
-use Rattle.nv_serve.specs.Network.{Tables, has_switch}
-use Rattle.nv_serve.specs.Reply.{Reply, reply, reply_to}
+use Rattle.nv_serve.specs.Network.{Tables, switch_named, port_named, with_switch, with_port}
+use Rattle.nv_serve.specs.Reply.{Reply, where_named, where_new, reply, reply_to}
 use Rattle.nv_serve.specs.Output.{output, whole_output}
 use Rattle.nv_serve.specs.Outside.{Puts, no_put, and_put, Wrote, PutFailed, StopsWithin}
 use Rattle.nv_serve.specs.Standing.{Stands, EndsNoLine, CutsLine}
@@ -17,14 +17,22 @@ use Rattle.nv_serve.proofs.Writing.{appended_more, wrote_nothing}
 use Rattle.nv_serve.proofs.Standing.{stands_same, written_same, stands_more, written_more, written_prefix}
 
 -- a line takes one number at most
-cond_next : (b : Bool) (tables : Tables) (refused accepted : Reply) → refused.after ≡ tables → accepted.after.next ≡ tables.next + 1 → (cond b refused accepted).after.next ≤ tables.next + 1
-cond_next true tables refused accepted same more = rw same (omega arith)
-cond_next false tables refused accepted same more = omega (arith, more)
+new_next : {X : Type 0} (tables : Tables) (name : List ℕ) (there : Option X) (after : Tables) → after.next ≡ tables.next + 1 → (where_new tables name there after).after.next ≤ tables.next + 1
+new_next tables name None after more = omega (arith, more)
+new_next tables name (Some object) after more = omega arith
+
+named_next : {X : Type 0} (tables : Tables) (name : List ℕ) (there : Option X) (reply_for : X → Reply) → ((object : X) → (reply_for object).after.next ≤ tables.next + 1) → (where_named tables name there reply_for).after.next ≤ tables.next + 1
+named_next tables name None reply_for each = omega arith
+named_next tables name (Some object) reply_for each = each object
 
 reply_to_next : (tables : Tables) (line : Line) → (reply_to tables line).after.next ≤ tables.next + 1
 reply_to_next tables Nothing = omega arith
-reply_to_next tables (AddSwitch name) = cond_next (has_switch tables name) tables _ _ refl refl
+reply_to_next tables (AddSwitch name) = new_next tables name (switch_named tables.switches name) (with_switch tables name) refl
+reply_to_next tables (AddPort switch name) =
+    named_next tables switch (switch_named tables.switches switch) _ (λ number. new_next tables name (port_named tables.ports name) (with_port tables number name) refl)
+reply_to_next tables (SetAddress name mac) = named_next tables name (port_named tables.ports name) _ (λ port. omega arith)
 reply_to_next tables ListFlows = omega arith
+reply_to_next tables (Frame name mac) = named_next tables name (port_named tables.ports name) _ (λ port. omega arith)
 reply_to_next tables (Refused refusal) = omega arith
 
 pub reply_next : (tables : Tables) (line : List ℕ) → (reply tables line).after.next ≤ tables.next + 1

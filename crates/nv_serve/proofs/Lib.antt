@@ -7,4 +7,16 @@ pub mod Standing
 pub mod Feeding
 pub mod Conversing
 pub mod Completeness
-pub mod Rising
+pub mod Words
+pub mod Numbers
+pub mod Search
+pub mod Selected
+pub mod StageLaws
+pub mod Pipelines
+pub mod Refinement
+pub mod Reached
+pub mod Traced
+pub mod Built
+pub mod SwitchRows
+pub mod PortRows
+pub mod Runnable

@@ -38,7 +38,7 @@ module _ {S K : Type 0} (take_gives : S → List ℕ → Result ℕ SourceFailed
     pub within : length given ≤ input_limit
 
   -- a put failed, and was the last call
-  pub record WriteFaulted (s : S) (k : K) (t : S) (l : K) : Type 0 where
+  pub record WriteFaulted (due : List ℕ → List ℕ) (s : S) (k : K) (t : S) (l : K) : Type 0 where
     pub given : List ℕ
     pub gave : Consumes (left s) (left t) given
     pub before : K
@@ -46,7 +46,7 @@ module _ {S K : Type 0} (take_gives : S → List ℕ → Result ℕ SourceFailed
     pub offered : List ℕ
     pub failed : put_gives before offered (Err (record {})) l
     pub part : List ℕ
-    pub begins : IsPrefix part (output given)
+    pub begins : IsPrefix part (due given)
     pub wrote : Appends (taken k) (taken l) part
     pub rose : Rose (sink_faults k) (sink_faults l)
 
@@ -66,6 +66,6 @@ module _ {S K : Type 0} (take_gives : S → List ℕ → Result ℕ SourceFailed
   -- how a run ends that is stopped
   abbrev pub StopEnds : S → K → S → K → Stop → Type 0
   StopEnds s k t l stops.ReadFault = ReadFaulted s k t l
-  StopEnds s k t l stops.WriteFault = WriteFaulted s k t l
+  StopEnds s k t l stops.WriteFault = WriteFaulted output s k t l
   StopEnds s k t l stops.InputTooLong = TooLong s k t l
   StopEnds s k t l stops.OutOfMemory = NoMemory s k t l

@@ -1,14 +1,15 @@
 -- The full build: the rows of a network, after ovn-northd(8).
-use Rattle.std.specs.Prelude.{ℕ, List, [], ◌∷◌, None, fold, map}
+use Rattle.std.specs.Prelude.{ℕ, List, [], ◌∷◌, ◌++◌, Option, Some, None, map}
 use Rattle.std.specs.List.{flat_map}
 use Rattle.nv_base.specs.declared.object.ObjId.{ObjId}
 use Rattle.sb_rows.specs.declared.row.Row.{Row}
-use Rattle.sb_rows.specs.declared.row.PlainMatch.TheVariants.{Any, SrcMcast, DstMcast}
-use Rattle.sb_rows.specs.declared.row.PlainAction.TheVariants.{Next, Drop, Output, Flood}
+use Rattle.sb_rows.specs.declared.row.PlainMatch.TheVariants.{Any, SrcMcast, DstMcast, DstIs}
+use Rattle.sb_rows.specs.declared.row.PlainAction.TheVariants.{Next, Drop, Output, Flood, To}
 use Rattle.sb_rows.specs.declared.stage.Stage.TheVariants.{LsInCheckPortSec, LsInPreAcl, LsInPreStateful, LsInAclEval, LsInLb, LsInStateful, LsInArpRsp, LsInL2Lkup, LsInL2Unknown, LsOutPreAcl, LsOutPreStateful, LsOutAclEval, LsOutStateful, LsOutCheckPortSec}
-use Rattle.sb_rows.specs.Row.{put_row}
+use Rattle.sb_rows.specs.Row.{put_rows}
 use Rattle.sb_rows.specs.Listing.{listing}
 use Rattle.nv_serve.specs.declared.full_build.FixedRow.{FixedRow}
+use Rattle.nv_serve.specs.declared.port.Port.{Port}
 use Rattle.nv_serve.specs.Network.{Switch, Tables}
 
 -- the rows that each switch has: stage, priority, match and actions
@@ -41,13 +42,21 @@ row_on dp fixed = record { dp = dp; stage = fixed.stage; priority = fixed.priori
 abbrev pub switch_rows : Switch → List Row
 switch_rows switch = map (row_on switch.0) fixed_rows
 
--- rows, each put in its place among those that are there
-abbrev pub put_rows : List Row → List Row → List Row
-put_rows rows more = fold (λ there row. put_row row there) rows more
+-- the row of a port with this address: a frame to it goes out by the port
+abbrev pub lookup_row : Port → ℕ → Row
+lookup_row port mac = record { dp = port.switch; stage = LsInL2Lkup; priority = 50; hint = port.id; matching = DstIs mac; actions = To port.name }
+
+-- the rows of a port: one where it has an address
+abbrev pub lookup_rows : Port → Option ℕ → List Row
+lookup_rows port None = []
+lookup_rows port (Some mac) = lookup_row port mac ∷ []
+
+abbrev pub port_rows : Port → List Row
+port_rows port = lookup_rows port port.address
 
 -- the rows of the network, in row order
 unfoldable pub full_build : Tables → List Row
-full_build tables = put_rows [] (flat_map switch_rows tables.switches)
+full_build tables = put_rows [] (flat_map switch_rows tables.switches ++ flat_map port_rows tables.ports)
 
 -- the listing of all flows
 unfoldable pub flows : Tables → List ℕ

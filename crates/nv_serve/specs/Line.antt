@@ -1,11 +1,12 @@
 -- What a line of the script says.
-use Rattle.std.specs.Prelude.{ℕ, Bool, not, ◌&&◌, ◌||◌, ◌==◌, if◌then◌else◌, List, [], ◌∷◌, length, filter, nat_eq, codes}
-use Rattle.std.specs.List.{slice_split, starts_with, list_any}
+use Rattle.std.specs.Prelude.{ℕ, Bool, not, ◌||◌, ◌==◌, if◌then◌else◌, List, [], ◌∷◌, length, filter, nat_eq, Option, Some, None, codes}
+use Rattle.std.specs.List.{slice_split, starts_with, list_all, list_any}
 use Rattle.std.specs.Str.{bytes_eq}
 use Rattle.nv_base.specs.Name.{is_quote, is_object_name}
+use Rattle.nv_serve.specs.Address.{station_of}
 use Rattle.nv_serve.specs.declared.line.Line.{Line}
-use Rattle.nv_serve.specs.declared.line.Line.TheVariants.{Nothing, AddSwitch, ListFlows, Refused}
-use Rattle.nv_serve.specs.declared.refusal.Refusal.TheVariants.{UnknownCommand, BadName}
+use Rattle.nv_serve.specs.declared.line.Line.TheVariants.{Nothing, AddSwitch, AddPort, SetAddress, ListFlows, Frame, Refused}
+use Rattle.nv_serve.specs.declared.refusal.Refusal.TheVariants.{UnknownCommand, BadName, BadMac}
 
 -- a space, a tab or a carriage return
 abbrev pub is_blank : ℕ → Bool
@@ -19,16 +20,37 @@ words_of line = filter (λ word. not (length word == 0)) (slice_split is_blank l
 abbrev pub is_comment : List ℕ → Bool
 is_comment word = starts_with nat_eq word (codes "#")
 
--- `ls-add NAME` is a new switch, where NAME may name one
-abbrev pub named_switch : List ℕ → Line
-named_switch name = if is_object_name name then AddSwitch name else Refused BadName
+-- a name of an object, or the refusal of the word of that number
+abbrev pub named : ℕ → List ℕ → (List ℕ → Line) → Line
+named word name line = if is_object_name name then line name else Refused (BadName word)
 
--- The two commands are `ls-add NAME`, whose NAME has no quotation mark, and `lflow-list`.
+-- a MAC of one station, or the refusal of the word of that number
+abbrev pub addressed : ℕ → Option ℕ → (ℕ → Line) → Line
+addressed word None line = Refused (BadMac word)
+addressed word (Some mac) line = line mac
+
+-- no word of a line has a quotation mark
+abbrev pub are_unquoted : List (List ℕ) → Bool
+are_unquoted words = list_all (λ word. not (list_any is_quote word)) words
+
+-- the commands of one argument
+abbrev pub command_of_one : List ℕ → List ℕ → Line
+command_of_one command first = if bytes_eq command (codes "ls-add") then named 2 first AddSwitch else Refused UnknownCommand
+
+-- the commands of two arguments
+abbrev pub command_of_two : List ℕ → List ℕ → List ℕ → Line
+command_of_two command first second =
+    if bytes_eq command (codes "lsp-add") then named 2 first (λ switch. named 3 second (AddPort switch))
+    else (if bytes_eq command (codes "lsp-set-addresses") then named 2 first (λ port. addressed 3 (station_of second) (SetAddress port))
+    else (if bytes_eq command (codes "frame") then named 2 first (λ port. addressed 3 (station_of second) (Frame port))
+    else Refused UnknownCommand))
+
+-- The commands are `lflow-list`, `ls-add NAME`, `lsp-add SWITCH PORT`, `lsp-set-addresses PORT MAC` and `frame PORT MAC`.
 abbrev pub command_of : List ℕ → List (List ℕ) → Line
 command_of command [] = if bytes_eq command (codes "lflow-list") then ListFlows else Refused UnknownCommand
-command_of command (name ∷ []) =
-    if bytes_eq command (codes "ls-add") && not (list_any is_quote name) then named_switch name else Refused UnknownCommand
-command_of command (word ∷ another ∷ more) = Refused UnknownCommand
+command_of command (first ∷ []) = if are_unquoted (first ∷ []) then command_of_one command first else Refused UnknownCommand
+command_of command (first ∷ second ∷ []) = if are_unquoted (first ∷ second ∷ []) then command_of_two command first second else Refused UnknownCommand
+command_of command (first ∷ second ∷ third ∷ more) = Refused UnknownCommand
 
 -- a line without words, and a comment, says nothing
 abbrev pub said_by : List (List ℕ) → Line

@@ -1,43 +1,49 @@
--- The network: its switches, and the number that the next object gets.
-use Rattle.std.specs.Prelude.{◌≡◌, is_some, ℕ, ◌+◌, ◌<◌, Bool, List, [], ◌∷◌, ◌++◌}
-use Rattle.std.specs.List.{list_any, AllByRecursion}
+-- The network: its switches and their ports, and the number that the next object gets.
+use Rattle.std.specs.Prelude.{ℕ, ◌+◌, if◌then◌else◌, List, [], ◌∷◌, ◌++◌, Option, Some, None, option_map}
+use Rattle.std.specs.List.{find}
 use Rattle.std.specs.Str.{bytes_eq}
-use Rattle.std.specs.BTreeMap.{BTreeMap, get}
-use Rattle.std.specs.Cmp.Lexicographic.{slice_cmp}
-use Rattle.std.specs.Ordering.{nat_cmp}
 use Rattle.nv_base.specs.declared.object.ObjId.{ObjId}
+use Rattle.nv_serve.specs.declared.port.Port.{Port}
 
 -- a switch: its number and its name
 abbrev pub Switch : Type 0
 Switch = ObjId × List ℕ
 
--- the switches, by rising number, and the next number
+-- the switches and the ports, each by rising number, and the next number
 pub record Tables : Type 0 where
   pub switches : List Switch
+  pub ports : List Port
   pub next : ℕ
-
--- the numbers of switches rise
-abbrev pub IsRising : List Switch → Type 0
-IsRising [] = Unit {0}
-IsRising (switch ∷ more) = AllByRecursion (λ later. switch.0.0 < later.0.0) more × IsRising more
-
--- the numbers rise, and are below the next
-pub record IsNumbered (switches : List Switch) (next : ℕ) : Type 0 where
-  pub rising : IsRising switches
-  pub below : AllByRecursion (λ switch. switch.0.0 < next) switches
 
 -- the network before the first line: numbers begin at 1
 abbrev pub empty_network : Tables
-empty_network = record { switches = []; next = 1 }
+empty_network = record { switches = []; ports = []; next = 1 }
 
--- whether a switch has the name
-abbrev pub has_switch : Tables → List ℕ → Bool
-has_switch tables name = list_any (λ switch. bytes_eq switch.1 name) tables.switches
+-- the number of the switch of this name
+abbrev pub switch_named : List Switch → List ℕ → Option ObjId
+switch_named switches name = option_map (λ switch. switch.0) (find (λ switch. bytes_eq switch.1 name) switches)
+
+-- the port of this name
+abbrev pub port_named : List Port → List ℕ → Option Port
+port_named ports name = find (λ port. bytes_eq port.name name) ports
 
 -- the network with a new switch of that name
 abbrev pub with_switch : Tables → List ℕ → Tables
-with_switch tables name = record { switches = tables.switches ++ (record { 0 = tables.next }, name) ∷ []; next = tables.next + 1 }
+with_switch tables name = record tables { switches = tables.switches ++ (record { 0 = tables.next }, name) ∷ []; next = tables.next + 1 }
 
--- an index finds each name that a switch has, and no other
-abbrev pub IsIndex : BTreeMap (List ℕ) ObjId → List Switch → Type 0
-IsIndex numbers switches = (name : List ℕ) → is_some (get (slice_cmp nat_cmp) numbers name) ≡ list_any (λ switch. bytes_eq switch.1 name) switches
+-- the network with a new port of that name on a switch: it has no address
+abbrev pub with_port : Tables → ObjId → List ℕ → Tables
+with_port tables switch name = record tables {
+  ports = tables.ports ++ record { id = record { 0 = tables.next }; switch = switch; name = name; address = None } ∷ [];
+  next = tables.next + 1;
+}
+
+-- the ports, of which the one of that name has this address
+abbrev pub addressed_ports : List ℕ → ℕ → List Port → List Port
+addressed_ports name mac [] = []
+addressed_ports name mac (port ∷ ports) =
+    if bytes_eq port.name name then record port { address = Some mac } ∷ ports else port ∷ addressed_ports name mac ports
+
+-- the network where the port of that name has this address
+abbrev pub with_address : Tables → List ℕ → ℕ → Tables
+with_address tables name mac = record tables { ports = addressed_ports name mac tables.ports }

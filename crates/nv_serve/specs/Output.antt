@@ -1,5 +1,5 @@
 -- The output of a run.
-use Rattle.std.specs.Prelude.{ℕ, ◌-◌, Bool, ◌==◌, List, length, take}
+use Rattle.std.specs.Prelude.{ℕ, ◌-◌, Bool, ◌==◌, if◌then◌else◌, List, length, take, nat_lt, codes}
 use Rattle.std.specs.List.{slice_split}
 use Rattle.nv_serve.specs.Network.{empty_network}
 use Rattle.nv_serve.specs.Reply.{replies, some_refused}
@@ -19,6 +19,14 @@ whole_lines input = take (length (lines_of input) - 1) (lines_of input)
 -- what is written for an input that is read to its end
 abbrev pub output : List ℕ → List ℕ
 output input = replies empty_network (lines_of input)
+
+-- the line of a program that has words behind its name
+abbrev pub usage_line : List ℕ
+usage_line = codes "usage: ovn_nd\n"
+
+-- what is due for an input, by how many words the program has
+abbrev pub output_for : ℕ → List ℕ → List ℕ
+output_for count given = if nat_lt 1 count then usage_line else output given
 
 -- what is written for the lines that have come whole
 abbrev pub whole_output : List ℕ → List ℕ

@@ -1,12 +1,15 @@
 -- What a line is answered, and the network that it leaves.
-use Rattle.std.specs.Prelude.{ℕ, Bool, true, false, ◌||◌, if◌then◌else◌, List, [], ◌∷◌, ◌++◌, codes}
+use Rattle.std.specs.Prelude.{ℕ, Bool, true, false, ◌||◌, List, [], ◌∷◌, ◌++◌, Option, Some, None, codes, decimal}
+use Rattle.std.specs.List.{flat_map}
 use Rattle.nv_serve.specs.declared.line.Line.{Line}
-use Rattle.nv_serve.specs.declared.line.Line.TheVariants.{Nothing, AddSwitch, ListFlows, Refused}
+use Rattle.nv_serve.specs.declared.line.Line.TheVariants.{Nothing, AddSwitch, AddPort, SetAddress, ListFlows, Frame, Refused}
 use Rattle.nv_serve.specs.declared.refusal.Refusal.{Refusal}
-use Rattle.nv_serve.specs.declared.refusal.Refusal.TheVariants.{UnknownCommand, BadName, Exists}
-use Rattle.nv_serve.specs.Network.{Tables, has_switch, with_switch}
+use Rattle.nv_serve.specs.declared.refusal.Refusal.TheVariants.{UnknownCommand, BadName, BadMac, NoSuchObject, Exists}
+use Rattle.nv_serve.specs.Network.{Tables, switch_named, port_named, with_switch, with_port, with_address}
 use Rattle.nv_serve.specs.Line.{said}
-use Rattle.nv_serve.specs.FullBuild.{flows}
+use Rattle.nv_serve.specs.FullBuild.{full_build, flows}
+use Rattle.nv_serve.specs.Events.{event_line}
+use Rattle.nv_serve.specs.Walk.{machine}
 
 -- the text of a reply, whether it is a refusal, and the network after the line
 pub record Reply : Type 0 where
@@ -21,7 +24,9 @@ ok_line = codes "ok\n"
 -- the line of a refusal: its code, its name, and the number of the word or the name that it is about
 abbrev pub refusal_line : Refusal → List ℕ
 refusal_line UnknownCommand = codes "refused E03 UnknownCommand 1\n"
-refusal_line BadName = codes "refused E05 BadName 2\n"
+refusal_line (BadName word) = codes "refused E05 BadName " ++ decimal word ++ codes "\n"
+refusal_line (BadMac word) = codes "refused E06 BadMac " ++ decimal word ++ codes "\n"
+refusal_line (NoSuchObject name) = codes "refused E09 NoSuchObject " ++ name ++ codes "\n"
 refusal_line (Exists name) = codes "refused E10 Exists " ++ name ++ codes "\n"
 
 -- a refused line leaves the network as it was
@@ -32,11 +37,25 @@ refuse tables refusal = record { text = refusal_line refusal; refused = true; af
 abbrev pub accept : List ℕ → Tables → Reply
 accept lines tables = record { text = lines ++ ok_line; refused = false; after = tables }
 
+-- the reply where no object has a name, and where one has
+abbrev pub where_named : {X : Type 0} → Tables → List ℕ → Option X → (X → Reply) → Reply
+where_named tables name None reply_for = refuse tables (NoSuchObject name)
+where_named tables name (Some object) reply_for = reply_for object
+
+-- the reply where no object may have a name yet
+abbrev pub where_new : {X : Type 0} → Tables → List ℕ → Option X → Tables → Reply
+where_new tables name None after = accept [] after
+where_new tables name (Some object) after = refuse tables (Exists name)
+
 -- the reply to what a line says
 abbrev pub reply_to : Tables → Line → Reply
 reply_to tables Nothing = record { text = []; refused = false; after = tables }
-reply_to tables (AddSwitch name) = if has_switch tables name then refuse tables (Exists name) else accept [] (with_switch tables name)
+reply_to tables (AddSwitch name) = where_new tables name (switch_named tables.switches name) (with_switch tables name)
+reply_to tables (AddPort switch name) =
+    where_named tables switch (switch_named tables.switches switch) (λ number. where_new tables name (port_named tables.ports name) (with_port tables number name))
+reply_to tables (SetAddress name mac) = where_named tables name (port_named tables.ports name) (λ port. accept [] (with_address tables name mac))
 reply_to tables ListFlows = accept (flows tables) tables
+reply_to tables (Frame name mac) = where_named tables name (port_named tables.ports name) (λ port. accept (flat_map (event_line tables) (machine (full_build tables) port.switch port.id mac)) tables)
 reply_to tables (Refused refusal) = refuse tables refusal
 
 -- the reply to a line

@@ -1,10 +1,11 @@
 ghost use Rattle.std.specs.Prelude.{◌≡◌, List, ℕ, map, IfOk, IsTrue};
 ghost use Rattle.std.specs.List.{list_any};
 ghost use Rattle.nv_base.specs.Name.{is_quote};
-ghost use Rattle.nv_serve.specs.Line.{is_blank, words_of, named_switch, command_of, said_by, said};
+ghost use Rattle.nv_serve.specs.Address.{station_of};
+ghost use Rattle.nv_serve.specs.Line.{is_blank, words_of, named, addressed, command_of_one, command_of_two, command_of, said_by, said};
 
 use crate::Refusal;
-use nv_base::{Name, OutOfMemory, is_object_name};
+use nv_base::{Mac, Name, OutOfMemory, is_object_name, read_mac};
 use std::alloc::Global;
 
 /// What a line of the script says.
@@ -14,8 +15,14 @@ pub enum Line {
     Nothing,
     /// `ls-add NAME`
     AddSwitch(Name),
+    /// `lsp-add SWITCH PORT`
+    AddPort(Name, Name),
+    /// `lsp-set-addresses PORT MAC`
+    SetAddress(Name, Mac),
     /// `lflow-list`
     ListFlows,
+    /// `frame PORT MAC`
+    Frame(Name, Mac),
     /// A line that is refused whatever the network is.
     Refused(Refusal),
 }
@@ -62,9 +69,15 @@ fn read_command(alloc: Global, command: &[u8], words: &[&[u8]]) -> Result<Line, 
             }
             Ok(Line::Refused(Refusal::UnknownCommand))
         }
-        [name] => {
-            if command == b"ls-add".as_slice() && !has_quote(name) {
-                return named_switch(alloc, name);
+        [first] => {
+            if !has_quote(first) {
+                return command_of_one(alloc, command, first);
+            }
+            Ok(Line::Refused(Refusal::UnknownCommand))
+        }
+        [first, second] => {
+            if !has_quote(first) && !has_quote(second) {
+                return command_of_two(alloc, command, first, second);
             }
             Ok(Line::Refused(Refusal::UnknownCommand))
         }
@@ -72,13 +85,84 @@ fn read_command(alloc: Global, command: &[u8], words: &[&[u8]]) -> Result<Line, 
     }
 }
 
-fn named_switch(alloc: Global, name: &[u8]) -> Result<Line, OutOfMemory>
-    ensures { IfOk result (λ read. read ≡ named_switch name.now) }
+fn command_of_one(alloc: Global, command: &[u8], first: &[u8]) -> Result<Line, OutOfMemory>
+    ensures { IfOk result (λ read. read ≡ command_of_one command.now first.now) }
 {
-    if is_object_name(name) {
-        Ok(Line::AddSwitch(Name::from_slice(alloc, name)?))
-    } else {
-        Ok(Line::Refused(Refusal::BadName))
+    if command != b"ls-add".as_slice() {
+        return Ok(Line::Refused(Refusal::UnknownCommand));
+    }
+    if !is_object_name(first) {
+        return Ok(Line::Refused(Refusal::BadName(2)));
+    }
+    Ok(Line::AddSwitch(Name::from_slice(alloc, first)?))
+}
+
+fn command_of_two(
+    alloc: Global,
+    command: &[u8],
+    first: &[u8],
+    second: &[u8],
+) -> Result<Line, OutOfMemory>
+    ensures { IfOk result (λ read. read ≡ command_of_two command.now first.now second.now) }
+{
+    if command == b"lsp-add".as_slice() {
+        return add_port(alloc, first, second);
+    }
+    if command == b"lsp-set-addresses".as_slice() {
+        return set_address(alloc, first, second);
+    }
+    if command == b"frame".as_slice() {
+        return frame(alloc, first, second);
+    }
+    Ok(Line::Refused(Refusal::UnknownCommand))
+}
+
+fn add_port(alloc: Global, switch: &[u8], port: &[u8]) -> Result<Line, OutOfMemory>
+    ensures { IfOk result (λ read. read ≡ named 2 switch.now (λ s. named 3 port.now (Line.AddPort s))) }
+{
+    if !is_object_name(switch) {
+        return Ok(Line::Refused(Refusal::BadName(2)));
+    }
+    if !is_object_name(port) {
+        return Ok(Line::Refused(Refusal::BadName(3)));
+    }
+    Ok(Line::AddPort(
+        Name::from_slice(alloc, switch)?,
+        Name::from_slice(alloc, port)?,
+    ))
+}
+
+fn set_address(alloc: Global, port: &[u8], mac: &[u8]) -> Result<Line, OutOfMemory>
+    ensures { IfOk result (λ read. read ≡ named 2 port.now (λ p. addressed 3 (station_of mac.now) (Line.SetAddress p))) }
+{
+    if !is_object_name(port) {
+        return Ok(Line::Refused(Refusal::BadName(2)));
+    }
+    match read_station(mac) {
+        None => Ok(Line::Refused(Refusal::BadMac(3))),
+        Some(mac) => Ok(Line::SetAddress(Name::from_slice(alloc, port)?, mac)),
+    }
+}
+
+fn frame(alloc: Global, port: &[u8], mac: &[u8]) -> Result<Line, OutOfMemory>
+    ensures { IfOk result (λ read. read ≡ named 2 port.now (λ p. addressed 3 (station_of mac.now) (Line.Frame p))) }
+{
+    if !is_object_name(port) {
+        return Ok(Line::Refused(Refusal::BadName(2)));
+    }
+    match read_station(mac) {
+        None => Ok(Line::Refused(Refusal::BadMac(3))),
+        Some(mac) => Ok(Line::Frame(Name::from_slice(alloc, port)?, mac)),
+    }
+}
+
+// The MAC of one station: neither zero nor of a group.
+fn read_station(text: &[u8]) -> Option<Mac>
+    ensures { result ≡ station_of text.now }
+{
+    match read_mac(text) {
+        Ok(mac) if mac.0 / (1 << 40) % 2 != 1 && mac.0 != 0 => Some(mac),
+        _ => None,
     }
 }
 

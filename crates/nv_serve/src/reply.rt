@@ -2,58 +2,130 @@ ghost use Rattle.std.specs.Prelude.{◌≡◌, ◌++◌, ◌+◌, ◌<◌, ◌�
 ghost use Rattle.nv_serve.specs.FullBuild.{flows};
 ghost use Rattle.nv_serve.specs.Reply.{ok_line, refusal_line, reply_to, reply};
 
+use crate::events::put_events;
 use crate::full_build::put_flows;
 use crate::line::{Line, read_line};
-use crate::network::Network;
 use crate::refusal::Refusal;
-use nv_base::{Name, OutOfMemory};
+use crate::session::Session;
+use nv_base::{Mac, Name, OutOfMemory};
 use std::alloc::Global;
 
 // Runs a line on the network, writes its reply, and answers whether that is a refusal.
 #[tactic(auto, unfolding(crate::specs::Reply::reply))]
 pub fn run_line(
     alloc: Global,
-    network: &mut Network,
+    session: &mut Session,
     line: &[u8],
     out: &mut Vec<u8>,
 ) -> Result<bool, OutOfMemory>
-    requires { network.old.next + 1 < 2 ^ 32 }
-    ensures text { OnOk result (out.new.items ≡ out.old.items ++ (reply network.old line.now).text) }
-    ensures refused { IfOk result (λ refused. refused ≡ (reply network.old line.now).refused) }
-    ensures after { OnOk result (network.new ≡ (reply network.old line.now).after) }
+    requires { session.old.next + 1 < 2 ^ 32 }
+    ensures text { OnOk result (out.new.items ≡ out.old.items ++ (reply session.old line.now).text) }
+    ensures refused { IfOk result (λ refused. refused ≡ (reply session.old line.now).refused) }
+    ensures after { OnOk result (session.new ≡ (reply session.old line.now).after) }
 {
     match read_line(alloc, line)? {
         Line::Nothing => Ok(false),
-        Line::AddSwitch(name) => add_switch(alloc, network, name, out),
-        Line::ListFlows => list_flows(alloc, network, out),
+        Line::AddSwitch(name) => add_switch(alloc, session, name, out),
+        Line::AddPort(switch, name) => add_port(alloc, session, switch, name, out),
+        Line::SetAddress(name, mac) => set_address(session, name, mac, out),
+        Line::ListFlows => list_flows(alloc, session, out),
+        Line::Frame(name, mac) => frame(alloc, session, name, mac, out),
         Line::Refused(refusal) => refuse(&refusal, out),
     }
 }
 
 fn add_switch(
     alloc: Global,
-    network: &mut Network,
+    session: &mut Session,
     name: Name,
     out: &mut Vec<u8>,
 ) -> Result<bool, OutOfMemory>
-    requires { network.old.next + 1 < 2 ^ 32 }
-    ensures text { OnOk result (out.new.items ≡ out.old.items ++ (reply_to network.old (Line.AddSwitch name)).text) }
-    ensures refused { IfOk result (λ refused. refused ≡ (reply_to network.old (Line.AddSwitch name)).refused) }
-    ensures after { OnOk result (network.new ≡ (reply_to network.old (Line.AddSwitch name)).after) }
+    requires { session.old.next + 1 < 2 ^ 32 }
+    ensures text { OnOk result (out.new.items ≡ out.old.items ++ (reply_to session.old (Line.AddSwitch name)).text) }
+    ensures refused { IfOk result (λ refused. refused ≡ (reply_to session.old (Line.AddSwitch name)).refused) }
+    ensures after { OnOk result (session.new ≡ (reply_to session.old (Line.AddSwitch name)).after) }
 {
-    if network.has_switch(&name) {
+    if session.network().switch_named(&name).is_some() {
         return refuse(&Refusal::Exists(name), out);
     }
-    network.add_switch(alloc, name)?;
+    session.add_switch(alloc, name)?;
+    accept(out)
+}
+
+fn add_port(
+    alloc: Global,
+    session: &mut Session,
+    switch: Name,
+    name: Name,
+    out: &mut Vec<u8>,
+) -> Result<bool, OutOfMemory>
+    requires { session.old.next + 1 < 2 ^ 32 }
+    ensures text { OnOk result (out.new.items ≡ out.old.items ++ (reply_to session.old (Line.AddPort switch name)).text) }
+    ensures refused { IfOk result (λ refused. refused ≡ (reply_to session.old (Line.AddPort switch name)).refused) }
+    ensures after { OnOk result (session.new ≡ (reply_to session.old (Line.AddPort switch name)).after) }
+{
+    match session.network().switch_named(&switch) {
+        None => refuse(&Refusal::NoSuchObject(switch), out),
+        Some(number) => {
+            if session.network().port_named(&name).is_some() {
+                return refuse(&Refusal::Exists(name), out);
+            }
+            session.add_port(alloc, number, name)?;
+            accept(out)
+        }
+    }
+}
+
+fn set_address(
+    session: &mut Session,
+    name: Name,
+    mac: Mac,
+    out: &mut Vec<u8>,
+) -> Result<bool, OutOfMemory>
+    ensures text { OnOk result (out.new.items ≡ out.old.items ++ (reply_to session.old (Line.SetAddress name mac)).text) }
+    ensures refused { IfOk result (λ refused. refused ≡ (reply_to session.old (Line.SetAddress name mac)).refused) }
+    ensures after { OnOk result (session.new ≡ (reply_to session.old (Line.SetAddress name mac)).after) }
+{
+    if session.network().port_named(&name).is_none() {
+        return refuse(&Refusal::NoSuchObject(name), out);
+    }
+    session.set_address(&name, mac);
+    accept(out)
+}
+
+fn frame(
+    alloc: Global,
+    session: &mut Session,
+    name: Name,
+    mac: Mac,
+    out: &mut Vec<u8>,
+) -> Result<bool, OutOfMemory>
+    ensures text { OnOk result (out.new.items ≡ out.old.items ++ (reply_to session.old (Line.Frame name mac)).text) }
+    ensures refused { IfOk result (λ refused. refused ≡ (reply_to session.old (Line.Frame name mac)).refused) }
+    ensures after { OnOk result (session.new ≡ (reply_to session.old (Line.Frame name mac)).after) }
+{
+    let (dp, port) = match session.network().port_named(&name) {
+        None => return refuse(&Refusal::NoSuchObject(name), out),
+        Some(port) => (port.switch, port.id),
+    };
+    let events = session.trace(alloc, dp, port, mac)?;
+    put_events(session.network(), &events, out)?;
+    accept(out)
+}
+
+fn accept(out: &mut Vec<u8>) -> Result<bool, OutOfMemory>
+    ensures text { OnOk result (out.new.items ≡ out.old.items ++ ok_line) }
+    ensures refused { IfOk result (λ refused. refused ≡ false) }
+{
     out.extend_from_slice(b"ok\n")?;
     Ok(false)
 }
 
-fn list_flows(alloc: Global, network: &Network, out: &mut Vec<u8>) -> Result<bool, OutOfMemory>
-    ensures text { OnOk result (out.new.items ≡ out.old.items ++ flows network.now ++ ok_line) }
+fn list_flows(alloc: Global, session: &Session, out: &mut Vec<u8>) -> Result<bool, OutOfMemory>
+    ensures text { OnOk result (out.new.items ≡ out.old.items ++ flows session.now ++ ok_line) }
     ensures refused { IfOk result (λ refused. refused ≡ false) }
 {
-    put_flows(alloc, network, out)?;
+    put_flows(alloc, session.network(), out)?;
     out.extend_from_slice(b"ok\n")?;
     Ok(false)
 }

@@ -6,9 +6,9 @@ ghost use Rattle.nv_serve.specs.Reply.{reply};
 ghost use Rattle.nv_serve.specs.Standing.{Stands};
 
 use crate::cut::cut_line;
-use crate::network::Network;
 use crate::put_all::put_all;
 use crate::reply::run_line;
+use crate::session::Session;
 use crate::stop::Stop;
 use nv_io::Sink;
 use std::alloc::Global;
@@ -16,7 +16,7 @@ use std::alloc::Global;
 // The network, the line that is coming in, and whether a line was refused.
 #[derive(Drop)]
 pub struct Server {
-    pub network: Network,
+    pub network: Session,
     pub line: Vec<u8>,
     pub some_refused: bool,
 }
@@ -28,7 +28,7 @@ impl Server {
         ensures refused { result.some_refused ≡ false }
     {
         Server {
-            network: Network::new(alloc),
+            network: Session::new(alloc),
             line: Vec::new(alloc),
             some_refused: false,
         }

@@ -28,6 +28,31 @@ Datapath: sw0  Pipeline: egress
 ok
 ";
 
+// Two ports of a switch, of which the second has an address.
+const TWO_PORTS: &str = "ls-add sw0
+lsp-add sw0 p1
+lsp-add sw0 p2
+lsp-set-addresses p2 00:00:00:00:00:02
+";
+
+// What a frame meets from its arrival to the look-up of its destination.
+const HITS_TO_LOOKUP: &str = "hit sw0 ls_in_check_port_sec 0 0
+hit sw0 ls_in_pre_acl 0 0
+hit sw0 ls_in_pre_stateful 0 0
+hit sw0 ls_in_acl_eval 0 0
+hit sw0 ls_in_lb 0 0
+hit sw0 ls_in_stateful 0 0
+hit sw0 ls_in_arp_rsp 0 0
+";
+
+// What a frame meets on its way out.
+const HITS_TO_PORT: &str = "hit sw0 ls_out_pre_acl 0 0
+hit sw0 ls_out_pre_stateful 0 0
+hit sw0 ls_out_acl_eval 0 0
+hit sw0 ls_out_stateful 0 0
+hit sw0 ls_out_check_port_sec 0 0
+";
+
 // Room for the output of any script here.
 const ROOM: usize = 8192;
 
@@ -52,16 +77,35 @@ fn adds_three<K: Sink>(
 }
 
 #[test]
-fn no_input_is_no_output_whatever_the_words(rt: HostRuntime) -> Result<(), Fail> {
+fn no_input_is_no_output(rt: HostRuntime) -> Result<(), Fail> {
     let mut words = Vec::new(rt.alloc());
-    for word in ["ovn_nd", "--hops", "0"] {
-        words.push(String::from_str(rt.alloc(), word)?)?;
-    }
+    words.push(String::from_str(rt.alloc(), "ovn_nd")?)?;
     let mut source = CleanSource::new(Vec::new(rt.alloc()), 9);
     let mut sink = NullSink::new();
     let status = run(rt.alloc(), &words, &mut source, &mut sink);
     assert_eq!(rt; status, Status::Done);
     assert_eq!(rt; (sink.len(), sink.puts()), (0, 0));
+    Ok(())
+}
+
+#[test]
+fn words_behind_the_name_are_refused(rt: HostRuntime) -> Result<(), Fail> {
+    let mut words = Vec::new(rt.alloc());
+    for word in ["ovn_nd", "--hops", "0"] {
+        words.push(String::from_str(rt.alloc(), word)?)?;
+    }
+    let script = Vec::from_slice(rt.alloc(), b"ls-add a\n")?;
+    let mut source = MemSource::new(script, 9, Vec::new(rt.alloc()));
+    let mut sink = MemSink::new(rt.alloc(), ROOM, 9, Vec::new(rt.alloc()))?;
+    let status = run(rt.alloc(), &words, &mut source, &mut sink);
+    assert_eq!(rt; (status, source.takes()), (Status::Usage, 0));
+    assert_eq!(rt; sink.as_slice(), b"usage: ovn_nd\n".as_slice());
+
+    // There is room for six bytes: the put behind them is the last.
+    let mut sink = MemSink::new(rt.alloc(), 6, 9, Vec::new(rt.alloc()))?;
+    let status = run(rt.alloc(), &words, &mut source, &mut sink);
+    assert_eq!(rt; (status, source.takes()), (Status::WriteFault, 0));
+    assert_eq!(rt; sink.as_slice(), b"usage:".as_slice());
     Ok(())
 }
 
@@ -106,6 +150,89 @@ fn refusals_say_why_and_change_nothing(rt: HostRuntime) -> Result<(), Fail> {
     let listed = ADDED_AND_LISTED.strip_prefix("ok\n").ok_or("no ok")?;
     let rest = written.strip_prefix(replies).ok_or("other replies")?;
     assert_eq!(rt; rest, listed.as_bytes());
+    Ok(())
+}
+
+// What a line is answered on the network of two ports.
+fn answer_on_two_ports(alloc: Global, line: &str) -> Result<Vec<u8>, OutOfMemory> {
+    let mut script = Vec::from_slice(alloc, TWO_PORTS.as_bytes())?;
+    script.extend_from_slice(line.as_bytes())?;
+    let (_, written) = answers(alloc, &script)?;
+    let rest = written.strip_prefix(b"ok\nok\nok\nok\n").unwrap_or(b"");
+    Ok(Vec::from_slice(alloc, rest)?)
+}
+
+#[test]
+fn a_frame_goes_out_by_the_port_of_its_address(rt: HostRuntime) -> Result<(), Fail> {
+    let written = answer_on_two_ports(rt.alloc(), "frame p1 00:00:00:00:00:02")?;
+    let mut expected = Vec::from_slice(rt.alloc(), HITS_TO_LOOKUP.as_bytes())?;
+    expected.extend_from_slice(b"hit sw0 ls_in_l2_lkup 50 3\n")?;
+    expected.extend_from_slice(HITS_TO_PORT.as_bytes())?;
+    expected.extend_from_slice(b"output p2 eth.dst == 00:00:00:00:00:02\nok\n")?;
+    assert_eq!(rt; written.as_slice(), expected.as_slice());
+    Ok(())
+}
+
+#[test]
+fn a_frame_to_its_own_port_or_to_none_is_dropped(rt: HostRuntime) -> Result<(), Fail> {
+    let cases = [
+        (
+            "frame p2 00:00:00:00:00:02",
+            "hit sw0 ls_in_l2_lkup 50 3\ndrop sw0 same_port\nok\n",
+        ),
+        (
+            "frame p1 00:00:00:00:00:03",
+            "hit sw0 ls_in_l2_lkup 0 0\nhit sw0 ls_in_l2_unknown 0 0\ndrop sw0 unknown\nok\n",
+        ),
+    ];
+    for (line, behind) in cases {
+        let written = answer_on_two_ports(rt.alloc(), line)?;
+        let rest = written
+            .strip_prefix(HITS_TO_LOOKUP.as_bytes())
+            .ok_or("other hits")?;
+        assert_eq!(rt; rest, behind.as_bytes(), "at {line}");
+    }
+    Ok(())
+}
+
+#[test]
+fn ports_and_frames_are_refused_by_name_or_word(rt: HostRuntime) -> Result<(), Fail> {
+    let cases = [
+        ("lsp-add sw0 p1", "refused E10 Exists p1\n"),
+        ("lsp-add sw9 p1", "refused E09 NoSuchObject sw9\n"),
+        ("lsp-add -s p3", "refused E05 BadName 2\n"),
+        ("lsp-add sw0 -p", "refused E05 BadName 3\n"),
+        ("lsp-add sw0", "refused E03 UnknownCommand 1\n"),
+        (
+            "lsp-set-addresses p9 00:00:00:00:00:02",
+            "refused E09 NoSuchObject p9\n",
+        ),
+        (
+            "lsp-set-addresses p9 00:00:00:00:00:00",
+            "refused E06 BadMac 3\n",
+        ),
+        ("frame p1 01:00:00:00:00:02", "refused E06 BadMac 3\n"),
+        ("frame p1 2", "refused E06 BadMac 3\n"),
+        (
+            "frame p9 00:00:00:00:00:02",
+            "refused E09 NoSuchObject p9\n",
+        ),
+    ];
+    for (line, expected) in cases {
+        let written = answer_on_two_ports(rt.alloc(), line)?;
+        assert_eq!(rt; written.as_slice(), expected.as_bytes(), "at {line}");
+    }
+    Ok(())
+}
+
+#[test]
+fn a_new_address_is_in_the_rows_of_the_next_frame(rt: HostRuntime) -> Result<(), Fail> {
+    let lines = "frame p1 00:00:00:00:00:04
+lsp-set-addresses p2 00:00:00:00:00:04
+frame p1 00:00:00:00:00:04";
+    let written = answer_on_two_ports(rt.alloc(), lines)?;
+    let ending = b"output p2 eth.dst == 00:00:00:00:00:04\nok\n".as_slice();
+    assert!(rt; written.ends_with(ending));
     Ok(())
 }
 

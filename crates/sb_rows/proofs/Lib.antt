@@ -4,4 +4,7 @@ pub mod Order
 pub mod Place
 pub mod Same
 pub mod Section
+pub mod Select
+pub mod Tables
 pub mod Tail
+pub mod Texts

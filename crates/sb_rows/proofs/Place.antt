@@ -40,7 +40,7 @@ below_above x y above = not_lt (row_cmp y x) above
     not_lt Greater e = refl
 
 -- the rows after the first are in order too
-ordered_tail : (x : Row) (xs : List Row) → IsInRowOrder (x ∷ xs) → IsInRowOrder xs
+pub ordered_tail : (x : Row) (xs : List Row) → IsInRowOrder (x ∷ xs) → IsInRowOrder xs
 ordered_tail x xs up k d le lt = rw add-one (rw add-one at (up (suc k) d (omega arith) (omega arith)))
 
 -- the first of rows that got one more is the new row or the first of the old ones

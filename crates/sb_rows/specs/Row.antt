@@ -1,13 +1,14 @@
 -- The rows of the logical flow table: their texts, and the order that they stand in.
-use Rattle.std.specs.Prelude.{ℕ, List, [], ◌∷◌, codes, if◌then◌else◌, ◌==◌, filter, IsSorted}
+use Rattle.std.specs.Prelude.{ℕ, List, [], ◌∷◌, ◌++◌, fold, codes, if◌then◌else◌, ◌==◌, filter, IsSorted}
 use Rattle.std.specs.declared.cmp.Ordering.{Ordering}
 use Rattle.std.specs.Ordering.{nat_cmp, is_gt, on, then_cmp, flip_args}
 use Rattle.std.specs.Cmp.Lexicographic.{slice_cmp}
 use Rattle.nv_base.specs.declared.object.ObjId.{ObjId}
+use Rattle.nv_base.specs.Mac.{mac_text}
 use Rattle.sb_rows.specs.declared.row.PlainMatch.{PlainMatch}
-use Rattle.sb_rows.specs.declared.row.PlainMatch.TheVariants.{Any, SrcMcast, DstMcast}
+use Rattle.sb_rows.specs.declared.row.PlainMatch.TheVariants.{Any, SrcMcast, DstMcast, DstIs}
 use Rattle.sb_rows.specs.declared.row.PlainAction.{PlainAction}
-use Rattle.sb_rows.specs.declared.row.PlainAction.TheVariants.{Next, Drop, Output, Flood}
+use Rattle.sb_rows.specs.declared.row.PlainAction.TheVariants.{Next, Drop, Output, Flood, To}
 use Rattle.sb_rows.specs.declared.row.Row.{Row}
 use Rattle.sb_rows.specs.Stage.{stage_place}
 
@@ -16,6 +17,18 @@ abbrev pub match_text : PlainMatch → List ℕ
 match_text Any = codes "1"
 match_text SrcMcast = codes "eth.src[40]"
 match_text DstMcast = codes "eth.mcast"
+match_text (DstIs mac) = codes "eth.dst == " ++ mac_text mac
+
+-- the match's text, or what stands in it before an address
+abbrev pub match_head : PlainMatch → List ℕ
+match_head Any = codes "1"
+match_head SrcMcast = codes "eth.src[40]"
+match_head DstMcast = codes "eth.mcast"
+match_head (DstIs mac) = codes "eth.dst == "
+
+-- the actions that send a packet out by a port
+abbrev pub output_to : List ℕ → List ℕ
+output_to port = codes "outport = \"" ++ port ++ codes "\"; output;"
 
 -- the actions, as ovn-sb(5) writes them
 abbrev pub action_text : PlainAction → List ℕ
@@ -23,6 +36,7 @@ action_text Next = codes "next;"
 action_text Drop = codes "drop;"
 action_text Output = codes "output;"
 action_text Flood = codes "outport = \"_MC_flood\"; output;"
+action_text (To port) = output_to port
 
 -- rows stand by datapath, then stage
 abbrev pub place_cmp : Row → Row → Ordering
@@ -44,6 +58,10 @@ IsInRowOrder rows = IsSorted row_cmp rows
 abbrev pub put_row : Row → List Row → List Row
 put_row row [] = row ∷ []
 put_row row (x ∷ xs) = if is_gt (row_cmp x row) then row ∷ x ∷ xs else x ∷ put_row row xs
+
+-- rows, each put in its place among those that are there
+abbrev pub put_rows : List Row → List Row → List Row
+put_rows rows more = fold (λ there row. put_row row there) rows more
 
 -- the rows of one datapath
 abbrev pub rows_of : ObjId → List Row → List Row

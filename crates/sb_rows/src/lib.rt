@@ -2,6 +2,7 @@
 //! and the listing that a reader of flows sees.
 #![tactic(auto)]
 
+mod kept;
 mod listing;
 mod row;
 mod rows;

@@ -124,9 +124,9 @@ fn put_row_rule(out: &mut Vec<u8>, row: &Row) -> Result<(), OutOfMemory>
     ensures err { OnErr result (GrowsAtEnd out.old.items out.new.items) }
 {
     out.extend_from_slice(b", match=(")?;
-    out.extend_from_slice(row.matching.text().as_bytes())?;
+    row.matching.put_text(out)?;
     out.extend_from_slice(b"), action=(")?;
-    out.extend_from_slice(row.actions.text().as_bytes())?;
+    row.actions.put_text(out)?;
     out.extend_from_slice(b")\n")?;
     Ok(())
 }

@@ -1,10 +1,14 @@
 ghost use Rattle.std.specs.Prelude.{◌≡◌, ◌≤◌, true, false, [], length, Contains, IsTrue, ◌↔◌, OnOk, OnErr};
 ghost use Rattle.std.specs.List.Sorted.{IsPartitionPoint};
 ghost use Rattle.std.specs.Ordering.{is_le};
+ghost use Rattle.std.specs.List.{find};
+ghost use Rattle.std.specs.Option.{option_copied};
 ghost use Rattle.sb_rows.specs.Row.{IsInRowOrder, row_cmp, put_row, rows_of};
+ghost use Rattle.sb_rows.specs.Match.{holds, select, rows_of_table, table_key};
 
-use crate::Row;
+use crate::{Row, Stage};
 use nv_base::{ObjId, OutOfMemory};
+use pkt_core::Packet;
 use std::alloc::Global;
 use std::marker::Model;
 
@@ -85,6 +89,41 @@ impl Rows {
         let count = from_low.partition_point(|row| row.dp.0 <= dp.0);
         &from_low[..count]
     }
+
+    /// The row that acts on a packet in a table: the first one in row order that takes it. It looks at few of
+    /// the rows of other tables.
+    pub fn select(&self, dp: ObjId, stage: Stage, packet: &Packet) -> Option<&Row>
+        ensures { option_copied result ≡ select dp stage packet.now self.now }
+    {
+        first_that_holds(self.of_table(dp, stage), packet)
+    }
+
+    // The rows of one table, in row order.
+    fn of_table(&self, dp: ObjId, stage: Stage) -> &[Row]
+        ensures { result.now ≡ rows_of_table dp stage self.now }
+    {
+        let key = table_key(dp, stage);
+        let low = self
+            .sorted
+            .partition_point(|row| table_key(row.dp, row.stage) < key);
+        let rest = &self.sorted[low..];
+        let count = rest.partition_point(|row| table_key(row.dp, row.stage) <= key);
+        &rest[..count]
+    }
+}
+
+// Where a table stands among all: by datapath, then by stage.
+fn table_key(dp: ObjId, stage: Stage) -> u64
+    ensures { result ≡ table_key dp stage }
+{
+    u64::from(dp.0) * 32 + u64::from(stage.place())
+}
+
+// The first of the rows that takes the packet.
+fn first_that_holds<'r>(rows: &'r [Row], packet: &Packet) -> Option<&'r Row>
+    ensures { option_copied result ≡ find (λ r. holds r.matching packet.now) rows.now }
+{
+    rows.iter().find(|row| row.matching.holds(packet))
 }
 
 // Where a row goes among rows in order: behind all that do not stand after it. Rows mostly come in order, so the

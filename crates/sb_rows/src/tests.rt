@@ -1,5 +1,6 @@
 use crate::{Pipeline, PlainAction, PlainMatch, Row, Rows, Stage, put_listing};
-use nv_base::{Name, ObjId};
+use nv_base::{Field, Kept, Mac, Name, ObjId};
+use pkt_core::Packet;
 use std::cmp::Ordering;
 use std::test::Fail;
 
@@ -176,4 +177,191 @@ fn stages_and_rows_have_their_order(rt: HostRuntime) {
     let low = row(1, Stage::LsInLb, 10, PlainMatch::Any, PlainAction::Next);
     let high = row(1, Stage::LsInLb, 20, PlainMatch::Any, PlainAction::Next);
     assert!(rt; high.order(&low) == Ordering::Less);
+}
+
+#[test]
+fn an_address_and_a_port_are_listed(rt: HostRuntime) -> Result<(), Fail> {
+    let mut rows = Rows::new(rt.alloc());
+    put_new(
+        &mut rows,
+        row(
+            1,
+            Stage::LsInL2Lkup,
+            50,
+            PlainMatch::DstIs(Mac(0x0a00_0000_000b)),
+            PlainAction::To(Name::from_slice(rt.alloc(), b"vm-2")?),
+        ),
+    )?;
+    put_new(
+        &mut rows,
+        row(
+            1,
+            Stage::LsInL2Lkup,
+            50,
+            PlainMatch::DstIs(Mac(0x0a00_0000_000a)),
+            PlainAction::To(Name::from_slice(rt.alloc(), b"vm-1")?),
+        ),
+    )?;
+    let mut names = Vec::new(rt.alloc());
+    names.push((ObjId(1), Name::from_slice(rt.alloc(), b"sw0")?))?;
+    let mut out = Vec::new(rt.alloc());
+    put_listing(&mut out, &rows, &names, None)?;
+    let want = "Datapath: sw0  Pipeline: ingress
+  table=7 (ls_in_l2_lkup), priority=50, hint=1, match=(eth.dst == 0a:00:00:00:00:0a), action=(outport = \"vm-1\"; output;)
+  table=7 (ls_in_l2_lkup), priority=50, hint=1, match=(eth.dst == 0a:00:00:00:00:0b), action=(outport = \"vm-2\"; output;)
+Datapath: sw0  Pipeline: egress
+";
+    assert_eq!(rt; out.as_slice(), want.as_bytes());
+    Ok(())
+}
+
+// A row of datapath 1 that is made for an object.
+fn row_for(
+    hint: u32,
+    stage: Stage,
+    priority: u16,
+    matching: PlainMatch,
+    actions: PlainAction,
+) -> Row {
+    Row {
+        dp: ObjId(1),
+        stage,
+        priority,
+        hint: ObjId(hint),
+        matching,
+        actions,
+    }
+}
+
+#[test]
+fn a_packet_meets_the_first_row_of_its_table_that_takes_it(rt: HostRuntime) -> Result<(), Fail> {
+    let station = Mac(0x0a00_0000_000a);
+    let mut rows = Rows::new(rt.alloc());
+    put_new(
+        &mut rows,
+        row_for(0, Stage::LsInL2Lkup, 0, PlainMatch::Any, PlainAction::Next),
+    )?;
+    put_new(
+        &mut rows,
+        row_for(
+            9,
+            Stage::LsInL2Lkup,
+            50,
+            PlainMatch::DstIs(station),
+            PlainAction::Output,
+        ),
+    )?;
+    put_new(
+        &mut rows,
+        row_for(
+            8,
+            Stage::LsInL2Lkup,
+            50,
+            PlainMatch::DstIs(station),
+            PlainAction::Drop,
+        ),
+    )?;
+    put_new(
+        &mut rows,
+        row_for(
+            0,
+            Stage::LsInL2Lkup,
+            70,
+            PlainMatch::DstMcast,
+            PlainAction::Flood,
+        ),
+    )?;
+    put_new(
+        &mut rows,
+        row_for(
+            0,
+            Stage::LsInCheckPortSec,
+            100,
+            PlainMatch::SrcMcast,
+            PlainAction::Drop,
+        ),
+    )?;
+    put_new(
+        &mut rows,
+        row(2, Stage::LsInL2Lkup, 99, PlainMatch::Any, PlainAction::Drop),
+    )?;
+    let mut packet = Packet::zero();
+    assert!(rt;
+        acts_by(
+            rows.select(ObjId(1), Stage::LsInL2Lkup, &packet),
+            0,
+            &PlainAction::Next
+        )
+    );
+    packet.set(Field::EthDst, 0x0a00_0000_000a);
+    assert!(rt;
+        acts_by(
+            rows.select(ObjId(1), Stage::LsInL2Lkup, &packet),
+            50,
+            &PlainAction::Drop
+        )
+    );
+    packet.set(Field::EthDst, 0xffff_ffff_ffff);
+    assert!(rt;
+        acts_by(
+            rows.select(ObjId(1), Stage::LsInL2Lkup, &packet),
+            70,
+            &PlainAction::Flood
+        )
+    );
+    assert!(rt;
+        acts_by(
+            rows.select(ObjId(2), Stage::LsInL2Lkup, &packet),
+            99,
+            &PlainAction::Drop
+        )
+    );
+    assert!(rt;
+        rows.select(ObjId(1), Stage::LsInCheckPortSec, &packet)
+            .is_none()
+    );
+    packet.set(Field::EthSrc, 0x0100_0000_0000);
+    assert!(rt;
+        acts_by(
+            rows.select(ObjId(1), Stage::LsInCheckPortSec, &packet),
+            100,
+            &PlainAction::Drop
+        )
+    );
+    assert!(rt; rows.select(ObjId(1), Stage::LsOutPreAcl, &packet).is_none());
+    assert!(rt; rows.select(ObjId(3), Stage::LsInL2Lkup, &packet).is_none());
+    Ok(())
+}
+
+// Whether the row is there, with this priority and these actions.
+fn acts_by(met: Option<&Row>, priority: u16, actions: &PlainAction) -> bool {
+    match met {
+        Some(row) => row.priority == priority && row.actions == *actions,
+        None => false,
+    }
+}
+
+#[test]
+fn addresses_of_the_group_kind_are_told_by_their_first_byte(rt: HostRuntime) {
+    let mut packet = Packet::zero();
+    packet.set(Field::EthDst, 0x0200_0000_0000);
+    assert!(rt; !PlainMatch::DstMcast.holds(&packet));
+    packet.set(Field::EthDst, 0x0333_0000_0001);
+    assert!(rt; PlainMatch::DstMcast.holds(&packet));
+    assert!(rt; !PlainMatch::SrcMcast.holds(&packet));
+    assert!(rt; PlainMatch::Any.holds(&packet));
+    assert!(rt; PlainMatch::DstIs(Mac(0x0333_0000_0001)).holds(&packet));
+    assert!(rt; !PlainMatch::DstIs(Mac(0x0333_0000_0002)).holds(&packet));
+}
+
+#[test]
+fn a_copied_row_is_equal(rt: HostRuntime) -> Result<(), Fail> {
+    let port = PlainAction::To(Name::from_slice(rt.alloc(), b"vm-1")?);
+    let here = row(1, Stage::LsInL2Lkup, 50, PlainMatch::DstIs(Mac(7)), port);
+    let copied = here.copy(rt.alloc())?;
+    assert!(rt; copied == here);
+    let port = PlainAction::To(Name::from_slice(rt.alloc(), b"vm-2")?);
+    let other = row(1, Stage::LsInL2Lkup, 50, PlainMatch::DstIs(Mac(7)), port);
+    assert!(rt; copied != other);
+    Ok(())
 }

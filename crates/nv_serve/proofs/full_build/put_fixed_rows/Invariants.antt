@@ -1,5 +1,6 @@
 use Rattle.std.proofs.Common.{◌≡◌, ◌++◌, map, take}
-use Rattle.nv_serve.specs.FullBuild.{fixed_rows, row_on, put_rows}
+use Rattle.sb_rows.specs.Row.{put_rows}
+use Rattle.nv_serve.specs.FullBuild.{fixed_rows, row_on}
 use Rattle.nv_serve.proofs.full_build.put_fixed_rows.Given as goal
 
 -- the fixed rows so far are put, and stand behind

@@ -1,0 +1,5 @@
+pub mod Sound
+pub mod Found
+pub mod Runs
+pub mod Steps
+pub mod Ways

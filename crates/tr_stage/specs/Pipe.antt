@@ -1,0 +1,154 @@
+-- The way of a packet through one pipeline of a switch, after Logical_Flow of ovn-sb(5) and ovn-architecture(7).
+use Rattle.std.specs.Prelude.{◌≡◌, ◌≢◌, ℕ, zero, suc, Bool, true, false, IsTrue, List, [], ◌∷◌, Option, Some, None, All, Contains}
+use Rattle.nv_base.specs.declared.object.ObjId.{ObjId}
+use Rattle.nv_base.specs.declared.field.Field.TheVariants.{Outport}
+use Rattle.pkt_core.specs.Packet.{Values, with_value}
+use Rattle.sb_rows.specs.declared.stage.Stage.{Stage}
+use Rattle.sb_rows.specs.declared.stage.Stage.TheVariants.{LsInCheckPortSec, LsInPreAcl, LsInPreStateful, LsInAclEval, LsInLb, LsInStateful, LsInArpRsp, LsInL2Lkup, LsInL2Unknown, LsOutPreAcl, LsOutPreStateful, LsOutAclEval, LsOutStateful, LsOutCheckPortSec}
+use Rattle.sb_rows.specs.declared.stage.Pipeline.{Pipeline}
+use Rattle.sb_rows.specs.declared.stage.Pipeline.TheVariants.{Ingress, Egress}
+use Rattle.sb_rows.specs.declared.row.PlainMatch.TheVariants.{Any}
+use Rattle.sb_rows.specs.declared.row.PlainAction.{PlainAction}
+use Rattle.sb_rows.specs.declared.row.PlainAction.TheVariants.{Next, Drop, Output, Flood, To}
+use Rattle.sb_rows.specs.declared.row.Row.{Row}
+use Rattle.sb_rows.specs.Stage.{pipeline_of}
+use Rattle.sb_rows.specs.Match.{select}
+use Rattle.tr_stage.specs.declared.outcome.Cause.{Cause}
+use Rattle.tr_stage.specs.declared.outcome.Cause.TheVariants.{PortSec, Unknown}
+use Rattle.tr_stage.specs.declared.outcome.Hit.{Hit}
+use Rattle.tr_stage.specs.declared.outcome.Outcome.{Outcome}
+use Rattle.tr_stage.specs.declared.outcome.Outcome.TheVariants as outcomes
+
+-- the stage that a packet begins in
+abbrev pub first_stage : Pipeline → Stage
+first_stage Ingress = LsInCheckPortSec
+first_stage Egress = LsOutPreAcl
+
+-- the stage of the next table, if the stage is not the last of a switch's pipeline
+abbrev pub next_stage : Stage → Option Stage
+next_stage LsInCheckPortSec = Some LsInPreAcl
+next_stage LsInPreAcl = Some LsInPreStateful
+next_stage LsInPreStateful = Some LsInAclEval
+next_stage LsInAclEval = Some LsInLb
+next_stage LsInLb = Some LsInStateful
+next_stage LsInStateful = Some LsInArpRsp
+next_stage LsInArpRsp = Some LsInL2Lkup
+next_stage LsInL2Lkup = Some LsInL2Unknown
+next_stage LsOutPreAcl = Some LsOutPreStateful
+next_stage LsOutPreStateful = Some LsOutAclEval
+next_stage LsOutAclEval = Some LsOutStateful
+next_stage LsOutStateful = Some LsOutCheckPortSec
+next_stage _ = None
+
+-- why a packet is dropped in the stage, if it may be
+abbrev pub cause_at : Stage → Option Cause
+cause_at LsInCheckPortSec = Some PortSec
+cause_at LsInL2Unknown = Some Unknown
+cause_at LsOutCheckPortSec = Some PortSec
+cause_at _ = None
+
+-- the multicast group `_MC_flood`, which is each port of the datapath
+abbrev pub flood_group : ℕ
+flood_group = 4294967295
+
+-- the packet, to go out by the port or the group of this number
+abbrev pub bound_for : ℕ → Values → Values
+bound_for port packet = with_value packet Outport port
+
+-- what becomes of a packet that goes out: from ingress to table 0 of egress, from egress to its port
+abbrev pub sent : Pipeline → Values → Outcome
+sent Ingress packet = outcomes.Leave packet 0
+sent Egress packet = outcomes.Deliver packet
+
+-- how a packet's way ends; Stuck: no row takes it, a row says what the stage has no meaning for, or the budget ends
+pub data Ending : Type 0 where
+  Ended : Outcome → Ending
+  Stuck : Ending
+
+-- a packet's way: the hits, in order, and the end
+pub record Passage : Type 0 where
+  pub hits : List Hit
+  pub ending : Ending
+
+-- a way that is at its end
+abbrev pub at_end : Ending → Passage
+at_end ending = record { hits = []; ending = ending }
+
+-- the hit of a row that acts
+abbrev pub hit_of : ObjId → Stage → Row → Hit
+hit_of dp stage row = record { dp = dp; stage = stage; priority = row.priority; hint = row.hint }
+
+-- a way that begins with this hit
+abbrev pub after_hit : Hit → Passage → Passage
+after_hit hit rest = record { hits = hit ∷ rest.hits; ending = rest.ending }
+
+-- a drop for this cause
+abbrev pub dropped : Option Cause → Passage
+dropped (Some cause) = at_end (Ended (outcomes.Drop cause))
+dropped None = at_end Stuck
+
+-- on in this stage, by the way from there
+abbrev pub onward : (Stage → Passage) → Option Stage → Passage
+onward way (Some stage) = way stage
+onward way None = at_end Stuck
+
+-- what a row's actions do; `way` is the packet's way from a stage on
+abbrev pub acted : (Stage → Passage) → PlainAction → Stage → Row → Values → Passage
+acted way Next stage row packet = onward way (next_stage stage)
+acted way Drop stage row packet = dropped (cause_at stage)
+acted way Output stage row packet = at_end (Ended (sent (pipeline_of stage) packet))
+acted way (To _) stage row packet = at_end (Ended (sent (pipeline_of stage) (bound_for row.hint.0 packet)))
+acted way Flood stage row packet = at_end (Ended (sent (pipeline_of stage) (bound_for flood_group packet)))
+
+-- the way through a stage, where this row is the one that acts
+abbrev pub through : (Stage → Passage) → ObjId → Stage → Values → Option Row → Passage
+through way dp stage packet (Some row) = after_hit (hit_of dp stage row) (acted way row.actions stage row packet)
+through way dp stage packet None = at_end Stuck
+
+-- the way from a stage on, in at most this many steps
+unfoldable pub way_from : List Row → ObjId → ℕ → Stage → Values → Passage
+way_from rows dp zero stage packet = at_end Stuck
+way_from rows dp (suc budget) stage packet = through (λ later. way_from rows dp budget later packet) dp stage packet (select dp stage packet rows)
+
+-- how many steps a packet may take in one pipeline
+abbrev pub step_budget : ℕ
+step_budget = 128
+
+-- the way of a packet through a pipeline of the datapath
+unfoldable pub pipe : List Row → ObjId → Pipeline → Values → Passage
+pipe rows dp pipeline packet = way_from rows dp step_budget (first_stage pipeline) packet
+
+-- whether the stage is one of a switch's pipelines
+abbrev pub is_of_switch : Stage → Bool
+is_of_switch LsInCheckPortSec = true
+is_of_switch LsInPreAcl = true
+is_of_switch LsInPreStateful = true
+is_of_switch LsInAclEval = true
+is_of_switch LsInLb = true
+is_of_switch LsInStateful = true
+is_of_switch LsInArpRsp = true
+is_of_switch LsInL2Lkup = true
+is_of_switch LsInL2Unknown = true
+is_of_switch LsOutPreAcl = true
+is_of_switch LsOutPreStateful = true
+is_of_switch LsOutAclEval = true
+is_of_switch LsOutStateful = true
+is_of_switch LsOutCheckPortSec = true
+is_of_switch _ = false
+
+-- whether the stage is the last of one of a switch's pipelines
+abbrev pub is_last : Stage → Bool
+is_last LsInL2Unknown = true
+is_last LsOutCheckPortSec = true
+is_last _ = false
+
+-- a row of the datapath's table of this stage takes each packet
+abbrev pub TakesEach : List Row → ObjId → Stage → Type 0
+TakesEach rows dp stage = (row : Row) × Contains rows row × (row.dp ≡ dp) × (row.stage ≡ stage) × (row.matching ≡ Any)
+
+-- the rows of a switch, in which each packet comes to an end: each stage takes each packet, the last ones send none
+-- on, and only a stage that has a cause for it drops
+pub record IsRunnable (rows : List Row) (dp : ObjId) : Type 0 where
+  pub takes_each : (stage : Stage) → IsTrue (is_of_switch stage) → TakesEach rows dp stage
+  pub ends : All (λ row. row.dp ≡ dp → IsTrue (is_last row.stage) → row.actions ≢ Next) rows
+  pub drops : All (λ row. row.dp ≡ dp → row.actions ≡ Drop → cause_at row.stage ≢ None) rows

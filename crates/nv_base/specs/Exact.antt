@@ -4,7 +4,10 @@ use Rattle.std.specs.Option.{option_eq}
 use Rattle.std.specs.Cmp.Lexicographic.{pointwise}
 use Rattle.std.proofs.Math.Bool.{beq}
 use Rattle.std.proofs.lemmas.Bool.{eqb-true, false≢true}
+use denote.Enum.Bare.{sameb, same_true}
 use Rattle.nv_base.specs.Block.{Block}
+use Rattle.nv_base.specs.contracts.field.Field as fields
+use Rattle.nv_base.specs.declared.field.Field.{Field}
 use Rattle.nv_base.specs.declared.ip4.Ip4.{Ip4}
 use Rattle.nv_base.specs.declared.object.ObjId.{ObjId}
 
@@ -65,3 +68,6 @@ pub block : (a b : Block) → (eqb a.base.0 b.base.0 && eqb a.len b.len) ≡ tru
 block a b e =
     let parts = both _ _ e in
     ap (λ (base : Ip4). record { base = base; len = a.len }) (address _ _ parts.0) ∙ ap (λ (len : ℕ). record { base = b.base; len = len }) (eqb-true _ _ parts.1)
+
+pub field : (a b : Field) → sameb fields.the_type a b ≡ true → a ≡ b
+field = same_true fields.the_type tt

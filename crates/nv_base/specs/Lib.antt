@@ -2,6 +2,7 @@ pub mod Block
 pub mod Bytes
 pub mod Exact
 pub mod Field
+pub mod Growth
 pub mod Ip4
 pub mod Mac
 pub mod Name

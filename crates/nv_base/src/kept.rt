@@ -1,7 +1,7 @@
 ghost use Rattle.std.specs.Prelude.{◌≡◌, true, IfOk};
 ghost use Rattle.nv_base.specs.Exact as tells;
 
-use crate::{Ip4, Items, Mac, Name, ObjId, OutOfMemory, Prefix};
+use crate::{Field, Ip4, Items, Mac, Name, ObjId, OutOfMemory, Prefix};
 use std::alloc::Global;
 
 /// A value that can be copied whole, and whose `==` is equality.
@@ -104,6 +104,14 @@ impl Kept for Ip4 {
 
 impl Kept for Prefix {
     ghost exact = { tells.block };
+
+    fn copy(&self, _alloc: Global) -> Result<Self, OutOfMemory> {
+        Ok(*self)
+    }
+}
+
+impl Kept for Field {
+    ghost exact = { tells.field };
 
     fn copy(&self, _alloc: Global) -> Result<Self, OutOfMemory> {
         Ok(*self)

@@ -1,10 +1,13 @@
 //! Laws of the texts: what is written is read again.
-ghost use Rattle.std.specs.Prelude.{◌≡◌, ◌<◌, ◌≤◌, ◌^◌, ◌++◌, ℕ, List, length, codes, decimal};
+ghost use Rattle.std.specs.Prelude.{◌≡◌, ◌<◌, ◌≤◌, ◌^◌, ◌++◌, ◌-◌, ℕ, List, length, map, codes, decimal};
+ghost use Rattle.std.specs.List.{slice_get, range_with_len};
 ghost use Rattle.std.specs.Str.Parse.{AllDigits, digits_value};
 ghost use Rattle.nv_base.specs.Number.{number_of, hexadecimal};
 ghost use Rattle.nv_base.specs.Ip4.{address, ip4_of, ip4_text};
 ghost use Rattle.nv_base.specs.Mac.{mac_of, mac_text};
 ghost use Rattle.nv_base.specs.Prefix.{block, prefix_of, prefix_text};
+ghost use Rattle.nv_base.specs.Field.{field_number, field_name, field_of, all_fields};
+ghost use Rattle.nv_base.specs.declared.field.Field.{Field};
 
 /// A number that is written in decimal is read again.
 pub fn written_decimals_are_read()
@@ -34,4 +37,15 @@ pub fn written_prefixes_are_read()
 /// Each text of `0x` and 1 to 32 hexadecimal digits is read, since its number is below 2^128.
 pub fn hexadecimals_are_read()
     ensures { (ds : List ℕ) → 0 < length ds → length ds ≤ 32 → AllDigits 16 ds → number_of (codes "0x" ++ ds) ≡ Some (digits_value 16 ds) }
+{}
+
+/// A field's name is read as that field.
+pub fn field_names_are_read()
+    ensures { (field : Field) → field_of (field_name field) ≡ Some field }
+{}
+
+/// Of all the fields, which are 36, each stands at its number.
+pub fn fields_stand_at_their_numbers()
+    ensures order { map field_number all_fields ≡ range_with_len 1 36 }
+    ensures each { (field : Field) → slice_get all_fields (field_number field - 1) ≡ Some field }
 {}

@@ -1,8 +1,9 @@
 // What no clause says: that the definitions are those of the texts that people write, that a call can succeed,
 // and each generic impl at a concrete type.
 use crate::{
-    BadText, Ip4, Items, Kept, Mac, Name, ObjId, Prefix, put_dec, put_hex, put_ip4, put_mac,
-    put_prefix, read_ip4, read_mac, read_number, read_prefix,
+    BadText, Field, Ip4, Items, Kept, Mac, Name, ObjId, Prefix, Prerequisite, Printed, field_of,
+    put_dec, put_field, put_hex, put_ip4, put_mac, put_prefix, read_ip4, read_mac, read_number,
+    read_prefix,
 };
 
 #[test]
@@ -42,6 +43,24 @@ fn values_are_written(rt: HostRuntime) {
     out.push(b' ').expect(&rt, "memory");
     put_hex(&mut out, 4096).expect(&rt, "memory");
     assert!(rt; out.as_slice() == b"0a:00:00:00:00:ff 192.0.2.1 10.0.0.1/8 4096 0x1000".as_slice());
+}
+
+#[test]
+fn fields_are_those_of_the_table(rt: HostRuntime) {
+    assert!(rt; field_of(b"tcp.flags") == Some(Field::TcpFlags));
+    assert!(rt; field_of(b"ct_mark.blocked") == Some(Field::CtMarkBlocked));
+    assert!(rt; field_of(b"ip6.src").is_none());
+    assert!(rt; field_of(b"").is_none());
+    assert!(rt; Field::all()[0] == Field::Inport && Field::all()[35] == Field::Reg6);
+    assert!(rt; Field::Reg6.number() == 36 && Field::Reg6.width() == 48);
+    assert!(rt; Field::TcpFlags.width() == 12);
+    assert!(rt; Field::TcpFlags.printed() == Printed::Hexadecimal);
+    assert!(rt; Field::QuoteSport.prerequisite() == Prerequisite::IcmpError);
+    assert!(rt; Field::QuoteDport.is_header() && !Field::CtState.is_header());
+    let mut out = Vec::new(rt.alloc());
+    put_field(&mut out, Field::Icmp4Type).expect(&rt, "memory");
+    assert!(rt; out.as_slice() == b"icmp4.type".as_slice());
+    assert!(rt; is_copied(&Field::Icmp4Type, &rt));
 }
 
 fn is_copied<T: Kept + Drop>(value: &T, rt: &HostRuntime) -> bool {

@@ -4,6 +4,8 @@ use Rattle.std.specs.Prelude.{◌&&◌, Option, Some, None}
 use Rattle.std.specs.List.{Contains}
 use Rattle.std.proofs.lemmas.List.Elements.{filter-append, All-from_recursion, All-contains}
 use Rattle.nv_base.specs.declared.object.ObjId.{ObjId}
+use Rattle.nv_base.specs.Field.{all_fields}
+use Rattle.pkt_core.specs.Packet.{only, headers}
 use Rattle.sb_rows.specs.declared.row.Row.{Row}
 use Rattle.sb_rows.specs.Match.{is_multicast}
 use Rattle.sb_rows.specs.declared.stage.Pipeline.TheVariants.{Ingress, Egress}
@@ -35,6 +37,11 @@ without_hits-with_hits way more =
     filter-append (λ event. not (is_hit event)) (map events.Hit way.hits) more
     ∙ ap (λ front. front ++ without_hits more) (no_hits way.hits)
 
+-- a frame's header fields, on its way out, are those that it came with
+sent_headers : (port : ObjId) (out mac : ℕ) → headers (bound_for out (arriving port mac)) ≡ frame_for mac
+unfolding only all_fields
+sent_headers port out mac = refl
+
 -- ---- the law
 
 -- each port's switch is one of the switches
@@ -55,6 +62,7 @@ module _ (tables : Tables) (arrival : Port) (mac : ℕ) (numbered : IsNumbered t
         let packet = bound_for out.0 (arriving arrival.id mac) in
         without_hits-with_hits (pipe rows switch.0 Egress packet) (delivered switch.0 (pipe rows switch.0 Egress packet).ending)
         ∙ ap (λ ending. without_hits (delivered switch.0 ending)) (egress-one tables switch among packet to_one)
+        ∙ ap (λ sent. events.Output out sent ∷ []) (sent_headers arrival.id out.0 mac)
 
     -- one that would go back by its own port is dropped, and another goes out
     back_or_out : (port : Port) (b : Bool) → eqb port.id.0 arrival.id.0 ≡ b

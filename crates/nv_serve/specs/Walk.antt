@@ -3,7 +3,7 @@ use Rattle.std.specs.Prelude.{◌≡◌, ℕ, Bool, true, false, not, ◌&&◌, 
 use Rattle.std.specs.List.{Contains}
 use Rattle.nv_base.specs.declared.object.ObjId.{ObjId}
 use Rattle.nv_base.specs.declared.field.Field.TheVariants.{Inport, Outport, FlagsLoopback}
-use Rattle.pkt_core.specs.Packet.{Values, value, with_value}
+use Rattle.pkt_core.specs.Packet.{Values, value, with_value, headers}
 use Rattle.sb_rows.specs.declared.row.Row.{Row}
 use Rattle.sb_rows.specs.Match.{is_multicast}
 use Rattle.sb_rows.specs.declared.stage.Pipeline.TheVariants.{Ingress, Egress}
@@ -21,10 +21,6 @@ use Rattle.nv_serve.specs.FullBuild.{full_build}
 -- a frame for this address, as it comes in by a port
 abbrev pub arriving : ObjId → ℕ → Values
 arriving port mac = with_value (frame_for mac) Inport port.0
-
--- a packet's header fields: its working fields are zero
-abbrev pub headers : Values → Values
-headers packet = with_value (with_value (with_value packet Inport 0) Outport 0) FlagsLoopback 0
 
 -- whether a packet would go back by the port that it came in by
 abbrev pub is_sent_back : Values → Bool

@@ -73,6 +73,7 @@ pub fn run<S: Source, K: Sink>(
 }
 
 // All that a run with so many words promises, as one fact for each status.
+#[tactic(auto, using(crate::proofs::Words::refused))]
 fn serve<S: Source, K: Sink>(alloc: Global, count: usize, source: &mut S, sink: &mut K) -> Status
     ensures { Ends S.take_gives S.left S.faults K.put_gives K.taken K.faults count source.old sink.old source.new sink.new result }
 {

@@ -5,7 +5,7 @@ ghost use Rattle.tr_stage.specs.declared.outcome.Cause.TheVariants.{SamePort};
 ghost use Rattle.tr_stage.specs.Pipe.{pipe, IsRunnable};
 ghost use Rattle.tr_stage.specs.Pipe.Ending.{Ended};
 ghost use Rattle.nv_serve.specs.declared.event.Event.TheVariants as variants;
-ghost use Rattle.nv_serve.specs.Walk.{arriving, headers, is_sent_back, leaving, machine};
+ghost use Rattle.nv_serve.specs.Walk.{arriving, is_sent_back, leaving, machine};
 
 use crate::Event;
 use nv_base::{Field, Mac, ObjId, OutOfMemory};
@@ -69,7 +69,7 @@ fn leave(
     match run(alloc, rows, dp, Pipeline::Egress, packet, events)? {
         Outcome::Leave(_, _) => {}
         Outcome::Deliver(packet) => {
-            events.push(Event::Output(port_out(&packet), headers(&packet)))?;
+            events.push(Event::Output(port_out(&packet), packet.headers()))?;
         }
         Outcome::Drop(cause) => events.push(Event::Drop(dp, cause))?,
     }
@@ -112,17 +112,6 @@ fn arriving(port: ObjId, mac: Mac) -> Packet
     packet.set(Field::EthDst, u128::from(mac.0));
     packet.set(Field::Inport, u128::from(port.0));
     packet
-}
-
-// The packet's header fields.
-fn headers(packet: &Packet) -> Packet
-    ensures { result ≡ headers packet.now }
-{
-    let mut headers = *packet;
-    headers.set(Field::Inport, 0);
-    headers.set(Field::Outport, 0);
-    headers.set(Field::FlagsLoopback, 0);
-    headers
 }
 
 fn is_sent_back(packet: &Packet) -> bool

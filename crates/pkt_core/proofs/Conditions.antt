@@ -4,7 +4,8 @@ use Rattle.std.proofs.lemmas.Bool.{ne_eqb}
 use Rattle.std.proofs.lemmas.List.{at_drop_more}
 use Rattle.nv_base.specs.declared.field.Field.{Field}
 use Rattle.pkt_core.specs.Packet.{Values, value}
-use Rattle.pkt_core.specs.Text.{condition_text, separator, conditions, GrowsAtEnd}
+use Rattle.pkt_core.specs.Text.{condition_text, separator, conditions}
+use Rattle.nv_base.specs.Growth.{GrowsAtEnd}
 
 -- a field whose number is zero says nothing
 says_nothing : (packet : Values) (f : Field) (fs : List Field) (before : Bool) → value packet f ≡ 0 → conditions packet (f ∷ fs) before ≡ conditions packet fs before

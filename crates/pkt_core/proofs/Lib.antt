@@ -1,1 +1,3 @@
 pub mod Conditions
+pub mod Normal
+pub mod Only

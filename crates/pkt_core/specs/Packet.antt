@@ -1,7 +1,7 @@
 -- A packet: a number for each field.
-use Rattle.std.specs.Prelude.{ℕ, ◌-◌, ◌<◌, ◌^◌, List, slice_index, slice_set, replicate}
+use Rattle.std.specs.Prelude.{ℕ, ◌-◌, ◌<◌, ◌^◌, Bool, not, if◌then◌else◌, List, [], ◌∷◌, map, slice_index, slice_set, replicate}
 use Rattle.nv_base.specs.declared.field.Field.{Field}
-use Rattle.nv_base.specs.Field.{field_number, field_width}
+use Rattle.nv_base.specs.Field.{field_number, field_width, is_header, all_fields}
 
 -- a packet's numbers, in the order of the fields
 abbrev pub Values : Type 0
@@ -26,6 +26,35 @@ with_value packet field number = slice_set packet (place field) number
 -- the packet of zeros
 abbrev pub zero_packet : Values
 zero_packet = replicate field_count 0
+
+-- the packet with this number for each of these fields, one after the other
+abbrev pub with_values : Values → List (Field × ℕ) → Values
+with_values packet [] = packet
+with_values packet (p ∷ ps) = with_values (with_value packet p.0 p.1) ps
+
+-- the packet with the numbers of two fields exchanged
+abbrev pub exchanged : Values → Field → Field → Values
+exchanged packet f g = with_value (with_value packet f (value packet g)) g (value packet f)
+
+-- the number of a field of a kind, zero of another
+abbrev pub value_only : Values → (Field → Bool) → Field → ℕ
+value_only packet of_kind field = if of_kind field then value packet field else 0
+
+-- the packet with the fields of a kind alone
+unfoldable pub only : Values → (Field → Bool) → Values
+only packet of_kind = map (value_only packet of_kind) all_fields
+
+-- the packet with its header fields alone
+abbrev pub headers : Values → Values
+headers packet = only packet is_header
+
+-- whether the field is a working field
+abbrev pub is_working : Field → Bool
+is_working field = not (is_header field)
+
+-- the packet with its working fields alone
+abbrev pub workings : Values → Values
+workings packet = only packet is_working
 
 -- each field's number fits the field's width
 abbrev pub Fits : Values → Type 0

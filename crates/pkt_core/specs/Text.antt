@@ -1,28 +1,30 @@
 -- A packet as text: the match of ovn-sb(5) that says its header fields.
-use Rattle.std.specs.Prelude.{◌≡◌, ℕ, ◌==◌, Bool, false, true, List, [], ◌∷◌, ◌++◌, codes, if◌then◌else◌}
+use Rattle.std.specs.Prelude.{ℕ, ◌==◌, Bool, false, true, List, [], ◌∷◌, ◌++◌, codes, decimal, if◌then◌else◌}
+use Rattle.std.specs.List.{filter}
 use Rattle.nv_base.specs.declared.field.Field.{Field}
-use Rattle.nv_base.specs.declared.field.Field.TheVariants.{Inport, Outport, FlagsLoopback, EthSrc, EthDst, EthType}
-use Rattle.nv_base.specs.Field.{field_name}
+use Rattle.nv_base.specs.declared.field.Printed.{Printed}
+use Rattle.nv_base.specs.declared.field.Printed.TheVariants.{PortName, Decimal, Hexadecimal, MacAddress, Ip4Address}
+use Rattle.nv_base.specs.Field.{field_name, field_printed, is_header, all_fields}
+use Rattle.nv_base.specs.Ip4.{address, ip4_text}
 use Rattle.nv_base.specs.Mac.{mac_text}
 use Rattle.nv_base.specs.Number.{hexadecimal}
 use Rattle.pkt_core.specs.Packet.{Values, value}
 
--- the fields that the text says, in the order of their numbers
-abbrev pub header_fields : List Field
-header_fields = EthSrc ∷ EthDst ∷ EthType ∷ []
+-- the fields that the text says, in their order
+unfoldable pub header_fields : List Field
+header_fields = filter is_header all_fields
 
--- a number as a match writes it for the field
-abbrev pub number_text : Field → ℕ → List ℕ
-number_text Inport n = hexadecimal n
-number_text Outport n = hexadecimal n
-number_text FlagsLoopback n = hexadecimal n
-number_text EthSrc n = mac_text n
-number_text EthDst n = mac_text n
-number_text EthType n = hexadecimal n
+-- a number as a match writes it; of a port, whose name stands in no packet, in decimal
+abbrev pub number_text : Printed → ℕ → List ℕ
+number_text PortName n = decimal n
+number_text Decimal n = decimal n
+number_text Hexadecimal n = hexadecimal n
+number_text MacAddress n = mac_text n
+number_text Ip4Address n = ip4_text (address n)
 
 -- the condition that the field has this number
 abbrev pub condition_text : Field → ℕ → List ℕ
-condition_text field n = field_name field ++ codes " == " ++ number_text field n
+condition_text field n = field_name field ++ codes " == " ++ number_text (field_printed field) n
 
 -- what stands in front of a condition: `&&` where another stands before it
 abbrev pub separator : Bool → List ℕ
@@ -40,7 +42,3 @@ conditions packet (f ∷ fs) before = if value packet f == 0 then conditions pac
 -- the match that says the packet's header fields
 abbrev pub packet_text : Values → List ℕ
 packet_text packet = conditions packet header_fields false
-
--- all that was there stays in front
-abbrev pub GrowsAtEnd : List ℕ → List ℕ → Type 0
-GrowsAtEnd old new = (tail : List ℕ) × (new ≡ old ++ tail)

@@ -1,19 +1,19 @@
 ghost use Rattle.std.specs.Prelude.{◌≡◌, ◌≢◌, ◌<◌, ◌^◌};
 ghost use Rattle.nv_base.specs.Field.{field_width};
-ghost use Rattle.pkt_core.specs.Packet.{place, value, with_value, zero_packet};
+ghost use Rattle.pkt_core.specs.Packet.{place, value, with_value, exchanged, zero_packet};
 ghost use Rattle.nv_base.specs.declared.field.Field.{Field};
 
 use nv_base::Field;
 use std::marker::Model;
 
-// How many fields there may be.
+// How many fields there are.
 const FIELD_COUNT: usize = 36;
 
 /// A packet: a number for each field, which fits the field's width. A clause sees the list of the numbers, in the
 /// order of the fields.
 #[derive(Clone, Copy, Debug)]
 pub struct Packet {
-    numbers: [u128; FIELD_COUNT],
+    pub(crate) numbers: [u128; FIELD_COUNT],
 }
 
 impl Model for Packet {
@@ -57,5 +57,19 @@ impl Packet {
             → value self.new other ≡ value self.old other }
     {
         self.numbers[field as usize] = number;
+    }
+
+    /// Exchanges the numbers of two fields of one width. The other fields stay.
+    pub fn exchange(&mut self, one: Field, other: Field)
+        requires { field_width one ≡ field_width other }
+        ensures exchanged { self.new ≡ exchanged self.old one other }
+        ensures one { value self.new one ≡ value self.old other }
+        ensures other { value self.new other ≡ value self.old one }
+        ensures rest { (field : Field) → place field ≢ place one → place field ≢ place other
+            → value self.new field ≡ value self.old field }
+    {
+        let number = self.get(one);
+        self.set(one, self.get(other));
+        self.set(other, number);
     }
 }

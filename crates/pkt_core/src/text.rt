@@ -1,13 +1,11 @@
 //! A packet as text: the match of ovn-sb(5) that says its header fields.
 ghost use Rattle.std.specs.Prelude.{◌≡◌, ◌<◌, ◌^◌, ◌++◌, false, OnOk, OnErr};
-ghost use Rattle.nv_base.specs.Field.{field_width};
-ghost use Rattle.pkt_core.specs.Text.{number_text, condition_text, separator, ending, conditions, packet_text, GrowsAtEnd};
+ghost use Rattle.nv_base.specs.Field.{field_width, field_printed};
+ghost use Rattle.pkt_core.specs.Text.{header_fields, number_text, condition_text, separator, ending, conditions, packet_text};
+ghost use Rattle.nv_base.specs.Growth.{GrowsAtEnd};
 
 use crate::Packet;
-use nv_base::{Field, Mac, OutOfMemory, put_hex, put_mac};
-
-// The fields that the text says, in the order of their numbers.
-const HEADER_FIELDS: [Field; 3] = [Field::EthSrc, Field::EthDst, Field::EthType];
+use nv_base::{Field, Ip4, Mac, OutOfMemory, Printed, put_dec, put_hex, put_ip4, put_mac};
 
 /// Appends `FIELD == VALUE` for each header field whose number is not zero, joined by ` && `, or `1` where all are
 /// zero. After `OutOfMemory` the bytes are as before.
@@ -16,11 +14,19 @@ pub fn put_packet(out: &mut Vec<u8>, packet: &Packet) -> Result<(), OutOfMemory>
     ensures err { OnErr result (out.new.items ≡ out.old.items) }
 {
     let before = out.len();
-    let put = put_conditions(out, packet, &HEADER_FIELDS);
+    let put = put_conditions(out, packet, header_fields());
     if put.is_err() {
         out.truncate(before);
     }
     put
+}
+
+// The fields that the text says, in their order.
+#[tactic(auto, unfolding(nv_base::specs::Field::all_fields, crate::specs::Text::header_fields))]
+fn header_fields() -> &'static [Field]
+    ensures { result.now ≡ header_fields }
+{
+    &Field::all()[3..27]
 }
 
 // Appends a condition for each of the fields whose number is not zero, or `1`. After `OutOfMemory` a part may stand
@@ -70,11 +76,13 @@ fn put_condition(out: &mut Vec<u8>, field: Field, number: u128) -> Result<(), Ou
 
 fn put_number(out: &mut Vec<u8>, field: Field, number: u128) -> Result<(), OutOfMemory>
     requires { number < 2 ^ field_width field }
-    ensures ok { OnOk result (out.new.items ≡ out.old.items ++ number_text field number) }
+    ensures ok { OnOk result (out.new.items ≡ out.old.items ++ number_text (field_printed field) number) }
     ensures err { OnErr result (out.new.items ≡ out.old.items) }
 {
-    match field {
-        Field::EthSrc | Field::EthDst => put_mac(out, Mac(number as u64)),
-        _ => put_hex(out, number),
+    match field.printed() {
+        Printed::PortName | Printed::Decimal => put_dec(out, number),
+        Printed::Hexadecimal => put_hex(out, number),
+        Printed::MacAddress => put_mac(out, Mac(number as u64)),
+        Printed::Ip4Address => put_ip4(out, Ip4(number as u32)),
     }
 }

@@ -1,5 +1,5 @@
 -- The listing of flows, in the words of ovn-sbctl(8)'s `lflow-list`.
-use Rattle.std.specs.Prelude.{◌≡◌, ℕ, List, ◌++◌, Bool, true, false, codes, decimal, ◌==◌, filter, Option, Some, None}
+use Rattle.std.specs.Prelude.{ℕ, List, ◌++◌, Bool, true, false, codes, decimal, ◌==◌, filter, Option, Some, None}
 use Rattle.std.specs.List.{flat_map}
 use Rattle.nv_base.specs.declared.object.ObjId.{ObjId}
 use Rattle.sb_rows.specs.declared.stage.Stage.{Stage}
@@ -61,7 +61,3 @@ is_asked_for (Some only) dp = only.0 == dp.0
 -- the datapaths that are asked for, in the order of their names' list
 abbrev pub listing : List Row → List (ObjId × List ℕ) → Option ObjId → List ℕ
 listing rows names only = flat_map (λ d. datapath_listing (rows_of d.0 rows) d.1) (filter (λ d. is_asked_for only d.0) names)
-
--- all that was there stays in front
-abbrev pub GrowsAtEnd : List ℕ → List ℕ → Type 0
-GrowsAtEnd old new = (tail : List ℕ) × (new ≡ old ++ tail)

@@ -1,19 +1,7 @@
 ghost use Rattle.std.specs.Prelude.{◌≡◌, ◌++◌, decimal, OnOk, OnErr};
 ghost use Rattle.std.specs.List.{flat_map};
-ghost use Rattle.sb_rows.specs.Listing.{
-  pipeline_name,
-  is_asked_for,
-  heading,
-  stage_text,
-  row_text,
-  row_rank,
-  row_rule,
-  rows_in,
-  pipeline_listing,
-  datapath_listing,
-  listing,
-  GrowsAtEnd,
-};
+ghost use Rattle.sb_rows.specs.Listing.{pipeline_name, is_asked_for, heading, stage_text, row_text, row_rank, row_rule, rows_in, pipeline_listing, datapath_listing, listing};
+ghost use Rattle.nv_base.specs.Growth.{GrowsAtEnd};
 
 use crate::{Pipeline, Row, Rows, Stage};
 use itoa::Buffer;

@@ -3,7 +3,7 @@ ghost use Rattle.std.specs.Ordering.{nat_cmp};
 ghost use Rattle.std.specs.Cmp.Lexicographic.{slice_cmp};
 ghost use Rattle.sb_rows.specs.Row.{match_head, match_text, output_to, action_text, row_cmp};
 ghost use Rattle.sb_rows.specs.Match.{is_multicast, holds};
-ghost use Rattle.sb_rows.specs.Listing.{GrowsAtEnd};
+ghost use Rattle.nv_base.specs.Growth.{GrowsAtEnd};
 
 use crate::Stage;
 use nv_base::{Field, Mac, Name, ObjId, OutOfMemory, mac_text, put_mac};

@@ -1,5 +1,6 @@
 use Rattle.std.proofs.Common.{◌≡◌, ◌++◌, drop, false}
-use Rattle.pkt_core.specs.Text.{conditions, GrowsAtEnd}
+use Rattle.pkt_core.specs.Text.{conditions}
+use Rattle.nv_base.specs.Growth.{GrowsAtEnd}
 use Rattle.pkt_core.proofs.text.put_conditions.Given as goal
 
 -- with the conditions of the fields that are left, what is there is the whole

@@ -1,0 +1,26 @@
+-- The operands that were compared, and those that are left.
+use Rattle.std.proofs.Common.{◌≡◌, ◌≢◌, ℕ, zero, suc, ◌*◌, ◌<◌, ◌+◌, Bool, true, false, ◌&&◌, List, [], ◌∷◌, length, drop, slice_index_or, refl, ap, arith}
+use Rattle.expr_core.specs.Formula.{Formula, formula_size, formulas_size, formulas}
+use Rattle.expr_core.specs.Equal.{formula_eq, formulas_eq}
+
+module _ {A : Type 0} (eq : A → A → Bool) where
+  -- those that are left are equal where all are
+  abbrev pub Left : List (Formula A) → List (Formula A) → ℕ → Type 0
+  Left fs gs i = formulas_eq eq (formulas (drop i fs)) (formulas (drop i gs)) ≡ formulas_eq eq (formulas fs) (formulas gs)
+
+  -- lists of two lengths are not equal
+  pub unlike_lengths : (fs gs : List (Formula A)) → length fs ≢ length gs → false ≡ formulas_eq eq (formulas fs) (formulas gs)
+  unlike_lengths [] [] unlike = absurd (unlike refl)
+  unlike_lengths [] (g ∷ gs) unlike = refl
+  unlike_lengths (f ∷ fs) [] unlike = refl
+  unlike_lengths (f ∷ fs) (g ∷ gs) unlike = with_head (formula_eq eq f g) (unlike_lengths fs gs (λ e. unlike (ap suc e)))
+    where
+      with_head : (b : Bool) {c : Bool} → false ≡ c → false ≡ (b && c)
+      with_head true e = e
+      with_head false e = refl
+
+-- no operand is larger than all of them
+pub one_falls : {A : Type 0} (fs : List (Formula A)) (i : ℕ) (f : Formula A) → i < length fs → ((d : Formula A) → f ≡ slice_index_or fs i d) → 2 * formula_size f < 2 * formulas_size (formulas fs) + 1
+one_falls [] i f within is = omega (arith, within)
+one_falls (g ∷ gs) zero f within is = rw (is f) (omega arith)
+one_falls (g ∷ gs) (suc i) f within is = omega (arith, one_falls gs i f (omega (arith, within)) is)

@@ -1,0 +1,16 @@
+use Rattle.std.proofs.Common.{◌+◌, ◌*◌, length}
+use Rattle.std.specs.Iterator.Adapters.{zip_first, zip_second}
+use Rattle.std.specs.Slice.Iter.{iter_rest}
+use Rattle.expr_core.specs.Formula.{formula_size, formulas_size, formulas}
+use Rattle.expr_core.specs.EqualMatches.{atom_eq}
+use Rattle.expr_core.proofs.Pairs.{Left}
+use Rattle.expr_core.proofs.equal.+same_expr.Given as goal
+
+abbrev pub decreases-same_expr : goal.decreases-same_expr
+decreases-same_expr l = 2 * formula_size l.one.now
+
+abbrev pub decreases-same_expr_operands : goal.decreases-same_expr_operands
+decreases-same_expr_operands l = 2 * formulas_size (formulas l.ones.now) + 1
+
+abbrev pub invariant-same_expr_operands-loop-one : goal.invariant-same_expr_operands-loop-one
+invariant-same_expr_operands-loop-one l = Left atom_eq (iter_rest (zip_first l.initial.one-iterator)) (iter_rest (zip_second l.initial.one-iterator)) (length l.yielded)

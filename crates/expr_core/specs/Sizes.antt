@@ -1,0 +1,9 @@
+-- No formula of a list is larger than all of them.
+use Rattle.std.specs.Prelude.{◌+◌, ◌≤◌, List, [], ◌∷◌}
+use Rattle.std.proofs.Common.{arith}
+use denote.Param.Weighed.{most}
+use Rattle.expr_core.specs.Formula.{Formula, formula_size, formulas_size, formulas}
+
+pub most_le : {A : Type 0} (fs : List (Formula A)) → most (λ f. formula_size f + 1) fs ≤ formulas_size (formulas fs) + 1
+most_le [] = omega arith
+most_le (f ∷ fs) = omega (arith, most_le fs)

@@ -1,0 +1,43 @@
+use crate::Const;
+use nv_base::{Items, Name};
+
+/// How a part is compared (ovn-sb(5), 'Logical_Flow TABLE', relational operators).
+#[derive(Clone, Copy, Debug, PartialEq, Eq)]
+pub enum Rel {
+    /// `==`
+    Eq,
+    /// `!=`
+    Ne,
+    /// `<`
+    Lt,
+    /// `<=`
+    Le,
+    /// `>`
+    Gt,
+    /// `>=`
+    Ge,
+}
+
+/// What a part is compared with.
+#[derive(Debug, PartialEq, Eq, Drop)]
+pub enum Item {
+    /// One number.
+    One(Const),
+    /// A number before `/`, and behind it the length of a prefix or the bits that count.
+    Masked(Const, Const),
+    /// The name of a port or of a multicast group, in double quotes.
+    Text(Name),
+    /// The address set of this name, after `$`.
+    AddrSet(Name),
+    /// The port group of this name, after `@`.
+    Group(Name),
+}
+
+/// The right side of a comparison.
+#[derive(Debug, PartialEq, Eq, Drop)]
+pub enum Right {
+    /// One item.
+    Item(Item),
+    /// One item or more, in braces.
+    Set(Items<Item>),
+}

@@ -1,0 +1,195 @@
+-- What is a match by the rules is read as it.
+use Rattle.std.proofs.Common.{◌≡◌, ℕ, zero, suc, ◌+◌, ◌≤◌, if◌then◌else◌, Bool, true, false, List, [], ◌∷◌, ◌++◌, length, length-append, refl, sym, ap, ◌∙◌, append_assoc, append-nil, arith}
+use Rattle.std.proofs.lemmas.Bool.{eq-eqb}
+use Rattle.expr_core.specs.Formula.{Formula, Formulas, formulas}
+use Rattle.expr_core.specs.Formula.Formula.{Leaf, Not as Negation, And as Conjunction, Or as Disjunction}
+use Rattle.expr_core.specs.declared.comparison.Rel.{Rel}
+use Rattle.expr_core.specs.declared.comparison.Right.{Right}
+use Rattle.expr_core.specs.declared.expr.Atom.{Atom}
+use Rattle.expr_core.specs.declared.expr.Atom.TheVariants.{Truth, Bare, Compare}
+use Rattle.expr_core.specs.declared.part.Part.{Part}
+use Rattle.expr_parse.specs.declared.fault.MatchFault.TheVariants.{Syntax}
+use Rattle.expr_parse.specs.Token.{Token, Tokens}
+use Rattle.expr_parse.specs.Token.Token.{Name, Relation, And, Or, Not, Open, Close}
+use Rattle.expr_parse.specs.Grammar.{Reading, Inside, and_behind, part, right, compared, closed, operand, unit, conjuncts, disjuncts, joined, whole, levels, finished}
+use Rattle.expr_parse.specs.Grammar.Reading.{Read, Fails}
+use Rattle.expr_parse.specs.Rules.{decimal, IsPart, IsAtom, IsMatch, AreUnits, IsUnit, IsOperand}
+use Rattle.expr_parse.specs.Rules.IsMatch.{alone, all, any}
+use Rattle.expr_parse.specs.Rules.AreUnits.{last, more}
+use Rattle.expr_parse.specs.Rules.IsUnit.{plain, comparison}
+use Rattle.expr_parse.specs.Rules.IsOperand.{truth as is_truth, bare as is_bare, negation as is_negation, enclosed as is_enclosed}
+use Rattle.expr_parse.proofs.Unplaced.{kinds_none, kinds_first}
+use Rattle.expr_parse.proofs.ReadsParts.{behind, NoBits, part_read}
+use Rattle.expr_parse.proofs.ReadsRight.{NoMask, right_read}
+
+-- a unit ends before these tokens
+abbrev EndsUnit : Tokens → Type 0
+EndsUnit [] = Unit {0}
+EndsUnit ((p, And) ∷ ts) = Unit {0}
+EndsUnit ((p, Or) ∷ ts) = Unit {0}
+EndsUnit ((p, Close) ∷ ts) = Unit {0}
+EndsUnit ((p, k) ∷ ts) = ⊥
+
+-- a match ends before these tokens
+abbrev EndsMatch : Tokens → Type 0
+EndsMatch [] = Unit {0}
+EndsMatch ((p, Close) ∷ ts) = Unit {0}
+EndsMatch ((p, k) ∷ ts) = ⊥
+
+ends_unit : (ts : Tokens) → EndsMatch ts → EndsUnit ts
+ends_unit [] h = tt
+ends_unit ((p, Close) ∷ ts) h = tt
+ends_unit ((p, k) ∷ ts) h = absurd h
+
+no_bits : (ts : Tokens) → EndsUnit ts → NoBits ts
+no_bits [] h = tt
+no_bits ((p, And) ∷ ts) h = tt
+no_bits ((p, Or) ∷ ts) h = tt
+no_bits ((p, Close) ∷ ts) h = tt
+no_bits ((p, k) ∷ ts) h = absurd h
+
+no_mask : (ts : Tokens) → EndsUnit ts → NoMask ts
+no_mask [] h = tt
+no_mask ((p, And) ∷ ts) h = tt
+no_mask ((p, Or) ∷ ts) h = tt
+no_mask ((p, Close) ∷ ts) h = tt
+no_mask ((p, k) ∷ ts) h = absurd h
+
+alone_compared : (end : ℕ) (q : Part) (ts : Tokens) → EndsUnit ts → compared end q ts ≡ Read (Leaf (Bare q)) ts
+alone_compared end q [] h = refl
+alone_compared end q ((p, And) ∷ ts) h = refl
+alone_compared end q ((p, Or) ∷ ts) h = refl
+alone_compared end q ((p, Close) ∷ ts) h = refl
+alone_compared end q ((p, k) ∷ ts) h = absurd h
+
+alone_joined : (end : ℕ) (inside : Inside) (f : Formula Atom) (ts : Tokens) → EndsMatch ts → joined end inside f ts ≡ Read f ts
+alone_joined end inside f [] h = refl
+alone_joined end inside f ((p, Close) ∷ ts) h = refl
+alone_joined end inside f ((p, k) ∷ ts) h = absurd h
+
+-- the operand that tokens are is read, and so is the unit that is it
+abbrev OperandRead : ℕ → Inside → Tokens → Formula Atom → Tokens → Type 0
+OperandRead end inside ts f rest = (operand end inside (ts ++ rest) ≡ Read f rest) × (unit end inside (ts ++ rest) ≡ Read f rest)
+
+truth_read : (end : ℕ) (inside : Inside) (ts : Tokens) (b : Bool) (rest : Tokens) → IsAtom ts (Truth b) → OperandRead end inside ts (Leaf (Truth b)) rest
+truth_read end inside ts false rest e =
+    let f = kinds_first ts (decimal 0) [] e in
+    let one : ts ≡ (f.0, decimal 0) ∷ [] = f.2 ∙ ap (λ xs. (f.0, decimal 0) ∷ xs) (kinds_none f.1 f.3) in
+    (ap (λ xs. operand end inside (xs ++ rest)) one, ap (λ xs. unit end inside (xs ++ rest)) one)
+truth_read end inside ts true rest e =
+    let f = kinds_first ts (decimal 1) [] e in
+    let one : ts ≡ (f.0, decimal 1) ∷ [] = f.2 ∙ ap (λ xs. (f.0, decimal 1) ∷ xs) (kinds_none f.1 f.3) in
+    (ap (λ xs. operand end inside (xs ++ rest)) one, ap (λ xs. unit end inside (xs ++ rest)) one)
+
+bare_read : (end : ℕ) (inside : Inside) (ts : Tokens) (p : Part) (rest : Tokens) → IsPart ts p → EndsUnit rest → OperandRead end inside ts (Leaf (Bare p)) rest
+bare_read end inside ts p rest h stop =
+    let reads = part_read end p h.behind rest h.bits h.numbers (no_bits rest stop) in (
+      ap (λ xs. operand end inside (xs ++ rest)) h.whole ∙ behind (part end p.place p.name (h.behind ++ rest)) p rest (λ q more. Read (Leaf (Bare q)) more) reads,
+      ap (λ xs. unit end inside (xs ++ rest)) h.whole ∙ behind (part end p.place p.name (h.behind ++ rest)) p rest (compared end) reads ∙ alone_compared end p rest stop,
+    )
+
+comparison_read : (end : ℕ) (inside : Inside) (ts : Tokens) (p : Part) (r : Rel) (s : Right) (rest : Tokens) → IsAtom ts (Compare p r s) → EndsUnit rest → unit end inside (ts ++ rest) ≡ Read (Leaf (Compare p r s)) rest
+comparison_read end inside ts p r s rest h stop =
+    let front = h.0 in let place = h.1 in let back = h.2 in let left = h.4 in
+    let next : Tokens = (place, Relation r) ∷ (back ++ rest) in
+    let all : ts ++ rest ≡ (p.place, Name p.name) ∷ (left.behind ++ next) = ap (λ xs. xs ++ rest) h.3 ∙ append_assoc front ((place, Relation r) ∷ back) rest ∙ ap (λ xs. xs ++ next) left.whole in
+    ap (unit end inside) all ∙ behind (part end p.place p.name (left.behind ++ next)) p next (compared end) (part_read end p left.behind next left.bits left.numbers tt)
+    ∙ behind (right end (back ++ rest)) s rest (λ t more. Read (Leaf (Compare p r t)) more) (right_read end back s rest h.5 (no_mask rest stop))
+
+-- what is read behind a sign
+abbrev next_unit : ℕ → Inside → (ℕ → List (Formula Atom) → Tokens → Reading (Formula Atom)) → ℕ → List (Formula Atom) → Tokens → Reading (Formula Atom)
+next_unit end inside goes m before ts = and_behind (unit end inside ts) (λ g more. goes m (before ++ g ∷ []) more)
+
+-- how a chain of this sign is read
+record Chain (end : ℕ) (inside : Inside) (sign : Token) (goes : ℕ → List (Formula Atom) → Tokens → Reading (Formula Atom)) (make : Formulas Atom → Formula Atom) : Type 0 where
+  stop : (m : ℕ) (before : List (Formula Atom)) (rest : Tokens) → EndsMatch rest → goes m before rest ≡ Read (make (formulas before)) rest
+  step : (m : ℕ) (before : List (Formula Atom)) (p : ℕ) (ts : Tokens) → goes (suc m) before ((p, sign) ∷ ts) ≡ next_unit end inside goes m before ts
+  ends : (p : ℕ) (ts : Tokens) → EndsUnit ((p, sign) ∷ ts)
+
+conjunction : (end : ℕ) (inside : Inside) → Chain end inside And (conjuncts end inside) Conjunction
+conjunction end inside = record { stop = stop; step = λ m before p ts. refl; ends = λ p ts. tt }
+  where
+    stop : (m : ℕ) (before : List (Formula Atom)) (rest : Tokens) → EndsMatch rest → conjuncts end inside m before rest ≡ Read (Conjunction (formulas before)) rest
+    stop m before [] h = refl
+    stop m before ((p, Close) ∷ ts) h = refl
+    stop m before ((p, k) ∷ ts) h = absurd h
+
+disjunction : (end : ℕ) (inside : Inside) → Chain end inside Or (disjuncts end inside) Disjunction
+disjunction end inside = record { stop = stop; step = λ m before p ts. refl; ends = λ p ts. tt }
+  where
+    stop : (m : ℕ) (before : List (Formula Atom)) (rest : Tokens) → EndsMatch rest → disjuncts end inside m before rest ≡ Read (Disjunction (formulas before)) rest
+    stop m before [] h = refl
+    stop m before ((p, Close) ∷ ts) h = refl
+    stop m before ((p, k) ∷ ts) h = absurd h
+
+-- there is a unit in each chain
+some_units : {n : ℕ} {sign : Token} {ts : Tokens} {fs : List (Formula Atom)} → AreUnits n sign ts fs → 1 ≤ length fs
+some_units (last f u) = omega arith
+some_units (more front p back e u us) = omega arith
+
+-- a chain has no more units than tokens and one
+chain_long : {n : ℕ} {sign : Token} {ts : Tokens} {fs : List (Formula Atom)} → AreUnits n sign ts fs → length fs ≤ length ts + 1
+chain_long (last f u) = omega arith
+chain_long (more {sign = sign} {ts = ts} front p back e u us) = omega (arith, chain_long us, length-append front ((p, sign) ∷ back), ap length e)
+
+-- the unit of a chain is read, and the sign behind it
+unit_more : (end : ℕ) (inside : Inside) (goes : ℕ → List (Formula Atom) → Tokens → Reading (Formula Atom)) (m : ℕ) (before : List (Formula Atom)) (f : Formula Atom) (ts mid : Tokens) → unit end inside ts ≡ Read f mid → next_unit end inside goes m before ts ≡ goes m (before ++ f ∷ []) mid
+unit_more end inside goes m before f ts mid e = behind (unit end inside ts) f mid (λ g more. goes m (before ++ g ∷ []) more) e
+
+-- tokens behind tokens
+regroup : (ts front : Tokens) (place : ℕ) (sign : Token) (back rest : Tokens) → ts ≡ front ++ (place, sign) ∷ back → ts ++ rest ≡ front ++ (place, sign) ∷ (back ++ rest)
+regroup ts front place sign back rest e = ap (λ xs. xs ++ rest) e ∙ append_assoc front ((place, sign) ∷ back) rest
+
+-- a level's inside is read at the next level
+negated_read : (end n place : ℕ) (ts inner : Tokens) (f : Formula Atom) (rest : Tokens) → ts ≡ (place, Not) ∷ inner → operand end (levels end n) (inner ++ rest) ≡ Read f rest → OperandRead end (levels end (suc n)) ts (Negation f) rest
+negated_read end n place ts inner f rest e reads =
+    let reads_on = behind (operand end (levels end n) (inner ++ rest)) f rest (λ g more. Read (Negation g) more) reads in
+    (ap (λ xs. operand end (levels end (suc n)) (xs ++ rest)) e ∙ reads_on, ap (λ xs. unit end (levels end (suc n)) (xs ++ rest)) e ∙ reads_on)
+
+enclosed_read : (end n opening closing : ℕ) (ts inner : Tokens) (f : Formula Atom) (rest : Tokens) → ts ≡ (opening, Open) ∷ (inner ++ (closing, Close) ∷ []) → whole end (levels end n) (inner ++ (closing, Close) ∷ rest) ≡ Read f ((closing, Close) ∷ rest) → OperandRead end (levels end (suc n)) ts f rest
+enclosed_read end n opening closing ts inner f rest e reads =
+    let all : ts ++ rest ≡ (opening, Open) ∷ (inner ++ (closing, Close) ∷ rest) = ap (λ xs. xs ++ rest) e ∙ ap (λ xs. (opening, Open) ∷ xs) (append_assoc inner ((closing, Close) ∷ []) rest) in
+    let reads_on = behind (whole end (levels end n) (inner ++ (closing, Close) ∷ rest)) f ((closing, Close) ∷ rest) (closed end) reads in
+    (ap (operand end (levels end (suc n))) all ∙ reads_on, ap (unit end (levels end (suc n))) all ∙ reads_on)
+
+-- the chain behind the first unit and its sign
+joined_read : (end : ℕ) (inside : Inside) (f : Formula Atom) (ts front : Tokens) (mid rest : Tokens) (g : Formula Atom) → ts ++ rest ≡ front ++ mid → unit end inside (front ++ mid) ≡ Read f mid → joined end inside f mid ≡ Read g rest → whole end inside (ts ++ rest) ≡ Read g rest
+joined_read end inside f ts front mid rest g e reads joins = ap (whole end inside) e ∙ behind (unit end inside (front ++ mid)) f mid (joined end inside) reads ∙ joins
+
+mutual
+  operand_read : {n : ℕ} {ts : Tokens} {f : Formula Atom} → IsOperand n ts f → (end : ℕ) (rest : Tokens) → EndsUnit rest → OperandRead end (levels end n) ts f rest
+  operand_read {ts = ts} (is_truth b h) end rest stop = truth_read end _ ts b rest h
+  operand_read {ts = ts} (is_bare p h) end rest stop = bare_read end _ ts p rest h stop
+  operand_read {ts = ts} (is_negation {n = n} {f = f} place inner e h) end rest stop = negated_read end n place ts inner f rest e (operand_read h end rest stop).0
+  operand_read {ts = ts} {f = f} (is_enclosed {n = n} opening closing inner e h) end rest stop = enclosed_read end n opening closing ts inner f rest e (match_read h end ((closing, Close) ∷ rest) tt)
+
+  unit_read : {n : ℕ} {ts : Tokens} {f : Formula Atom} → IsUnit n ts f → (end : ℕ) (rest : Tokens) → EndsUnit rest → unit end (levels end n) (ts ++ rest) ≡ Read f rest
+  unit_read (plain o) end rest stop = (operand_read o end rest stop).1
+  unit_read {ts = ts} (comparison p r s h) end rest stop = comparison_read end _ ts p r s rest h stop
+
+  units_read : {n : ℕ} {sign : Token} {ts : Tokens} {fs : List (Formula Atom)} → AreUnits n sign ts fs → (end : ℕ) (goes : ℕ → List (Formula Atom) → Tokens → Reading (Formula Atom)) (make : Formulas Atom → Formula Atom) → Chain end (levels end n) sign goes make → (m : ℕ) (before : List (Formula Atom)) (rest : Tokens) → length fs ≤ suc m → EndsMatch rest → next_unit end (levels end n) goes m before (ts ++ rest) ≡ Read (make (formulas (before ++ fs))) rest
+  units_read {n = n} {ts = ts} (last f u) end goes make chain m before rest le stop = unit_more end (levels end n) goes m before f (ts ++ rest) rest (unit_read u end rest (ends_unit rest stop)) ∙ chain.stop m (before ++ f ∷ []) rest stop
+  units_read (more front p back e u us) end goes make chain zero before rest le stop = absurd (omega (arith, some_units us))
+  units_read {n = n} {sign = sign} {ts = ts} (more {f = f} {fs = fs} front p back e u us) end goes make chain (suc m) before rest le stop =
+      let le' : length fs ≤ suc m = omega arith in
+      ap (next_unit end (levels end n) goes (suc m) before) (regroup ts front p sign back rest e)
+      ∙ unit_more end (levels end n) goes (suc m) before f (front ++ (p, sign) ∷ (back ++ rest)) ((p, sign) ∷ (back ++ rest)) (unit_read u end ((p, sign) ∷ (back ++ rest)) (chain.ends p (back ++ rest)))
+      ∙ chain.step m (before ++ f ∷ []) p (back ++ rest)
+      ∙ units_read us end goes make chain m (before ++ f ∷ []) rest le' stop
+      ∙ ap (λ xs. Read (make (formulas xs)) rest) (append_assoc before (f ∷ []) fs)
+
+  match_read : {n : ℕ} {ts : Tokens} {f : Formula Atom} → IsMatch n ts f → (end : ℕ) (rest : Tokens) → EndsMatch rest → whole end (levels end n) (ts ++ rest) ≡ Read f rest
+  match_read {n = n} {ts = ts} {f = f} (alone u) end rest stop = joined_read end (levels end n) f ts ts rest rest f refl (unit_read u end rest (ends_unit rest stop)) (alone_joined end (levels end n) f rest stop)
+  match_read {n = n} {ts = ts} (all f g fs (more front p back e u us)) end rest stop =
+      let long : length (g ∷ fs) ≤ suc (length (back ++ rest)) = omega (arith, chain_long us, length-append back rest) in
+      joined_read end (levels end n) f ts front ((p, And) ∷ (back ++ rest)) rest (Conjunction (formulas (f ∷ g ∷ fs))) (regroup ts front p And back rest e) (unit_read u end ((p, And) ∷ (back ++ rest)) tt)
+      (units_read us end (conjuncts end (levels end n)) Conjunction (conjunction end (levels end n)) (length (back ++ rest)) (f ∷ []) rest long stop)
+  match_read {n = n} {ts = ts} (any f g fs (more front p back e u us)) end rest stop =
+      let long : length (g ∷ fs) ≤ suc (length (back ++ rest)) = omega (arith, chain_long us, length-append back rest) in
+      joined_read end (levels end n) f ts front ((p, Or) ∷ (back ++ rest)) rest (Disjunction (formulas (f ∷ g ∷ fs))) (regroup ts front p Or back rest e) (unit_read u end ((p, Or) ∷ (back ++ rest)) tt)
+      (units_read us end (disjuncts end (levels end n)) Disjunction (disjunction end (levels end n)) (length (back ++ rest)) (f ∷ []) rest long stop)
+
+pub whole_read : {n : ℕ} {ts : Tokens} {f : Formula Atom} → IsMatch n ts f → (len end : ℕ) → end ≡ len → and_behind (whole end (levels end n) ts) (finished len end) ≡ Read f []
+whole_read {n = n} {ts = ts} {f = f} h len end same =
+    let reads : whole end (levels end n) ts ≡ Read f [] = ap (whole end (levels end n)) (sym (append-nil ts)) ∙ match_read h end [] tt in
+    behind (whole end (levels end n) ts) f [] (finished len end) reads ∙ ap (λ b. if b then Read f [] else Fails (Syntax end)) (eq-eqb end len same)

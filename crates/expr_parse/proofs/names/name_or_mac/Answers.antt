@@ -1,0 +1,27 @@
+use Rattle.std.proofs.Common.{◌<◌, ◌∙◌, arith}
+use Rattle.std.specs.List.{prefix_len}
+use Rattle.std.proofs.lemmas.Option.{none-some, same_Some}
+use Rattle.expr_parse.specs.Spelling.{is_in_name}
+use Rattle.expr_parse.proofs.NameFronts.{mac_wins, name_wins, letter_name, name_length}
+use Rattle.expr_parse.proofs.names.name_or_mac.Goals as goal
+use Rattle.expr_parse.proofs.names.name_or_mac.Goals.{then-name-lt-MAC_LEN+in_default, else-name-lt-MAC_LEN}
+
+pub returns-in_err-name : goal.returns-in_err-name
+returns-in_err-name c = absurd (none-some _ (c.in_err-name.ensures ∙ letter_name c.args.text.now c.requires.some c.requires.first))
+
+pub returns-in-Some : goal.returns-in-Some
+returns-in-Some c =
+    let text = c.args.text.now in
+    let run = same_Some _ _ (c.in_ok-name.ensures ∙ letter_name text c.requires.some c.requires.first) in
+    let short : prefix_len is_in_name text < 17 = omega (arith, name_length text c.in_ok-name.name.now run) in
+    mac_wins text c.in-Some.mac c.requires.some c.requires.first short c.in-Some.ensures
+
+pub returns : goal.returns
+returns c =
+    let text = c.args.text.now in
+    let run = same_Some _ _ (c.in_ok-name.ensures ∙ letter_name text c.requires.some c.requires.first) in
+    let long = name_length text c.in_ok-name.name.now run in
+    rw (long, run) (name_wins text c.requires.some c.requires.first (λ short. elim c.if-name-lt-MAC_LEN.branch [
+      | then-name-lt-MAC_LEN+in_default w ↦ w.in_default.ensures
+      | else-name-lt-MAC_LEN w ↦ absurd (omega (arith, long))
+    ]))

@@ -1,0 +1,98 @@
+-- Which texts spell a token.
+use Rattle.std.specs.Prelude.{ℕ, ◌-◌, ◌==◌, ◌||◌, ◌&&◌, Bool, false, nat_le, nat_lt, nat_eq, List, [], ◌∷◌, length, take, drop, slice_index, Option, Some, None, codes, if◌then◌else◌}
+use Rattle.std.specs.Char.{is_digit}
+use Rattle.std.specs.List.{list_all, starts_with, take_while}
+use Rattle.std.specs.Cmp.Lexicographic.{pointwise}
+use Rattle.std.specs.Option.{option_map}
+use Rattle.nv_base.specs.Name.{is_object_name}
+use Rattle.nv_base.specs.Number.{decimal_of, hexadecimal_of}
+use Rattle.nv_base.specs.Mac.{mac_of}
+use Rattle.nv_base.specs.Ip4.{ip4_of}
+use Rattle.expr_core.specs.declared.constant.Const.{Const}
+use Rattle.expr_core.specs.declared.constant.Form.{Form}
+use Rattle.expr_core.specs.declared.constant.Form.TheVariants as form
+use Rattle.expr_core.specs.declared.comparison.Rel.TheVariants.{Eq, Ne, Lt, Le, Gt, Ge}
+use Rattle.expr_parse.specs.Class.{is_between, begins_name}
+use Rattle.expr_parse.specs.Token.{Token}
+use Rattle.expr_parse.specs.Token.Token.{Name, Number, Text, AddrSet, Group, Relation, And, Or, Not, Open, Close, OpenBrace, CloseBrace, OpenBracket, CloseBracket, Comma, Slash, Dots}
+
+-- the first of two that is there
+abbrev pub or_else : {T : Type 0} → Option T → Option T → Option T
+or_else None second = second
+or_else (Some t) second = Some t
+
+-- a letter, a digit, `_` or `.`
+abbrev pub is_in_name : ℕ → Bool
+is_in_name byte = begins_name byte || is_between 48 57 byte || (byte == 46)
+
+-- a letter or `_`, and then letters, digits, `_` and `.`
+abbrev pub is_name : List ℕ → Bool
+is_name [] = false
+is_name (b ∷ bs) = begins_name b && list_all is_in_name bs
+
+-- the longest name at the front of a text
+abbrev pub front_name : List ℕ → Option (List ℕ)
+front_name text = if nat_lt 0 (length text) && begins_name (slice_index text 0) then Some (take_while is_in_name text) else None
+
+-- a name, behind this byte
+abbrev pub name_behind : ℕ → List ℕ → Option (List ℕ)
+name_behind mark [] = None
+name_behind mark (b ∷ bs) = if (b == mark) && is_name bs then Some bs else None
+
+-- the name of a port, or of a multicast group
+abbrev pub is_quotable : List ℕ → Bool
+is_quotable text = is_object_name text || pointwise nat_eq text (codes "_MC_flood") || pointwise nat_eq text (codes "_MC_unknown")
+
+-- what stands between the first byte and the last
+abbrev pub inside : List ℕ → List ℕ
+inside text = take (length text - 2) (drop 1 text)
+
+-- the text begins and ends with a double quote
+abbrev pub is_quoted : List ℕ → Bool
+is_quoted text = nat_le 2 (length text) && (slice_index text 0 == 34) && (slice_index text (length text - 1) == 34)
+
+-- what stands between double quotes, where it may
+abbrev pub quoted_of : List ℕ → Option (List ℕ)
+quoted_of text = if is_quoted text && is_quotable (inside text) then Some (inside text) else None
+
+-- the constant of this form and number
+abbrev pub constant : Form → ℕ → Const
+constant f n = record { form = f; value = n }
+
+-- the number behind `0x`
+abbrev pub number_behind_0x : List ℕ → Option ℕ
+number_behind_0x text = if starts_with nat_eq text (codes "0x") then hexadecimal_of (drop 2 text) else None
+
+-- the constant that a text spells
+abbrev pub constant_of : List ℕ → Option Const
+constant_of text =
+    or_else (option_map (constant form.Dec) (decimal_of text))
+    (or_else (option_map (constant form.Hex) (number_behind_0x text))
+    (or_else (option_map (constant form.Mac) (mac_of text))
+    (option_map (λ a. constant form.Ip4 a.0) (ip4_of text))))
+
+-- a byte that constants are spelled with: a hexadecimal digit, `x`, `.` or `:`
+abbrev pub is_in_constant : ℕ → Bool
+is_in_constant byte = is_digit byte 16 || (byte == 120) || (byte == 46) || (byte == 58)
+
+-- the signs, and how each is spelled
+abbrev pub signs : List (List ℕ × Token)
+signs =
+    (codes "(", Open) ∷ (codes ")", Close) ∷ (codes "{", OpenBrace) ∷ (codes "}", CloseBrace) ∷ (codes "[", OpenBracket) ∷ (codes "]", CloseBracket)
+    ∷ (codes ",", Comma) ∷ (codes "/", Slash) ∷ (codes "..", Dots) ∷ (codes "!", Not) ∷ (codes "&&", And) ∷ (codes "||", Or)
+    ∷ (codes "==", Relation Eq) ∷ (codes "!=", Relation Ne) ∷ (codes "<", Relation Lt) ∷ (codes "<=", Relation Le) ∷ (codes ">", Relation Gt) ∷ (codes ">=", Relation Ge) ∷ []
+
+-- the sign of this spelling, among these
+abbrev pub sign_among : List (List ℕ × Token) → List ℕ → Option Token
+sign_among [] text = None
+sign_among (s ∷ ss) text = if pointwise nat_eq s.0 text then Some s.1 else sign_among ss text
+
+-- the token that the whole text spells
+unfoldable pub spelled : List ℕ → Option Token
+spelled text =
+    or_else (sign_among signs text)
+    (or_else (if is_name text then Some (Name text) else None)
+    (or_else (option_map Number (constant_of text))
+    (or_else (option_map Text (quoted_of text))
+    (or_else (option_map AddrSet (name_behind 36 text))
+    (option_map Group (name_behind 64 text))))))

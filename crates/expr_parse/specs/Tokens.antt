@@ -1,0 +1,41 @@
+-- The tokens of a text: the longest that fits at each place, with blanks between.
+use Rattle.std.specs.Prelude.{ℕ, zero, suc, ◌+◌, ◌==◌, ◌||◌, Bool, List, [], ◌∷◌, length, take, drop, Option, Some, None}
+use Rattle.std.specs.List.{prefix_len}
+use Rattle.std.specs.Option.{option_map}
+use Rattle.expr_parse.specs.Token.{Token, Tokens}
+use Rattle.expr_parse.specs.Spelling.{or_else, spelled}
+
+-- a space or a tab
+abbrev pub is_blank : ℕ → Bool
+is_blank byte = (byte == 32) || (byte == 9)
+
+-- how many blanks the text begins with
+abbrev pub blanks : List ℕ → ℕ
+blanks text = prefix_len is_blank text
+
+-- the token of the longest front of at most so many bytes that is one, and how many bytes it takes
+abbrev pub longest : (List ℕ → Option Token) → ℕ → List ℕ → Option (Token × ℕ)
+longest token zero text = None
+longest token (suc n) text = or_else (option_map (λ t. (t, suc n)) (token (take (suc n) text))) (longest token n text)
+
+-- the longest token at the front of the text
+abbrev pub first_token : List ℕ → Option (Token × ℕ)
+first_token text = longest spelled (length text) text
+
+-- a token in front of others
+abbrev pub in_front : ℕ → Token → Tokens × ℕ → Tokens × ℕ
+in_front place token others = ((place, token) ∷ others.0, others.1)
+
+-- what stands from a place on: the token found there, and what stands behind it
+abbrev pub tokens_at : (ℕ → List ℕ → Tokens × ℕ) → ℕ → List ℕ → Option (Token × ℕ) → Tokens × ℕ
+tokens_at behind place text None = ([], place)
+tokens_at behind place text (Some found) = in_front place found.0 (behind (place + found.1) (drop found.1 text))
+
+-- the first tokens, at most so many, of the text that stands at this place, and the place where they end
+abbrev pub tokens_from : ℕ → ℕ → List ℕ → Tokens × ℕ
+tokens_from zero place text = ([], place)
+tokens_from (suc n) place text = tokens_at (tokens_from n) (place + blanks text) (drop (blanks text) text) (first_token (drop (blanks text) text))
+
+-- the tokens of a text, and the place of the first byte that begins none, or of the end
+abbrev pub tokens_of : List ℕ → Tokens × ℕ
+tokens_of text = tokens_from (length text + 1) 0 text

@@ -1,0 +1,158 @@
+-- Trees that have a text, and the tokens of that text.
+use Rattle.std.specs.Prelude.{◌≡◌, ℕ, ◌+◌, ◌<◌, ◌^◌, Bool, true, max, List, [], ◌∷◌, ◌++◌, length, if◌then◌else◌}
+use Rattle.expr_core.specs.Formula.{Formula, Formulas}
+use Rattle.expr_core.specs.Formula.Formula.{Leaf, Not as Negation, And as Conjunction, Or as Disjunction}
+use Rattle.expr_core.specs.Formula.Formulas.{Nil, Cons}
+use Rattle.expr_core.specs.Text.{is_joined, needs_parentheses, expr_writing, expr_text}
+use Rattle.expr_core.specs.declared.constant.Const.{Const}
+use Rattle.expr_core.specs.declared.constant.Form.{Form}
+use Rattle.expr_core.specs.declared.constant.Form.TheVariants.{Dec, Hex, Mac, Ip4}
+use Rattle.expr_core.specs.declared.comparison.Item.{Item}
+use Rattle.expr_core.specs.declared.comparison.Item.TheVariants as item_of
+use Rattle.expr_core.specs.declared.comparison.Right.{Right}
+use Rattle.expr_core.specs.declared.comparison.Right.TheVariants as right_of
+use Rattle.expr_core.specs.declared.expr.Atom.{Atom}
+use Rattle.expr_core.specs.declared.expr.Atom.TheVariants.{Truth, Bare, Compare}
+use Rattle.expr_core.specs.declared.part.Part.{Part}
+use Rattle.expr_parse.specs.Spelling.{is_name, is_quotable}
+use Rattle.expr_parse.specs.Token.{Token}
+use Rattle.expr_parse.specs.Token.Token.{Name, Relation, And, Or, Not, Open, Close, OpenBrace, CloseBrace}
+use Rattle.expr_parse.specs.Tokens.{tokens_of}
+use Rattle.expr_parse.specs.Grammar.{reading}
+use Rattle.expr_parse.specs.Grammar.Reading.{Read}
+use Rattle.expr_parse.specs.Rules.{kinds, decimal, truth_number, bits_tokens, AreBits, item_tokens, items_tokens}
+
+-- Well-formed trees: each part can be spelled.
+
+-- the numbers that a form spells are below this one
+abbrev pub limit : Form → ℕ
+limit Dec = 2 ^ 128
+limit Hex = 2 ^ 128
+limit Mac = 2 ^ 48
+limit Ip4 = 2 ^ 32
+
+abbrev pub IsConst : Const → Type 0
+IsConst c = c.value < limit c.form
+
+abbrev pub IsItem : Item → Type 0
+IsItem (item_of.One c) = IsConst c
+IsItem (item_of.Masked c m) = IsConst c × IsConst m
+IsItem (item_of.Text name) = is_quotable name ≡ true
+IsItem (item_of.AddrSet name) = is_name name ≡ true
+IsItem (item_of.Group name) = is_name name ≡ true
+
+abbrev pub AreItems : List Item → Type 0
+AreItems [] = Unit {0}
+AreItems (i ∷ is) = IsItem i × AreItems is
+
+-- a set has one item or more
+abbrev pub IsRightSide : Right → Type 0
+IsRightSide (right_of.Item i) = IsItem i
+IsRightSide (right_of.Set []) = ⊥
+IsRightSide (right_of.Set (i ∷ is)) = IsItem i × AreItems is
+
+abbrev pub IsPartName : Part → Type 0
+IsPartName p = (is_name p.name ≡ true) × AreBits p.bits
+
+abbrev pub IsLeaf : Atom → Type 0
+IsLeaf (Truth b) = Unit {0}
+IsLeaf (Bare p) = IsPartName p
+IsLeaf (Compare p r s) = IsPartName p × IsRightSide s
+
+-- two or more
+abbrev pub AreTwo : Formulas Atom → Type 0
+AreTwo Nil = ⊥
+AreTwo (Cons f Nil) = ⊥
+AreTwo (Cons f (Cons g fs)) = Unit {0}
+
+abbrev mutual
+  pub IsWellFormed : Formula Atom → Type 0
+  IsWellFormed (Leaf a) = IsLeaf a
+  IsWellFormed (Negation f) = IsWellFormed f
+  IsWellFormed (Conjunction fs) = AreTwo fs × AreWellFormed fs
+  IsWellFormed (Disjunction fs) = AreTwo fs × AreWellFormed fs
+
+  pub AreWellFormed : Formulas Atom → Type 0
+  AreWellFormed Nil = Unit {0}
+  AreWellFormed (Cons f fs) = IsWellFormed f × AreWellFormed fs
+
+-- How many levels are open in the canonical text of a tree, at the place where most are: each `!` and each `(` opens one.
+
+-- one more, where there are parentheses
+abbrev pub one_if : Bool → ℕ
+one_if parentheses = if parentheses then 1 else 0
+
+abbrev mutual
+  pub levels_of : Formula Atom → ℕ
+  levels_of (Leaf a) = 0
+  levels_of (Negation f) = 1 + (one_if (needs_parentheses expr_writing f) + levels_of f)
+  levels_of (Conjunction fs) = levels_among fs
+  levels_of (Disjunction fs) = levels_among fs
+
+  pub levels_among : Formulas Atom → ℕ
+  levels_among Nil = 0
+  levels_among (Cons f fs) = max (one_if (is_joined f) + levels_of f) (levels_among fs)
+
+-- The tokens of the canonical text.
+
+abbrev pub part_tokens : Part → List Token
+part_tokens p = Name p.name ∷ bits_tokens p.bits
+
+abbrev pub right_tokens : Right → List Token
+right_tokens (right_of.Item i) = item_tokens i
+right_tokens (right_of.Set []) = OpenBrace ∷ CloseBrace ∷ []
+right_tokens (right_of.Set (i ∷ is)) = OpenBrace ∷ (items_tokens i is ++ CloseBrace ∷ [])
+
+abbrev pub atom_tokens : Atom → List Token
+atom_tokens (Truth b) = decimal (truth_number b) ∷ []
+atom_tokens (Bare p) = part_tokens p
+atom_tokens (Compare p r s) = part_tokens p ++ Relation r ∷ right_tokens s
+
+abbrev pub enclosed_tokens : Bool → List Token → List Token
+enclosed_tokens parentheses ts = if parentheses then Open ∷ (ts ++ Close ∷ []) else ts
+
+abbrev mutual
+  pub tree_tokens : Formula Atom → List Token
+  tree_tokens (Leaf a) = atom_tokens a
+  tree_tokens (Negation f) = Not ∷ enclosed_tokens (needs_parentheses expr_writing f) (tree_tokens f)
+  tree_tokens (Conjunction fs) = operand_tokens And fs
+  tree_tokens (Disjunction fs) = operand_tokens Or fs
+
+  -- operands with a sign in front of each but the first
+  pub operand_tokens : Token → Formulas Atom → List Token
+  operand_tokens sign Nil = []
+  operand_tokens sign (Cons f fs) = enclosed_tokens (is_joined f) (tree_tokens f) ++ more_tokens sign fs
+
+  pub more_tokens : Token → Formulas Atom → List Token
+  more_tokens sign Nil = []
+  more_tokens sign (Cons f fs) = sign ∷ (enclosed_tokens (is_joined f) (tree_tokens f) ++ more_tokens sign fs)
+
+-- The tokens of the tree's text reach its end, and are the tree's.
+pub record IsLexed (f : Formula Atom) : Type 0 where
+  pub whole : (tokens_of (expr_text f)).1 ≡ length (expr_text f)
+  pub tokens : kinds (tokens_of (expr_text f)).0 ≡ tree_tokens f
+
+-- Equality that leaves places out.
+
+abbrev pub unplaced_part : Part → Part
+unplaced_part p = record { name = p.name; bits = p.bits; place = 0 }
+
+abbrev pub unplaced_atom : Atom → Atom
+unplaced_atom (Truth b) = Truth b
+unplaced_atom (Bare p) = Bare (unplaced_part p)
+unplaced_atom (Compare p r s) = Compare (unplaced_part p) r s
+
+abbrev mutual
+  pub unplaced : Formula Atom → Formula Atom
+  unplaced (Leaf a) = Leaf (unplaced_atom a)
+  unplaced (Negation f) = Negation (unplaced f)
+  unplaced (Conjunction fs) = Conjunction (all_unplaced fs)
+  unplaced (Disjunction fs) = Disjunction (all_unplaced fs)
+
+  pub all_unplaced : Formulas Atom → Formulas Atom
+  all_unplaced Nil = Nil
+  all_unplaced (Cons f fs) = Cons (unplaced f) (all_unplaced fs)
+
+-- The text of a tree is read as the tree, its places left out.
+abbrev pub IsReadAgain : Formula Atom → Type 0
+IsReadAgain f = (g : Formula Atom) × (reading (expr_text f) ≡ Read g []) × (unplaced g ≡ unplaced f)

@@ -1,0 +1,28 @@
+//! The laws of the reader: what is read is what the rules of the grammar allow, and what is written is read again.
+ghost use Rattle.std.specs.Prelude.{◌≡◌, ◌≤◌, ℕ, List, []};
+ghost use Rattle.expr_core.specs.Formula.{Formula};
+ghost use Rattle.expr_core.specs.declared.expr.Atom.{Atom};
+ghost use Rattle.expr_parse.specs.Grammar.{level_limit, reading};
+ghost use Rattle.expr_parse.specs.Grammar.Reading.{Read};
+ghost use Rattle.expr_parse.specs.Rules.{IsText};
+ghost use Rattle.expr_parse.specs.Written.{IsWellFormed, IsLexed, IsReadAgain, levels_of};
+
+/// What is read of a text is a match by the rules of the grammar.
+pub fn what_is_read_is_a_match()
+    ensures { (text : List ℕ) (f : Formula Atom) → reading text ≡ Read f [] → IsText text f }
+{}
+
+/// What is a match by the rules of the grammar is read. So a text is one match at most.
+pub fn a_match_is_read()
+    ensures { (text : List ℕ) (f : Formula Atom) → IsText text f → reading text ≡ Read f [] }
+{}
+
+/// The tokens of a well-formed match's canonical text are the match's, and reach the end of the text.
+pub fn written_matches_have_their_tokens()
+    ensures { (f : Formula Atom) → IsWellFormed f → IsLexed f }
+{}
+
+/// The canonical text of a well-formed match, where it opens at most 64 levels, is read as the match, places left out.
+pub fn written_matches_are_read()
+    ensures { (f : Formula Atom) → IsWellFormed f → levels_of f ≤ level_limit → IsReadAgain f }
+{}

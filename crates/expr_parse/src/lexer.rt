@@ -1,0 +1,68 @@
+//! The tokens of a text.
+ghost use Rattle.std.specs.Prelude.{◌≡◌, ◌+◌, ◌<◌, ◌≤◌, ◌^◌, drop, length, map, option_map, IfOk};
+ghost use Rattle.expr_parse.specs.Token.{found_token, placed_token};
+ghost use Rattle.expr_parse.specs.Tokens.{blanks, first_token, is_blank, tokens_of};
+
+use crate::class::{Class, class_of};
+use crate::constants::constant;
+use crate::lexeme::{Found, Placed};
+use crate::names::{address_set, group, name_or_mac};
+use crate::quoted::quoted;
+use crate::signs::sign;
+use nv_base::OutOfMemory;
+use std::alloc::Global;
+
+/// Whether the byte is a space or a tab.
+fn is_blank(byte: u8) -> bool
+    ensures { result ≡ is_blank byte }
+{
+    matches!(byte, b' ' | b'\t')
+}
+
+/// How many blanks the text begins with.
+fn blanks(text: &[u8]) -> usize
+    ensures { result ≡ blanks text.now }
+{
+    text.iter().take_while(|byte| is_blank(**byte)).count()
+}
+
+/// The place of the first byte from this place on that is no blank, or of the end.
+fn after_blanks(text: &[u8], place: usize) -> usize
+    requires short { length text.now < 2 ^ 32 }
+    requires within { place ≤ length text.now }
+    ensures value { result ≡ place + blanks (drop place text.now) }
+    ensures within { result ≤ length text.now }
+{
+    place + blanks(&text[place..])
+}
+
+/// The longest token at the front of the text, which its first byte tells the kind of.
+fn first_token(text: &[u8]) -> Option<Found<'_>>
+    ensures { option_map found_token result ≡ first_token text.now }
+{
+    match class_of(*text.first()?) {
+        Class::Letter => name_or_mac(text),
+        Class::Digit => constant(text),
+        Class::Quote => quoted(text),
+        Class::Dollar => address_set(text),
+        Class::At => group(text),
+        Class::Other => sign(text),
+    }
+}
+
+/// The tokens of a text, and the place of the first byte that begins none, or of the end.
+pub(crate) fn tokens(alloc: Global, text: &[u8]) -> Result<(Vec<Placed<'_>>, u32), OutOfMemory>
+    requires { length text.now < 2 ^ 32 }
+    ensures { IfOk result (λ lexed. (map placed_token lexed.0.items, lexed.1) ≡ tokens_of text.now) }
+{
+    let mut tokens = Vec::new(alloc);
+    let mut at = after_blanks(text, 0);
+    while let Some(found) = first_token(&text[at..]) {
+        tokens.push(Placed {
+            place: at as u32,
+            lexeme: found.lexeme,
+        })?;
+        at = after_blanks(text, at + found.len);
+    }
+    Ok((tokens, at as u32))
+}

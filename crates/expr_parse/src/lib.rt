@@ -1,0 +1,29 @@
+//! The reader of the match language of ovn-sb(5), in this profile.
+#![tactic(auto)]
+
+mod atom;
+mod class;
+mod constants;
+mod fault;
+mod formula;
+mod laws;
+mod lexeme;
+mod lexer;
+#[cfg(test)]
+mod lexer_tests;
+mod names;
+mod part;
+mod quoted;
+mod reader;
+#[cfg(test)]
+mod reader_tests;
+mod right;
+mod signs;
+mod tail;
+
+pub use fault::MatchFault;
+pub use laws::{
+    a_match_is_read, what_is_read_is_a_match, written_matches_are_read,
+    written_matches_have_their_tokens,
+};
+pub use reader::parse_match;

@@ -1,0 +1,38 @@
+ghost use Rattle.std.specs.Prelude.{◌≡◌, ◌<◌, ◌^◌, false, [], length, IfOk, IfErr};
+ghost use Rattle.expr_parse.specs.Gives.{seen};
+ghost use Rattle.expr_parse.specs.Grammar as grammar;
+ghost use Rattle.expr_parse.specs.Grammar.Reading.{Read, Fails};
+
+use crate::MatchFault;
+use crate::formula::whole;
+use crate::lexeme::Placed;
+use crate::lexer::tokens;
+use crate::tail::stuck;
+use expr_core::Expr;
+use std::alloc::Global;
+
+/// How many levels may be open at a place.
+const LEVEL_LIMIT: u8 = 64;
+
+/// The match that these tokens are, which end at this place of a text that is so long.
+fn match_of(alloc: Global, tokens: &[Placed<'_>], end: u32, len: usize) -> Result<Expr, MatchFault>
+    ensures tree { IfOk result (λ e. grammar.match_of len (seen tokens.now, end) ≡ Read e []) }
+    ensures fault { IfErr result (λ f. grammar.is_memory f ≡ false → grammar.match_of len (seen tokens.now, end) ≡ Fails f) }
+{
+    let (tree, rest) = whole(alloc, end, LEVEL_LIMIT, tokens)?;
+    if rest.is_empty() && end as usize == len {
+        Ok(tree)
+    } else {
+        Err(stuck(end, rest))
+    }
+}
+
+/// Reads a match. Every fault is the first from the left; after `Memory` nothing is said of the text.
+pub fn parse_match(alloc: Global, text: &[u8]) -> Result<Expr, MatchFault>
+    requires { length text.now < 2 ^ 32 }
+    ensures tree { IfOk result (λ e. grammar.reading text.now ≡ Read e []) }
+    ensures fault { IfErr result (λ f. grammar.is_memory f ≡ false → grammar.reading text.now ≡ Fails f) }
+{
+    let (tokens, end) = tokens(alloc, text)?;
+    match_of(alloc, &tokens, end, text.len())
+}

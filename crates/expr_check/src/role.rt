@@ -1,0 +1,12 @@
+/// Where a match stands.
+#[derive(Clone, Copy, Debug, PartialEq, Eq)]
+pub enum Role {
+    /// In a row of flows.
+    Row,
+    /// In an ACL for packets from ports.
+    AclFrom,
+    /// In an ACL for packets to ports.
+    AclTo,
+    /// In a microflow.
+    Micro,
+}

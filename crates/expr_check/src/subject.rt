@@ -1,0 +1,24 @@
+ghost use Rattle.std.specs.Prelude.{◌≡◌};
+ghost use Rattle.expr_check.specs.Subject.{subject_of};
+
+use expr_core::{Pred, pred_of};
+use nv_base::{Field, field_of};
+
+/// What a part's name stands for.
+#[derive(Clone, Copy, Debug)]
+pub(crate) enum Subject {
+    /// A field.
+    Field(Field),
+    /// A predicate.
+    Pred(Pred),
+}
+
+/// What the name stands for, if it is that of a field or of a predicate.
+pub(crate) fn subject_of(name: &[u8]) -> Option<Subject>
+    ensures { result ≡ subject_of name.now }
+{
+    match field_of(name) {
+        Some(field) => Some(Subject::Field(field)),
+        None => Some(Subject::Pred(pred_of(name)?)),
+    }
+}

@@ -13,7 +13,7 @@ const FIELD_COUNT: usize = 36;
 /// order of the fields.
 #[derive(Clone, Copy, Debug)]
 pub struct Packet {
-    pub(crate) numbers: [u128; FIELD_COUNT],
+    pub(crate) numbers: [u64; FIELD_COUNT],
 }
 
 impl Model for Packet {
@@ -45,7 +45,7 @@ impl Packet {
         ensures value { result ≡ value self.now field }
         ensures fits { result < 2 ^ field_width field }
     {
-        self.numbers[field as usize]
+        u128::from(self.numbers[field as usize])
     }
 
     /// Gives a field a number, which fits its width. The other fields stay.
@@ -56,7 +56,7 @@ impl Packet {
         ensures others { (other : Field) → place other ≢ place field
             → value self.new other ≡ value self.old other }
     {
-        self.numbers[field as usize] = number;
+        self.numbers[field as usize] = number as u64;
     }
 
     /// Exchanges the numbers of two fields of one width. The other fields stay.

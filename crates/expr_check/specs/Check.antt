@@ -73,8 +73,5 @@ abbrev mutual
 
 -- want of memory
 abbrev pub is_memory : TypeFault → Bool
-is_memory (UnknownField p) = false
-is_memory (NotAllowedHere p) = false
-is_memory (WrongWidth p) = false
-is_memory (WrongForm p) = false
 is_memory Memory = true
+is_memory _ = false

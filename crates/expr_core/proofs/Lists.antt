@@ -1,18 +1,9 @@
--- A list's text, one item on, and what it grows to.
-use Rattle.std.proofs.Common.{◌≡◌, ◌<◌, ◌+◌, ℕ, List, ◌++◌, length, drop, codes, slice_index_or, ap, ◌∙◌, append_assoc}
+-- A list's text, one item on.
+use Rattle.std.proofs.Common.{◌≡◌, ◌<◌, ◌+◌, ℕ, List, ◌++◌, length, drop, codes, slice_index_or, append_assoc}
 use Rattle.std.proofs.lemmas.List.{at_drop_more}
-use Rattle.nv_base.specs.Growth.{GrowsAtEnd}
 use Rattle.expr_core.specs.Formula.{Formula, formulas}
 use Rattle.expr_core.specs.Text.{item_text, items_text, Writing, is_joined, enclosed, formula_text, operands_text}
 use Rattle.expr_core.specs.declared.comparison.Item.{Item}
-
--- what grew at its end, and then by a list, grew at its end
-pub grows_on : (start middle end more : List ℕ) → GrowsAtEnd start middle → end ≡ middle ++ more → GrowsAtEnd start end
-grows_on start middle end more grown e = (grown.0 ++ more, e ∙ ap (λ l. l ++ more) grown.1 ∙ append_assoc start grown.0 more)
-
--- what grew at its end, and then again, grew at its end
-pub grows_more : (start middle end : List ℕ) → GrowsAtEnd start middle → GrowsAtEnd middle end → GrowsAtEnd start end
-grows_more start middle end grown more = grows_on start middle end more.0 grown more.1
 
 -- with this item's text at the end, the items behind it say the same
 pub item_appended : (items : List Item) (i : ℕ) (d : Item) (front there middle end : List ℕ) → i < length items

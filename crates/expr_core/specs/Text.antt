@@ -92,10 +92,9 @@ pub record Writing (A : Type 0) : Type 0 where
 
 -- two or more formulas that an operator joins
 abbrev pub is_joined : {A : Type 0} → Formula A → Bool
-is_joined (Leaf a) = false
-is_joined (Not f) = false
 is_joined (And fs) = true
 is_joined (Or fs) = true
+is_joined _ = false
 
 -- what `!` negates only in parentheses: what an operator joins, and a comparison
 abbrev pub needs_parentheses : {A : Type 0} → Writing A → Formula A → Bool
@@ -128,15 +127,12 @@ abbrev mutual
   operands_text w front operator (Cons f fs) = front ++ enclosed (is_joined f) (formula_text w f) ++ operands_text w operator operator fs
 
 abbrev pub is_comparison : Atom → Bool
-is_comparison (atom.Truth holds) = false
-is_comparison (atom.Bare p) = false
 is_comparison (atom.Compare p r s) = true
+is_comparison _ = false
 
 abbrev pub is_typed_comparison : TypedAtom → Bool
-is_typed_comparison (typed.Truth holds) = false
-is_typed_comparison (typed.Bare f bits) = false
-is_typed_comparison (typed.Holds p) = false
 is_typed_comparison (typed.Compare f bits r s) = true
+is_typed_comparison _ = false
 
 abbrev pub expr_writing : Writing Atom
 expr_writing = record { text = atom_text; compares = is_comparison }

@@ -2,7 +2,7 @@
 use Rattle.std.specs.Prelude.{ℕ, ◌+◌, ◌-◌, ◌/◌, ◌%◌, ◌^◌, Bool, true, false, ◌&&◌, if◌then◌else◌}
 use Rattle.expr_core.specs.declared.constant.Const.{Const}
 use Rattle.expr_core.specs.declared.constant.Form.{Form}
-use Rattle.expr_core.specs.declared.constant.Form.TheVariants.{Dec, Hex, Mac, Ip4}
+use Rattle.expr_core.specs.declared.constant.Form.TheVariants.{Dec, Ip4}
 use Rattle.expr_core.specs.declared.part.Bits.{Bits}
 use Rattle.expr_core.specs.declared.part.Bits.TheVariants.{Whole, Bit, Range}
 
@@ -20,15 +20,11 @@ bits_of (Range first last) number = number / 2 ^ first % 2 ^ (last - first + 1)
 
 abbrev pub is_decimal : Form → Bool
 is_decimal Dec = true
-is_decimal Hex = false
-is_decimal Mac = false
-is_decimal Ip4 = false
+is_decimal _ = false
 
 abbrev pub is_address : Form → Bool
-is_address Dec = false
-is_address Hex = false
-is_address Mac = false
 is_address Ip4 = true
+is_address _ = false
 
 -- behind an address, a decimal is the length of a prefix; all else is a mask
 abbrev pub is_prefix : Const → Const → Bool

@@ -37,11 +37,7 @@ equals net width n (right_of.Set is) = list_any (equals_item net width n) is
 -- the one number that a right side is, if it is one
 abbrev pub number_of : Right → Option ℕ
 number_of (right_of.Item (One c)) = Some c.value
-number_of (right_of.Item (Masked c m)) = None
-number_of (right_of.Item (Text name)) = None
-number_of (right_of.Item (AddrSet name)) = None
-number_of (right_of.Item (Group name)) = None
-number_of (right_of.Set is) = None
+number_of _ = None
 
 -- the test holds of the number, where there is one
 abbrev pub is_so : (ℕ → Bool) → Option ℕ → Bool

@@ -1,6 +1,7 @@
 -- What the reading of a part took.
 use Rattle.std.proofs.Common.{◌≡◌, ℕ, ◌≤◌, Bool, true, false, nat_le, ◌&&◌, if◌then◌else◌, List, [], ◌∷◌, ◌++◌, refl, sym, ap, subst, arith}
 use Rattle.std.proofs.lemmas.Bool.Decides.{nat_tests}
+use Rattle.expr_core.specs.Width.{is_decimal}
 use Rattle.expr_core.specs.declared.constant.Form.{Form}
 use Rattle.expr_core.specs.declared.constant.Form.TheVariants as form
 use Rattle.expr_core.specs.declared.part.Bits.{Bits}
@@ -9,7 +10,7 @@ use Rattle.expr_core.specs.declared.part.Part.{Part}
 use Rattle.expr_parse.specs.declared.fault.MatchFault.TheVariants.{Syntax}
 use Rattle.expr_parse.specs.Token.{Tokens}
 use Rattle.expr_parse.specs.Token.Token.{Name, Number, OpenBracket, CloseBracket, Dots}
-use Rattle.expr_parse.specs.Grammar.{is_decimal, bit_number, last_bit, first_bit, bits, part_of, part}
+use Rattle.expr_parse.specs.Grammar.{bit_number, last_bit, first_bit, bits, part_of, part}
 use Rattle.expr_parse.specs.Grammar.Reading.{Read, Fails}
 use Rattle.expr_parse.specs.Rules.{kinds, decimal, bits_tokens, AreBits, IsPart}
 use Rattle.expr_parse.proofs.Takes.{and_behind_read, read_is}

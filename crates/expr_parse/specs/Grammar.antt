@@ -2,9 +2,8 @@
 use Rattle.std.specs.Prelude.{ℕ, zero, suc, ◌==◌, ◌&&◌, Bool, true, false, nat_le, List, [], ◌∷◌, ◌++◌, length, if◌then◌else◌}
 use Rattle.expr_core.specs.Formula.{Formula, formulas}
 use Rattle.expr_core.specs.Formula.Formula.{Leaf, Not as Negation, And as Conjunction, Or as Disjunction}
+use Rattle.expr_core.specs.Width.{is_decimal}
 use Rattle.expr_core.specs.declared.constant.Const.{Const}
-use Rattle.expr_core.specs.declared.constant.Form.{Form}
-use Rattle.expr_core.specs.declared.constant.Form.TheVariants as form
 use Rattle.expr_core.specs.declared.comparison.Item.{Item}
 use Rattle.expr_core.specs.declared.comparison.Item.TheVariants as item_of
 use Rattle.expr_core.specs.declared.comparison.Right.{Right}
@@ -34,13 +33,6 @@ and_behind (Fails fault) go_on = Fails fault
 abbrev pub stuck : {T : Type 0} → ℕ → Tokens → Reading T
 stuck end [] = Fails (Syntax end)
 stuck end (t ∷ ts) = Fails (Syntax t.0)
-
--- a decimal constant
-abbrev pub is_decimal : Form → Bool
-is_decimal form.Dec = true
-is_decimal form.Hex = false
-is_decimal form.Mac = false
-is_decimal form.Ip4 = false
 
 -- the number of a bit: a decimal of at most 255
 abbrev pub bit_number : ℕ → Tokens → Reading ℕ
@@ -182,7 +174,5 @@ reading text = match_of (length text) (tokens_of text)
 
 -- want of memory
 abbrev pub is_memory : MatchFault → Bool
-is_memory (Syntax p) = false
-is_memory (Mixed p) = false
-is_memory (TooDeep p) = false
 is_memory Memory = true
+is_memory _ = false

@@ -2,6 +2,7 @@ pub mod ByteTrips
 pub mod Choices
 pub mod Digits
 pub mod Fields
+pub mod Growth
 pub mod Hexadecimal
 pub mod Parts
 pub mod PrefixTrips

@@ -1,11 +1,10 @@
--- A packet's text, one field on, and what it grows to.
-use Rattle.std.proofs.Common.{◌≡◌, ◌≢◌, ◌<◌, ◌+◌, ℕ, Bool, true, List, ◌∷◌, ◌++◌, length, drop, slice_index_or, refl, sym, ap, ◌∙◌, append_assoc}
+-- A packet's text, one field on.
+use Rattle.std.proofs.Common.{◌≡◌, ◌≢◌, ◌<◌, ◌+◌, ℕ, Bool, true, List, ◌∷◌, ◌++◌, length, drop, slice_index_or, refl, sym, ◌∙◌, append_assoc}
 use Rattle.std.proofs.lemmas.Bool.{ne_eqb}
 use Rattle.std.proofs.lemmas.List.{at_drop_more}
 use Rattle.nv_base.specs.declared.field.Field.{Field}
 use Rattle.pkt_core.specs.Packet.{Values, value}
 use Rattle.pkt_core.specs.Text.{condition_text, separator, conditions}
-use Rattle.nv_base.specs.Growth.{GrowsAtEnd}
 
 -- a field whose number is zero says nothing
 says_nothing : (packet : Values) (f : Field) (fs : List Field) (before : Bool) → value packet f ≡ 0 → conditions packet (f ∷ fs) before ≡ conditions packet fs before
@@ -20,10 +19,6 @@ pub passed : (packet : Values) (fields : List Field) (i : ℕ) (d : Field) (befo
 passed packet fields i d before within zero =
     sym (at_drop_more (λ fs. conditions packet fs before) fields i d within ∙ says_nothing packet (slice_index_or fields i d) (drop (i + 1) fields) before zero)
 
--- what was appended twice was appended
-pub appended_twice : (there middle end first second : List ℕ) → middle ≡ there ++ first → end ≡ middle ++ second → end ≡ there ++ (first ++ second)
-appended_twice there middle end first second one two = two ∙ ap (λ l. l ++ second) one ∙ append_assoc there first second
-
 -- and with this one's condition at the end, they say the same
 pub appended : (packet : Values) (fields : List Field) (i : ℕ) (d : Field) (before : Bool) (there end first : List ℕ) (n : ℕ) → i < length fields
     → n ≡ value packet (slice_index_or fields i d) → n ≢ 0 → first ≡ separator before → end ≡ there ++ (first ++ condition_text (slice_index_or fields i d) n)
@@ -32,7 +27,3 @@ appended packet fields i d before there end first n within number other front gr
     let f = slice_index_or fields i d in
     let one_on = at_drop_more (λ fs. conditions packet fs before) fields i d within ∙ says_condition packet f (drop (i + 1) fields) before (rw number at other) in
     rw (grown, front, number, one_on) (simp append_assoc)
-
--- what grew at its end, and then by a list, grew at its end
-pub grows_on : (start middle end more : List ℕ) → GrowsAtEnd start middle → end ≡ middle ++ more → GrowsAtEnd start end
-grows_on start middle end more grown e = (grown.0 ++ more, appended_twice start middle end grown.0 more grown.1 e)

@@ -1,6 +1,7 @@
 use Rattle.std.proofs.Common.{◌++◌, ◌∙◌, ap, sym}
 use Rattle.std.proofs.lemmas.Result.{err_from_is_err_and}
-use Rattle.pkt_core.proofs.Conditions.{passed, appended, appended_twice, grows_on}
+use Rattle.nv_base.proofs.Growth.{appended_twice, grows_on}
+use Rattle.pkt_core.proofs.Conditions.{passed, appended}
 use Rattle.pkt_core.proofs.text.put_conditions.Goals as goal
 use Rattle.pkt_core.proofs.text.put_conditions.Goals.{then-is_said+in_ok-extend_from_slice+in_ok-put_condition, else-is_said}
 

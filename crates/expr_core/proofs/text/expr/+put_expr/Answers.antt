@@ -1,5 +1,5 @@
 use Rattle.std.proofs.lemmas.Result.{err_from_is_err_and}
-use Rattle.expr_core.proofs.Lists.{grows_more}
+use Rattle.nv_base.proofs.Growth.{grows_more}
 use Rattle.expr_core.proofs.text.expr.+put_expr.Goals as goal
 
 pub put_expr-returns-in_err-put_enclosed-in-And-clause-err : goal.put_expr-returns-in_err-put_enclosed-in-And-clause-err

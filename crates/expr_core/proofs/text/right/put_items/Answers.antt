@@ -1,5 +1,5 @@
 use Rattle.std.proofs.lemmas.Result.{err_from_is_err_and}
-use Rattle.expr_core.proofs.Lists.{grows_on, grows_more}
+use Rattle.nv_base.proofs.Growth.{grows_on, grows_more}
 use Rattle.expr_core.proofs.text.right.put_items.Goals as goal
 
 pub returns-in_err-put_item-clause-err : goal.returns-in_err-put_item-clause-err

@@ -2,18 +2,23 @@
 use Rattle.std.specs.Prelude.{ℕ, ◌^◌, ◌==◌, Bool, true, false, not, ◌&&◌, ◌||◌, nat_lt, nat_le, Option, Some, None, if◌then◌else◌}
 use Rattle.std.specs.List.{list_all}
 use Rattle.nv_base.specs.declared.field.Field.{Field}
-use Rattle.nv_base.specs.Field.{field_number, field_width}
+use Rattle.nv_base.specs.declared.field.Field.TheVariants.{Outport}
+use Rattle.nv_base.specs.declared.field.Prerequisite.{Prerequisite}
+use Rattle.nv_base.specs.declared.field.Prerequisite.TheVariants.{IcmpError}
+use Rattle.nv_base.specs.declared.field.Printed.{Printed}
+use Rattle.nv_base.specs.declared.field.Printed.TheVariants.{PortName}
+use Rattle.nv_base.specs.Field.{field_width, field_printed, field_prerequisite, is_header}
 use Rattle.expr_core.specs.declared.constant.Const.{Const}
 use Rattle.expr_core.specs.declared.comparison.Item.{Item}
 use Rattle.expr_core.specs.declared.comparison.Item.TheVariants.{One, Masked, Text, AddrSet, Group}
 use Rattle.expr_core.specs.declared.comparison.Rel.{Rel}
-use Rattle.expr_core.specs.declared.comparison.Rel.TheVariants.{Eq, Ne, Lt, Le, Gt, Ge}
+use Rattle.expr_core.specs.declared.comparison.Rel.TheVariants.{Eq, Ne}
 use Rattle.expr_core.specs.declared.comparison.Right.{Right}
 use Rattle.expr_core.specs.declared.comparison.Right.TheVariants as right_of
 use Rattle.expr_core.specs.declared.part.Bits.{Bits}
 use Rattle.expr_core.specs.declared.part.Bits.TheVariants.{Whole, Bit, Range}
 use Rattle.expr_core.specs.declared.predicate.Pred.{Pred}
-use Rattle.expr_core.specs.declared.predicate.Pred.TheVariants as pred
+use Rattle.expr_core.specs.declared.predicate.Pred.TheVariants.{CtNew, CtEst, CtRel, CtRpl, CtInv, CtTrk}
 use Rattle.expr_core.specs.Width.{part_width, is_prefix}
 use Rattle.expr_check.specs.declared.role.Role.{Role}
 use Rattle.expr_check.specs.declared.role.Role.TheVariants.{Row, AclFrom, AclTo, Micro}
@@ -22,40 +27,41 @@ use Rattle.expr_check.specs.declared.subject.Subject.TheVariants as subject
 
 -- What may be asked for in a role.
 
--- a field that a packet has on its way alone: the loopback flag, the connection's fields and the registers
-abbrev pub is_internal : Field → Bool
-is_internal f = (field_number f == 3) || nat_le 28 (field_number f)
-
-abbrev pub is_outport : Field → Bool
-is_outport f = field_number f == 2
+-- numbers of ports, which a match writes by their names
+abbrev pub are_ports : Printed → Bool
+are_ports PortName = true
+are_ports _ = false
 
 -- a port's field: `inport` and `outport`
 abbrev pub is_port : Field → Bool
-is_port f = nat_le (field_number f) 2
+is_port f = are_ports (field_printed f)
+
+abbrev pub is_outport : Field → Bool
+is_outport Outport = true
+is_outport _ = false
+
+-- a field that a packet has on its way alone: the loopback flag, the connection's fields and the registers
+abbrev pub is_internal : Field → Bool
+is_internal f = not (is_header f) && not (is_port f)
+
+-- what an ICMP error alone has
+abbrev pub is_of_error : Prerequisite → Bool
+is_of_error IcmpError = true
+is_of_error _ = false
 
 -- of an ICMP error, what it says of the packet that it is about
 abbrev pub is_quote : Field → Bool
-is_quote f = nat_le 23 (field_number f) && nat_le (field_number f) 27
+is_quote f = is_of_error (field_prerequisite f)
 
 -- a predicate of the connection
 abbrev pub is_of_connection : Pred → Bool
-is_of_connection pred.EthMcast = false
-is_of_connection pred.EthBcast = false
-is_of_connection pred.Ip4 = false
-is_of_connection pred.Arp = false
-is_of_connection pred.Ip6 = false
-is_of_connection pred.Ip = false
-is_of_connection pred.Tcp = false
-is_of_connection pred.Udp = false
-is_of_connection pred.Icmp4 = false
-is_of_connection pred.Icmp = false
-is_of_connection pred.Ip4Mcast = false
-is_of_connection pred.CtNew = true
-is_of_connection pred.CtEst = true
-is_of_connection pred.CtRel = true
-is_of_connection pred.CtRpl = true
-is_of_connection pred.CtInv = true
-is_of_connection pred.CtTrk = true
+is_of_connection CtNew = true
+is_of_connection CtEst = true
+is_of_connection CtRel = true
+is_of_connection CtRpl = true
+is_of_connection CtInv = true
+is_of_connection CtTrk = true
+is_of_connection _ = false
 
 -- A row may ask for anything. An ACL and a microflow may not ask for what a packet has on its way alone; an ACL not for
 -- quotes; and where the port to go out by is not known yet, not for it.
@@ -116,8 +122,7 @@ right_fits width bits (right_of.Set is) = list_all (item_fits width bits) is
 
 abbrev pub is_whole : Bits → Bool
 is_whole Whole = true
-is_whole (Bit n) = false
-is_whole (Range first last) = false
+is_whole _ = false
 
 -- A part alone is a bit of a field, or a predicate. A port has no bits.
 abbrev pub may_stand_alone : Subject → Bits → Bool
@@ -127,19 +132,12 @@ may_stand_alone (subject.Pred p) bits = is_whole bits
 abbrev pub tests_equality : Rel → Bool
 tests_equality Eq = true
 tests_equality Ne = true
-tests_equality Lt = false
-tests_equality Le = false
-tests_equality Gt = false
-tests_equality Ge = false
+tests_equality _ = false
 
 -- one number without a mask
 abbrev pub is_number : Right → Bool
 is_number (right_of.Item (One c)) = true
-is_number (right_of.Item (Masked c m)) = false
-is_number (right_of.Item (Text name)) = false
-is_number (right_of.Item (AddrSet name)) = false
-is_number (right_of.Item (Group name)) = false
-is_number (right_of.Set is) = false
+is_number _ = false
 
 -- an address set has values for a whole field of 32 or 48 bits
 abbrev pub may_be_in_set : Field → Bits → Bool

@@ -7,34 +7,32 @@ ghost use Rattle.expr_check.specs.Rules.{is_internal, is_outport, is_port, is_qu
 use crate::Role;
 use crate::subject::Subject;
 use expr_core::{Bits, Const, Item, Pred, Rel, Right, has_bits};
-use nv_base::Field;
-
-// Whether a packet has the field on its way alone.
-fn is_internal(field: Field) -> bool
-    ensures { result ≡ is_internal field }
-{
-    let number = field.number();
-    number == 3 || 28 <= number
-}
-
-fn is_outport(field: Field) -> bool
-    ensures { result ≡ is_outport field }
-{
-    field.number() == 2
-}
+use nv_base::{Field, Prerequisite, Printed};
 
 // Whether the field is a port's.
 fn is_port(field: Field) -> bool
     ensures { result ≡ is_port field }
 {
-    field.number() <= 2
+    matches!(field.printed(), Printed::PortName)
+}
+
+fn is_outport(field: Field) -> bool
+    ensures { result ≡ is_outport field }
+{
+    matches!(field, Field::Outport)
+}
+
+// Whether a packet has the field on its way alone.
+fn is_internal(field: Field) -> bool
+    ensures { result ≡ is_internal field }
+{
+    !field.is_header() && !is_port(field)
 }
 
 fn is_quote(field: Field) -> bool
     ensures { result ≡ is_quote field }
 {
-    let number = field.number();
-    23 <= number && number <= 27
+    matches!(field.prerequisite(), Prerequisite::IcmpError)
 }
 
 fn is_of_connection(predicate: Pred) -> bool

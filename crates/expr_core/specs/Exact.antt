@@ -2,8 +2,8 @@
 use Rattle.std.proofs.Common.{◌≡◌, Bool, true, false, refl, ap, ◌∙◌, ◌&&◌}
 use Rattle.std.proofs.lemmas.Bool.{eqb-true, false≢true}
 use denote.Enum.Bare.{sameb, same_true}
-use Rattle.nv_base.specs.Exact as tells
-use Rattle.nv_base.specs.Exact.{Tells}
+use Rattle.nv_base.specs.inner.Exact as tells
+use Rattle.nv_base.specs.inner.Exact.{Tells}
 use Rattle.expr_core.specs.contracts.constant.Form as forms
 use Rattle.expr_core.specs.contracts.comparison.Rel as rels
 use Rattle.expr_core.specs.contracts.predicate.Pred as preds

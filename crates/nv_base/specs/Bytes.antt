@@ -3,8 +3,6 @@ use Rattle.std.specs.List.{list_all, position_or_len, before_first, after_first}
 use Rattle.std.specs.Int.Digits.{number_from_digits}
 use Rattle.std.specs.Fmt.{digit_glyph}
 use Rattle.nv_base.specs.Number.{decimal_of, digits_number, below}
-use Rattle.nv_base.specs.declared.bytes.Spelling.{Spelling}
-use Rattle.nv_base.specs.declared.bytes.Spelling.TheVariants.{Decimal, Pair}
 
 -- the byte that a decimal spells
 abbrev pub octet_of : List ℕ → Option ℕ
@@ -13,11 +11,6 @@ octet_of text = below 256 (decimal_of text)
 -- the byte that a pair of hexadecimal digits spells
 abbrev pub pair_of : List ℕ → Option ℕ
 pair_of text = if length text == 2 then digits_number 16 text else None
-
--- the byte that a part spells
-abbrev pub byte_of : Spelling → List ℕ → Option ℕ
-byte_of Decimal = octet_of
-byte_of Pair = pair_of
 
 -- the number of so many bytes, the highest first, of which each part spells one
 abbrev pub number_of_parts : (List ℕ → Option ℕ) → ℕ → List (List ℕ) → Option ℕ

@@ -1,6 +1,5 @@
 pub mod Block
 pub mod Bytes
-pub mod Exact
 pub mod Field
 pub mod Growth
 pub mod Ip4
@@ -9,3 +8,4 @@ pub mod Name
 pub mod Number
 pub mod Prefix
 pub mod Text
+pub mod inner

@@ -1,7 +1,8 @@
 //! Numbers that are spelled byte by byte, the highest first, with a separator between.
 ghost use Rattle.std.specs.Prelude.{◌≡◌, ◌==◌, ◌<◌, ◌≤◌, ◌^◌, IfSome, option_map};
 ghost use Rattle.std.specs.List.{slice_split};
-ghost use Rattle.nv_base.specs.Bytes.{pair_of, byte_of, number_of_parts, around_first};
+ghost use Rattle.nv_base.specs.Bytes.{pair_of, number_of_parts, around_first};
+ghost use Rattle.nv_base.specs.inner.Bytes.{byte_of};
 
 use crate::number::{decimal_below, digits_number};
 

@@ -1,5 +1,5 @@
 ghost use Rattle.std.specs.Prelude.{◌≡◌, true, IfOk};
-ghost use Rattle.nv_base.specs.Exact as tells;
+ghost use Rattle.nv_base.specs.inner.Exact as tells;
 
 use crate::{Field, Ip4, Items, Mac, Name, ObjId, OutOfMemory, Prefix};
 use std::alloc::Global;

@@ -1,8 +1,8 @@
 -- Tuples that are equal by `==` are one tuple.
 use Rattle.std.proofs.Common.{◌≡◌, Bool, true, false, refl, ◌&&◌}
 use Rattle.std.proofs.lemmas.Bool.{eqb-true, false≢true}
-use Rattle.nv_base.specs.Exact as tells
-use Rattle.nv_base.specs.Exact.{Tells}
+use Rattle.nv_base.specs.inner.Exact as tells
+use Rattle.nv_base.specs.inner.Exact.{Tells}
 use Rattle.pkt_core.specs.contracts.tuple.TuplePartialEq.TheImpl as tuple_eq
 use Rattle.pkt_core.specs.declared.tuple.Tuple.{Tuple}
 

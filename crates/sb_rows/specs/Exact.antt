@@ -2,8 +2,8 @@
 use Rattle.std.proofs.Common.{◌≡◌, Bool, true, false, refl, ap, ◌&&◌}
 use Rattle.std.proofs.lemmas.Bool.{eqb-true, false≢true}
 use denote.Enum.Bare.{sameb, same_true}
-use Rattle.nv_base.specs.Exact as tells
-use Rattle.nv_base.specs.Exact.{Tells}
+use Rattle.nv_base.specs.inner.Exact as tells
+use Rattle.nv_base.specs.inner.Exact.{Tells}
 use Rattle.sb_rows.specs.contracts.stage.Stage as stages
 use Rattle.sb_rows.specs.contracts.row.PlainMatchPartialEq.TheImpl as match_eq
 use Rattle.sb_rows.specs.contracts.row.PlainActionPartialEq.TheImpl as action_eq

@@ -1,5 +1,5 @@
 use Rattle.std.proofs.Common.{◌≡◌, ◌+◌, ◌-◌, suc, sym, ◌∙◌, arith}
-use Rattle.nv_base.specs.Bytes.{byte_of}
+use Rattle.nv_base.specs.inner.Bytes.{byte_of}
 use Rattle.nv_base.proofs.Parts.{fits, stops_early, stops_late, stops_at, goes_on, ends, ends_at, around_by_some, around_by_none}
 use Rattle.nv_base.proofs.bytes.number_of_parts.Goals as goal
 

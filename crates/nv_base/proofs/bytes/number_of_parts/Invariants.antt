@@ -1,6 +1,7 @@
 use Rattle.std.proofs.Common.{◌≡◌, ◌==◌, ◌<◌, ◌^◌, ◌-◌}
 use Rattle.std.specs.List.{slice_split}
-use Rattle.nv_base.specs.Bytes.{byte_of, number_of_parts}
+use Rattle.nv_base.specs.Bytes.{number_of_parts}
+use Rattle.nv_base.specs.inner.Bytes.{byte_of}
 use Rattle.nv_base.proofs.Parts.{text_after}
 use Rattle.nv_base.proofs.bytes.number_of_parts.Given as goal
 

@@ -5,7 +5,7 @@ use Rattle.std.specs.List.{list_all}
 use Rattle.std.specs.Str.Parse.{digits_value, digits_value_after, AllDigits}
 use Rattle.std.proofs.lemmas.Int.Digits.{digits_value-lt}
 use Rattle.std.proofs.Math.Nat.{le-mul_of_pos_right}
-use Rattle.std.proofs.lemmas.Bool.{le-ltb, lt-ltb, ltb-true}
+use Rattle.std.proofs.lemmas.Bool.{le-ltb, lt-ltb, ltb-true, and_parts}
 use Rattle.std.proofs.lemmas.List.{at_drop_more, at_drop_all}
 use Rattle.nv_base.proofs.Choices.{chosen}
 use Rattle.nv_base.specs.Number.{digits_number}
@@ -45,20 +45,12 @@ ends radix n text i le small =
 
 all_digits : (radix : ℕ) (text : List ℕ) → list_all (λ c. is_digit c radix) text ≡ true → AllDigits radix text
 all_digits radix [] all = tt
-all_digits radix (c ∷ cs) all = let parts = both _ _ all in (ltb-true _ _ parts.0, all_digits radix cs parts.1)
-  where
-    both : (p q : Bool) → (p && q) ≡ true → (p ≡ true) × (q ≡ true)
-    both true q e = (refl, e)
-    both false q e = absurd cc
+all_digits radix (c ∷ cs) all = let parts = and_parts _ _ all in (ltb-true _ _ parts.0, all_digits radix cs parts.1)
 
 -- two hexadecimal digits spell a byte
 pub pair-lt : (text : List ℕ) (n : ℕ) → length text ≡ 2 → Some n ≡ digits_number 16 text → n < 256
 pair-lt text n two e =
     let read = chosen (list_all (λ c. is_digit c 16) text && ltb (digits_value 16 text) (2 ^ 128)) (digits_value 16 text) n (sym e) in
-    let digits = all_digits 16 text (first _ _ read.0) in
+    let digits = all_digits 16 text (and_parts _ _ read.0).0 in
     let small : digits_value 16 text < 16 ^ 2 = subst (λ (k : ℕ). digits_value 16 text < 16 ^ k) two (digits_value-lt 16 text digits) in
     omega (arith, small, read.1)
-  where
-    first : (p q : Bool) → (p && q) ≡ true → p ≡ true
-    first true q e = refl
-    first false q e = absurd cc

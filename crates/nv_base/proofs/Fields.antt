@@ -13,7 +13,7 @@ unfolding all_fields
 name_read Inport = refl
 name_read _ = refl
 
--- each field stands at its number
+-- each field is at the place of its number
 pub at_its_number : (field : Field) → slice_get all_fields (field_number field - 1) ≡ Some field
 unfolding all_fields
 at_its_number Inport = refl
@@ -29,7 +29,7 @@ pub counted : length all_fields ≡ 36
 unfolding all_fields
 counted = refl
 
--- and the one at a place has the number behind it
+-- and the field at a place has the number one above it
 pub number_at : (i : ℕ) (d : Field) → i < 36 → field_number (get_or all_fields i d) ≡ i + 1
 number_at i d within =
     let inside : i < length all_fields = rw counted within in

@@ -6,7 +6,7 @@ use Rattle.std.proofs.lemmas.Bool.{eqb-false}
 use Rattle.std.proofs.lemmas.Bool.Decides.{eqb_tells}
 use Rattle.std.proofs.lemmas.List.{drop-set, drop_all}
 
--- the digits of n before those that stand from this place on
+-- the digits of n before those from this place on
 pub digits_before : ℕ → ℕ → List ℕ → List ℕ
 digits_before at n after = digits_onto (at + 30) 16 false n after
 

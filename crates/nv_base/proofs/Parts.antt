@@ -39,7 +39,7 @@ and_false false = refl
 none_at : (byte : List ℕ → Option ℕ) (n k : ℕ) (p : List ℕ) (ps : List (List ℕ)) → byte p ≡ None → parts_after byte n k (p ∷ ps) ≡ None
 none_at byte n k p ps e = rw (e, and_false) refl
 
--- where the separator stands, the first part ends there
+-- at the separator the first part ends
 split_at : (separator : ℕ) (text first rest : List ℕ) → Some (first, rest) ≡ around_first separator text → slice_split (λ b. b == separator) text ≡ first ∷ slice_split (λ b. b == separator) rest
 split_at separator text first rest e =
     let found = chosen _ _ _ (sym e) in
@@ -56,7 +56,7 @@ whole : (p : ℕ → Bool) (xs : List ℕ) → length xs ≤ position_or_len p x
 whole p [] past = refl
 whole p (x ∷ xs) past = whole_from p x xs (p x) refl past (whole p xs)
 
--- where it stands nowhere, the text is one part
+-- without a separator the text is one part
 split_none : (separator : ℕ) (text : List ℕ) → None ≡ around_first separator text → slice_split (λ b. b == separator) text ≡ text ∷ []
 split_none separator text e = whole (λ b. b == separator) text (ltb-false _ _ (unchosen _ _ (sym e)))
 

@@ -12,7 +12,7 @@ use Rattle.nv_base.specs.Prefix.{block, block_of, length_of, prefix_around, pref
 use Rattle.nv_base.proofs.RoundTrips.{decimal_is_read}
 use Rattle.nv_base.proofs.ByteTrips.{Clear, decimal_is_clear, written_address}
 
--- the first separator stands after the bytes that hold none
+-- the first separator comes after the bytes that hold none
 around_here : (c : ℕ) (front back : List ℕ) → Clear c front → around_first c (front ++ c ∷ back) ≡ Some (front, back)
 around_here c front back clear =
     let room : length front < length (front ++ c ∷ back) = omega (arith, length-append front (c ∷ back)) in

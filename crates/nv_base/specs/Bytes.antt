@@ -16,7 +16,7 @@ pair_of text = if length text == 2 then digits_number 16 text else None
 abbrev pub number_of_parts : (List ℕ → Option ℕ) → ℕ → List (List ℕ) → Option ℕ
 number_of_parts byte count parts = if (length parts == count) && list_all (λ p. is_some (byte p)) parts then Some (number_from_digits 256 (map (λ p. unwrap_or (byte p) 0) parts)) else None
 
--- what stands before and after the first byte of this value, where there is one
+-- what is before and after the first byte of this value, if there is one
 abbrev pub around_first : ℕ → List ℕ → Option (List ℕ × List ℕ)
 around_first separator text = if nat_lt (position_or_len (λ b. b == separator) text) (length text) then Some (before_first (λ b. b == separator) text, after_first (λ b. b == separator) text) else None
 

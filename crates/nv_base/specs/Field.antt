@@ -1,4 +1,4 @@
--- The fields of a packet: header fields after ovn-sb(5), and quotes and working fields of this profile's own.
+-- The fields of a packet: header fields after ovn-sb(5), and quotes and working fields, which are not from OVN.
 use Rattle.std.specs.Prelude.{ℕ, ◌==◌, nat_le, Bool, ◌&&◌, List, [], ◌∷◌, Option, codes}
 use Rattle.std.specs.List.{find}
 use Rattle.std.specs.Cmp.Lexicographic.{pointwise}

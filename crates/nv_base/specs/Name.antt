@@ -11,7 +11,7 @@ abbrev pub is_name_byte : ℕ → Bool
 is_name_byte byte = nat_lt 32 byte && nat_lt byte 127 && not (is_quote byte) && not (byte == 92)
 
 -- A port, a datapath and a load balancer are named by 1 to 127 such bytes, which do not begin with `-`,
--- as an option does, nor with `_MC_`, as a multicast group's name does (this profile's own).
+-- as an option does, nor with `_MC_`, as a multicast group's name does (not from OVN).
 abbrev pub is_object_name : List ℕ → Bool
 is_object_name bytes =
     nat_lt 0 (length bytes) && nat_le (length bytes) 127 && list_all is_name_byte bytes

@@ -19,7 +19,7 @@ block_of (Some base) (Some len) = Some (block base len)
 abbrev pub length_of : List ℕ → Option ℕ
 length_of text = below 33 (decimal_of text)
 
--- the prefix of a text by what stands around its first `/`: an address and a length, or an address alone
+-- the prefix of a text by what is around its first `/`: an address and a length, or an address alone
 abbrev pub prefix_around : List ℕ → Option (List ℕ × List ℕ) → Option Block
 prefix_around text None = block_of (ip4_of text) (Some 32)
 prefix_around text (Some parts) = block_of (ip4_of parts.0) (length_of parts.1)

@@ -39,7 +39,7 @@ fn byte_of(spelling: Spelling, part: &[u8]) -> Option<u64>
     }
 }
 
-/// What stands before and after the first separator, if there is one.
+/// The texts before and after the first separator, if there is one.
 pub(crate) fn around_first(text: &[u8], separator: u8) -> Option<(&[u8], &[u8])>
     ensures { option_map (λ parts. (parts.0.now, parts.1.now)) result ≡ around_first separator text.now }
 {

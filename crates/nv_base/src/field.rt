@@ -4,8 +4,8 @@ ghost use Rattle.nv_base.specs.Field.{field_number, field_width, field_name, fie
 
 use crate::OutOfMemory;
 
-/// A field of a packet. The header fields have ovn-sb(5)'s names, but for the quotes; the quotes and the working
-/// fields, which a datapath keeps while a packet is in it, are this profile's own.
+/// A field of a packet. The header fields have ovn-sb(5)'s names, but for the quotes. The quotes, and the working
+/// fields, which a datapath keeps while a packet is in it, are not from OVN.
 #[derive(Clone, Copy, Debug, PartialEq, Eq, PartialOrd, Ord, Hash)]
 pub enum Field {
     /// The number of the port that the packet came in by. 0 is none.
@@ -62,7 +62,7 @@ pub enum Field {
     QuoteDst,
     /// The destination port of that packet.
     QuoteDport,
-    /// What the last look-up among the connections told.
+    /// What the last look-up among the connections found.
     CtState,
     /// 1 where the connection that it found is blocked.
     CtMarkBlocked,

@@ -44,7 +44,7 @@ pub fn field_names_are_read()
     ensures { (field : Field) → field_of (field_name field) ≡ Some field }
 {}
 
-/// Of all the fields, which are 36, each stands at its number.
+/// There are 36 fields, and each has the place of its number in the list of all of them.
 pub fn fields_stand_at_their_numbers()
     ensures order { map field_number all_fields ≡ range_with_len 1 36 }
     ensures each { (field : Field) → slice_get all_fields (field_number field - 1) ≡ Some field }

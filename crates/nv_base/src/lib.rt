@@ -1,4 +1,4 @@
-//! The base of all the crates: want of memory, names, numbers of objects, lists as plain data,
+//! The base of all the crates: out of memory, names, numbers of objects, lists as plain data,
 //! and the addresses and numbers that lines, matches and flows are written with.
 #![tactic(auto)]
 
@@ -14,8 +14,6 @@ mod name;
 mod number;
 mod object;
 mod prefix;
-#[cfg(test)]
-mod tests;
 mod text;
 
 pub use field::{Field, Prerequisite, Printed, field_of, put_field};

@@ -98,7 +98,7 @@ impl PartialOrd for Name {
 }
 
 /// Whether these bytes may name a port, a datapath or a load balancer: 1 to 127 printable ASCII bytes without
-/// space, quotation mark and backslash, which begin neither with `-` nor with `_MC_` (this profile's own).
+/// space, quotation mark and backslash, which begin neither with `-` nor with `_MC_` (not from OVN).
 pub fn is_object_name(bytes: &[u8]) -> bool
     ensures { result ≡ is_object_name bytes.now }
 {

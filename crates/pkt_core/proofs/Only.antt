@@ -10,11 +10,11 @@ use Rattle.nv_base.specs.Field.{is_header, all_fields}
 use Rattle.nv_base.proofs.Fields.{counted, number_at, at_its_number}
 use Rattle.pkt_core.specs.Packet.{Values, place, value, with_value, value_only, only, is_working}
 
--- the field at a place stands there
+-- the field at a place has that place
 pub place_at : (i : ℕ) (d : Field) → i < 36 → place (get_or all_fields i d) ≡ i
 place_at i d within = let e = number_at i d within in omega arith
 
--- what stands there of a kind of fields
+-- the number there, of a kind of fields
 pub only_at : (packet : Values) (of_kind : Field → Bool) (i : ℕ) (d : Field) → i < 36 → get_or (only packet of_kind) i 0 ≡ value_only packet of_kind (get_or all_fields i d)
 unfolding only
 only_at packet of_kind i d within = get_or-map (value_only packet of_kind) all_fields i d 0 (rw counted within)
@@ -69,7 +69,7 @@ pub place_within : (field : Field) → place field < 36
 place_within Inport = lit< tt
 place_within _ = lit< tt
 
--- and stands there
+-- and is at it
 pub field_at : (field d : Field) → get_or all_fields (place field) d ≡ field
 field_at field d = get_or_from_slice_get all_fields (place field) field d (at_its_number field)
 

@@ -1,6 +1,6 @@
-pub mod Exact
 pub mod Packet
 pub mod Prerequisite
 pub mod Replies
 pub mod Text
 pub mod Tuple
+pub mod inner

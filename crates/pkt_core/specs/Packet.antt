@@ -11,7 +11,7 @@ Values = List ℕ
 abbrev pub field_count : ℕ
 field_count = 36
 
--- where a field's number stands
+-- the place of a field's number
 abbrev pub place : Field → ℕ
 place field = field_number field - 1
 

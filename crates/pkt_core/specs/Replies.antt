@@ -55,6 +55,6 @@ icmp_error packet reason = with_quote (with_values (icmp_back packet) ((Icmp4Typ
 abbrev pub arp_reply : Values → ℕ → Values
 arp_reply packet mac = with_values packet ((EthDst, value packet EthSrc) ∷ (EthSrc, mac) ∷ (ArpOp, 2) ∷ (ArpSpa, value packet ArpTpa) ∷ (ArpSha, mac) ∷ (ArpTpa, value packet ArpSpa) ∷ (ArpTha, value packet ArpSha) ∷ [])
 
--- the ARP request, from this MAC and address to all stations, who has an address
+-- the broadcast ARP request, from this MAC and address, for the MAC of an address
 abbrev pub arp_request : ℕ → Ip4 → Ip4 → Values
 arp_request mac from wanted = with_values zero_packet ((EthSrc, mac) ∷ (EthDst, 0xffff_ffff_ffff) ∷ (EthType, 0x806) ∷ (ArpOp, 1) ∷ (ArpSpa, from.0) ∷ (ArpSha, mac) ∷ (ArpTpa, wanted.0) ∷ [])

@@ -14,7 +14,7 @@ use Rattle.pkt_core.specs.Packet.{Values, value}
 unfoldable pub header_fields : List Field
 header_fields = filter is_header all_fields
 
--- a number as a match writes it; of a port, whose name stands in no packet, in decimal
+-- a number as a match writes it; of a port, whose name no packet holds, in decimal
 abbrev pub number_text : Printed → ℕ → List ℕ
 number_text PortName n = decimal n
 number_text Decimal n = decimal n
@@ -26,15 +26,15 @@ number_text Ip4Address n = ip4_text (address n)
 abbrev pub condition_text : Field → ℕ → List ℕ
 condition_text field n = field_name field ++ codes " == " ++ number_text (field_printed field) n
 
--- what stands in front of a condition: `&&` where another stands before it
+-- the text in front of a condition: `&&` after another one
 abbrev pub separator : Bool → List ℕ
 separator before = if before then codes " && " else []
 
--- what stands at the end: `1`, which always holds, where no condition stands before
+-- the text at the end: `1`, which always holds, after no condition
 abbrev pub ending : Bool → List ℕ
 ending before = if before then [] else codes "1"
 
--- a condition for each of the fields whose number is not zero, where another may stand before
+-- a condition for each of the fields whose number is not zero, maybe after another condition
 abbrev pub conditions : Values → List Field → Bool → List ℕ
 conditions packet [] before = ending before
 conditions packet (f ∷ fs) before = if value packet f == 0 then conditions packet fs before else (separator before ++ condition_text f (value packet f) ++ conditions packet fs true)

@@ -1,5 +1,5 @@
 ghost use Rattle.std.specs.Prelude.{◌≡◌, IfOk};
-ghost use Rattle.pkt_core.specs.Exact as tells;
+ghost use Rattle.pkt_core.specs.inner.Exact as tells;
 
 use crate::Tuple;
 use nv_base::{Kept, OutOfMemory};

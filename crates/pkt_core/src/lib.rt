@@ -5,8 +5,6 @@ mod kept;
 mod packet;
 mod parts;
 mod replies;
-#[cfg(test)]
-mod tests;
 mod text;
 mod tuple;
 

@@ -135,7 +135,7 @@ impl Packet {
         reply
     }
 
-    /// The ARP request, from this MAC and address to all stations, who has an address.
+    /// The broadcast ARP request, from this MAC and address, for the MAC of an address.
     pub fn arp_request(mac: Mac, from: Ip4, wanted: Ip4) -> Packet
         ensures { result ≡ arp_request mac from wanted }
     {

@@ -29,8 +29,8 @@ fn header_fields() -> &'static [Field]
     &Field::all()[3..27]
 }
 
-// Appends a condition for each of the fields whose number is not zero, or `1`. After `OutOfMemory` a part may stand
-// behind what was there.
+// Appends a condition for each of the fields whose number is not zero, or `1`. After `OutOfMemory` the
+// bytes before are first, and a part of the text may follow.
 fn put_conditions(out: &mut Vec<u8>, packet: &Packet, fields: &[Field]) -> Result<(), OutOfMemory>
     ensures ok { OnOk result (out.new.items ≡ out.old.items ++ conditions packet.now fields.now false) }
     ensures err { OnErr result (GrowsAtEnd out.old.items out.new.items) }
@@ -49,14 +49,14 @@ fn put_conditions(out: &mut Vec<u8>, packet: &Packet, fields: &[Field]) -> Resul
     Ok(())
 }
 
-// What stands in front of a condition.
+// The text in front of a condition.
 fn separator(before: bool) -> &'static str
     ensures { result.now ≡ separator before }
 {
     if before { " && " } else { "" }
 }
 
-// What stands at the end.
+// The text at the end.
 fn ending(before: bool) -> &'static str
     ensures { result.now ≡ ending before }
 {

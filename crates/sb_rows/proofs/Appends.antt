@@ -8,14 +8,14 @@ use Rattle.sb_rows.specs.declared.row.Row.{Row}
 use Rattle.sb_rows.specs.Row.{row_cmp, IsInRowOrder, put_row}
 use Rattle.sb_rows.proofs.Order.{above_none_before}
 
--- a row goes to the end where none that is there stands after it
+-- a row goes to the end where none that is there is after it
 pub put_row-last : (row : Row) (rows : List Row) → All (λ y. is_gt (row_cmp y row) ≡ false) rows → put_row row rows ≡ rows ++ row ∷ []
 put_row-last row [] none = refl
 put_row-last row (x ∷ xs) none =
     let P = λ (y : Row). is_gt (row_cmp y row) ≡ false in
     rw (All-head P x xs none) (ap (λ ys. x ∷ ys) (put_row-last row xs (All-tail P x xs none)))
 
--- so rows that go on in row order after those that are there stand behind them as they come
+-- so rows that go on in row order after those that are there follow them as they come
 pub put_rows-in_order : (more rows : List Row) → IsInRowOrder (rows ++ more) → fold (λ there row. put_row row there) rows more ≡ rows ++ more
 put_rows-in_order [] rows up = sym (append-nil rows)
 put_rows-in_order (row ∷ more) rows up =

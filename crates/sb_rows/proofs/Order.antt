@@ -40,7 +40,7 @@ lt_reversed Greater = refl
 pub lt_turned : (x y : Row) → is_lt (row_cmp y x) ≡ is_gt (row_cmp x y)
 lt_turned x y = ap is_lt (row_cmp_total.antisymm y x) ∙ lt_reversed (row_cmp x y)
 
--- a row that does not stand before another has no lower datapath
+-- a row that is not before another has no lower datapath
 pub dp_from_order : (x y : Row) → is_lt (row_cmp y x) ≡ false → x.dp.0 ≤ y.dp.0
 unfolding row_cmp
 dp_from_order x y h = grind (arith, nat_tests)
@@ -64,7 +64,7 @@ module _ (xs : List Row) (up : IsInRowOrder xs) where
       le_from_gt : (o : Ordering) → is_gt o ≡ false → is_le o ≡ true
       le_from_gt o e = grind (arith, gt_from_le o)
 
--- in rows in order, none that stands before a row is above it
+-- in rows in order, none ahead of a row is above it
 pub above_none_before : (row : Row) (rows more : List Row) → IsInRowOrder (rows ++ row ∷ more) → All (λ y. is_gt (row_cmp y row) ≡ false) rows
 above_none_before row rows more up k d in_range =
     let all = rows ++ row ∷ more in

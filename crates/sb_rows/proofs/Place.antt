@@ -25,7 +25,7 @@ put_row_at row (x ∷ xs) (suc i) le parted =
     let rest = put_row_at row xs i (omega arith) (within_tail (λ y. is_le (row_cmp y row) ≡ true) x xs 0 i (λ k d a b. parted.0 k d (omega arith) b), within_tail (λ y. is_le (row_cmp y row) ≡ false) x xs i (length xs) (λ k d a b. parted.1 k d a (omega arith))) in
     rw most (ap (λ ys. x ∷ ys) rest)
 
--- a row that is not above the first of rows in order may stand ahead of them
+-- a row that is not above the first of rows in order may go ahead of them
 ordered_cons : (x : Row) (xs : List Row) → ((d : Row) → 0 < length xs → is_lt (row_cmp (get_or xs 0 d) x) ≡ false) → IsInRowOrder xs → IsInRowOrder (x ∷ xs)
 ordered_cons x xs first up zero d le lt = first d (omega arith)
 ordered_cons x xs first up (suc k) d le lt = rw add-one (rw add-one at (up k d (omega arith) (omega arith)))

@@ -3,7 +3,7 @@ use Rattle.std.proofs.Common.{◌≡◌, ◌≢◌, ◌⊎◌, inl, inr, Bool, t
 use Rattle.std.proofs.lemmas.Bool.{false≢true}
 use Rattle.sb_rows.specs.contracts.row.RowEq.TheImpl.Laws.{laws-law}
 use Rattle.sb_rows.specs.declared.row.Row.{Row}
-use Rattle.sb_rows.specs.Exact.{same_row, row}
+use Rattle.sb_rows.specs.inner.Exact.{same_row, row}
 
 -- a row is equal to itself by `==`
 pub same_itself : (a : Row) → same_row a a ≡ true

@@ -13,7 +13,7 @@ module _ {X : Type 0} (p : X → Bool) where
   filter_past (x ∷ xs) (suc i) le fails =
       rw (fails 0 x (omega arith) (omega arith)) (filter_past xs i (omega arith) (λ k d a b. fails (suc k) d (omega arith) (omega arith)))
 
-  -- and the front, where it passes and what is behind it fails
+  -- and the front, where it passes and what comes after it fails
   filter_front : (xs : List X) (i : ℕ) → i ≤ length xs → AllWithin (λ y. p y ≡ true) xs 0 i → AllWithin (λ y. p y ≡ false) xs i (length xs) → filter p xs ≡ take i xs
   filter_front [] i le passes fails = let none : i ≡ 0 = omega arith in rw none refl
   filter_front (x ∷ xs) zero le passes fails =
@@ -32,7 +32,7 @@ module _ {X : Type 0} (key : X → ℕ) (t : ℕ) (xs : List X) (low count : ℕ
       sym (filter_past _ xs low within (λ k d a b. before (key (get_or xs k d)) (below.0 k d a b))
       ∙ filter_front _ (drop low xs) count within_rest
       (λ k d a b. here (key (get_or (drop low xs) k d)) (not_below k d (omega arith)) (most.0 k d a b))
-      (λ k d a b. behind (key (get_or (drop low xs) k d)) (most.1 k d a b)))
+      (λ k d a b. after (key (get_or (drop low xs) k d)) (most.1 k d a b)))
     where
       before : (n : ℕ) → ltb n t ≡ true → eqb n t ≡ false
       before n h = grind (arith, nat_tests)
@@ -40,5 +40,5 @@ module _ {X : Type 0} (key : X → ℕ) (t : ℕ) (xs : List X) (low count : ℕ
       here : (n : ℕ) → ltb n t ≡ false → leb n t ≡ true → eqb n t ≡ true
       here n h k = grind (arith, nat_tests)
 
-      behind : (n : ℕ) → leb n t ≡ false → eqb n t ≡ false
-      behind n h = grind (arith, nat_tests)
+      after : (n : ℕ) → leb n t ≡ false → eqb n t ≡ false
+      after n h = grind (arith, nat_tests)

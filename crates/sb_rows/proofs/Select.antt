@@ -5,7 +5,7 @@ use Rattle.std.specs.declared.cmp.Ordering.{Ordering}
 use Rattle.std.specs.declared.cmp.Ordering.TheVariants.{Less, Equal, Greater}
 use Rattle.std.specs.Ordering.{is_lt, is_gt}
 use Rattle.std.specs.List.{Contains}
-use Rattle.std.proofs.lemmas.Bool.{false≢true}
+use Rattle.std.proofs.lemmas.Bool.{false≢true, and_parts}
 use Rattle.std.proofs.lemmas.List.Sorted.{sorted_far, ranks_by}
 use Rattle.nv_base.specs.declared.object.ObjId.{ObjId}
 use Rattle.pkt_core.specs.Packet.{Values}
@@ -139,18 +139,14 @@ module _ (dp : ObjId) (stage : Stage) (packet : Values) where
     r_acts : acts r ≡ true
     r_acts = rw in_table takes
 
-    both_parts : (a b : Bool) → (a && b) ≡ true → (a ≡ true) × (b ≡ true)
-    both_parts true b e = (refl, e)
-    both_parts false b e = absurd (false≢true e)
-
-    -- a row that acts stands neither before r nor, unless it is r, level with it: then it is r
+    -- a row that acts, and is neither before r nor level with it unless it is r, is r
     only_r : (x : Row) → acts x ≡ true → is_gt (row_cmp x r) ≡ false
         → (is_in_table dp stage x ≡ true → is_lt (row_cmp x r) ≡ true → holds x.matching packet ≡ false)
         → (is_in_table dp stage x ≡ true → x ≢ r → row_cmp x r ≡ Equal → holds x.matching packet ≡ false) → x ≡ r
     only_r x does not_above before level = by (same_or_other x r) (row_cmp x r) refl
       where
         parts : (is_in_table dp stage x ≡ true) × (holds x.matching packet ≡ true)
-        parts = both_parts _ _ does
+        parts = and_parts _ _ does
 
         by : (x ≡ r) ⊎ (x ≢ r) → (o : Ordering) → row_cmp x r ≡ o → x ≡ r
         by (inl is) o e = is

@@ -4,14 +4,15 @@ use Rattle.std.specs.Prelude.{◌&&◌, Some}
 use Rattle.std.specs.Ordering.{is_lt}
 use Rattle.std.specs.List.{filter, find}
 use Rattle.std.specs.List.Sorted.{IsNonDecreasingBy}
-use Rattle.std.proofs.lemmas.Bool.{eqb-true, eq-eqb, false≢true}
+use Rattle.std.proofs.lemmas.Bool.{eqb-true, eq-eqb, and_parts}
 use Rattle.std.proofs.lemmas.Bool.Decides.{nat_tests}
 use Rattle.std.proofs.lemmas.List.Sorted.{IsNonDecreasingBy-from_all_adjacent}
 use Rattle.sb_rows.specs.declared.stage.Stage.{Stage}
 use Rattle.sb_rows.specs.declared.stage.Stage.TheVariants.{LsInCheckPortSec, LsInPreAcl, LsInPreStateful, LsInAclEval, LsInLb, LsInStateful, LsInArpRsp, LsInL2Lkup, LsInL2Unknown, LsOutPreAcl, LsOutPreStateful, LsOutAclEval, LsOutStateful, LsOutCheckPortSec, LrInAdmission, LrInLearnNeighbor, LrInIpInput, LrInUnsnat, LrInDefrag, LrInDnat, LrInIpRouting, LrInArpResolve, LrInArpRequest, LrOutUndnat, LrOutSnat, LrOutDelivery}
 use Rattle.sb_rows.specs.declared.row.Row.{Row}
 use Rattle.sb_rows.specs.Row.{row_cmp, IsInRowOrder}
-use Rattle.sb_rows.specs.Match.{table_key, is_in_table}
+use Rattle.sb_rows.specs.Match.{is_in_table}
+use Rattle.sb_rows.specs.inner.Tables.{table_key}
 use Rattle.sb_rows.specs.Stage.{stage_place}
 use Rattle.nv_base.specs.declared.object.ObjId.{ObjId}
 
@@ -45,11 +46,11 @@ place_below LrOutUndnat = omega arith
 place_below LrOutSnat = omega arith
 place_below LrOutDelivery = omega arith
 
--- where a row's table stands
+-- the place of a row's table
 abbrev pub key_of : Row → ℕ
 key_of r = table_key r.dp r.stage
 
--- a row that does not stand before another has no lower table
+-- a row that is not before another has no lower table
 key_from_order : (x y : Row) → is_lt (row_cmp y x) ≡ false → key_of x ≤ key_of y
 unfolding row_cmp
 key_from_order x y h =
@@ -68,7 +69,7 @@ key_tells dp p t q a b = grind (arith, nat_tests)
 pub in_table-key : (dp : ObjId) (stage : Stage) (r : Row) → eqb (key_of r) (table_key dp stage) ≡ is_in_table dp stage r
 in_table-key dp stage r = key_tells r.dp.0 (stage_place r.stage) dp.0 (stage_place stage) (place_below r.stage) (place_below stage)
 
--- a filter goes by what its test answers
+-- two filters whose tests agree keep the same
 pub filter_alike : {X : Type 0} (p q : X → Bool) → ((x : X) → p x ≡ q x) → (xs : List X) → filter p xs ≡ filter q xs
 filter_alike p q same [] = refl
 filter_alike p q same (x ∷ xs) = rw (same x, filter_alike p q same xs) refl
@@ -81,10 +82,6 @@ find_in_filter {X} p q (x ∷ xs) = by (p x) (find_in_filter p q xs)
     by : (b : Bool) → find q (filter p xs) ≡ find (λ x. p x && q x) xs → find q (cond b (x ∷ filter p xs) (filter p xs)) ≡ cond (b && q x) (Some x) (find (λ x. p x && q x) xs)
     by true rest = ap (cond (q x) (Some x)) rest
     by false rest = rest
-
-both_parts : (a b : Bool) → (a && b) ≡ true → (a ≡ true) × (b ≡ true)
-both_parts true b e = (refl, e)
-both_parts false b e = absurd (false≢true e)
 
 -- the stages, each at its place
 stages : List Stage
@@ -119,7 +116,7 @@ at_its_place LrOutUndnat = refl
 at_its_place LrOutSnat = refl
 at_its_place LrOutDelivery = refl
 
--- a stage is told by its place
+-- stages of one place are one stage
 pub stage_from_place : (s t : Stage) → stage_place s ≡ stage_place t → s ≡ t
 stage_from_place s t e = sym (at_its_place s) ∙ ap (λ n. get_or stages n LsInCheckPortSec) e ∙ at_its_place t
 
@@ -131,6 +128,6 @@ in_table-from dp stage r d s =
 -- and in no other
 pub in_table-gives : (dp : ObjId) (stage : Stage) (r : Row) → is_in_table dp stage r ≡ true → (r.dp ≡ dp) × (r.stage ≡ stage)
 in_table-gives dp stage r e =
-    let parts = both_parts _ _ e in
+    let parts = and_parts _ _ e in
     let number : r.dp.0 ≡ dp.0 = eqb-true _ _ parts.0 in
     (ap (λ (n : ℕ). record { 0 = n }) number, stage_from_place _ _ (eqb-true _ _ parts.1))

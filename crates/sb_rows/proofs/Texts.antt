@@ -1,10 +1,11 @@
--- The texts of two matches stand as their heads do, where not both go on with an address.
+-- The texts of two matches have the order of their heads, where not both go on with a MAC.
 use Rattle.std.proofs.Common.{◌≡◌, ◌≢◌, ℕ, ◌⊎◌, inl, inr, refl}
 use Rattle.std.specs.Ordering.{nat_cmp}
 use Rattle.std.specs.Cmp.Lexicographic.{slice_cmp}
 use Rattle.sb_rows.specs.declared.row.PlainMatch.{PlainMatch}
 use Rattle.sb_rows.specs.declared.row.PlainMatch.TheVariants.{Any, SrcMcast, DstMcast, DstIs}
-use Rattle.sb_rows.specs.Row.{match_head, match_text}
+use Rattle.sb_rows.specs.Row.{match_text}
+use Rattle.sb_rows.specs.inner.Head.{match_head}
 
 pub texts_from_heads : (m n : PlainMatch) → ((x : ℕ) → m ≢ DstIs x) ⊎ ((x : ℕ) → n ≢ DstIs x) → slice_cmp nat_cmp (match_head m) (match_head n) ≡ slice_cmp nat_cmp (match_text m) (match_text n)
 texts_from_heads Any Any h = refl

@@ -1,5 +1,5 @@
-pub mod Exact
 pub mod Listing
 pub mod Match
 pub mod Row
 pub mod Stage
+pub mod inner

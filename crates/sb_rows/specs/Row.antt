@@ -1,4 +1,4 @@
--- The rows of the logical flow table: their texts, and the order that they stand in.
+-- The rows of the logical flow table: their texts and their order.
 use Rattle.std.specs.Prelude.{ℕ, List, [], ◌∷◌, ◌++◌, fold, codes, if◌then◌else◌, ◌==◌, filter, IsSorted}
 use Rattle.std.specs.declared.cmp.Ordering.{Ordering}
 use Rattle.std.specs.Ordering.{nat_cmp, is_gt, on, then_cmp, flip_args}
@@ -19,13 +19,6 @@ match_text SrcMcast = codes "eth.src[40]"
 match_text DstMcast = codes "eth.mcast"
 match_text (DstIs mac) = codes "eth.dst == " ++ mac_text mac
 
--- the match's text, or what stands in it before an address
-abbrev pub match_head : PlainMatch → List ℕ
-match_head Any = codes "1"
-match_head SrcMcast = codes "eth.src[40]"
-match_head DstMcast = codes "eth.mcast"
-match_head (DstIs mac) = codes "eth.dst == "
-
 -- the actions that send a packet out by a port
 abbrev pub output_to : List ℕ → List ℕ
 output_to port = codes "outport = \"" ++ port ++ codes "\"; output;"
@@ -38,11 +31,11 @@ action_text Output = codes "output;"
 action_text Flood = codes "outport = \"_MC_flood\"; output;"
 action_text (To port) = output_to port
 
--- rows stand by datapath, then stage
+-- rows are ordered by datapath, then by stage
 abbrev pub place_cmp : Row → Row → Ordering
 place_cmp = then_cmp (on (λ r. r.dp.0) nat_cmp) (on (λ r. stage_place r.stage) nat_cmp)
 
--- within a stage they stand by priority, the highest first, then by hint
+-- within a stage they are ordered by priority, the highest first, then by hint
 abbrev pub rank_cmp : Row → Row → Ordering
 rank_cmp = then_cmp (flip_args (on (λ r. r.priority) nat_cmp)) (on (λ r. r.hint.0) nat_cmp)
 
@@ -50,11 +43,11 @@ rank_cmp = then_cmp (flip_args (on (λ r. r.priority) nat_cmp)) (on (λ r. r.hin
 unfoldable pub row_cmp : Row → Row → Ordering
 row_cmp = then_cmp (then_cmp place_cmp rank_cmp) (on (λ r. match_text r.matching) (slice_cmp nat_cmp))
 
--- each row stands behind the one before it, or level with it
+-- no row is before the one ahead of it in this order
 abbrev pub IsInRowOrder : List Row → Type 0
 IsInRowOrder rows = IsSorted row_cmp rows
 
--- the rows with one more, which goes before the first that stands after it
+-- the rows with one more, which goes before the first that is after it in this order
 abbrev pub put_row : Row → List Row → List Row
 put_row row [] = row ∷ []
 put_row row (x ∷ xs) = if is_gt (row_cmp x row) then row ∷ x ∷ xs else x ∷ put_row row xs

@@ -1,4 +1,4 @@
--- The stages of the pipelines, as data: this profile's own choice among the tables of ovn-northd(8).
+-- The stages of the pipelines, as data: a choice among the tables of ovn-northd(8), with numbers that are not from OVN.
 use Rattle.std.specs.Prelude.{ℕ, List, codes}
 use Rattle.sb_rows.specs.declared.stage.Pipeline.{Pipeline}
 use Rattle.sb_rows.specs.declared.stage.Pipeline.TheVariants.{Ingress, Egress}
@@ -92,7 +92,7 @@ pipeline_of LrOutUndnat = Egress
 pipeline_of LrOutSnat = Egress
 pipeline_of LrOutDelivery = Egress
 
--- where the stage stands among all, which orders the rows of a datapath
+-- the place of the stage among all, which orders the rows of a datapath
 unfoldable pub stage_place : Stage → ℕ
 stage_place LsInCheckPortSec = 0
 stage_place LsInPreAcl = 1

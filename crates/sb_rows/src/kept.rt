@@ -1,5 +1,5 @@
 ghost use Rattle.std.specs.Prelude.{◌≡◌, IfOk};
-ghost use Rattle.sb_rows.specs.Exact as tells;
+ghost use Rattle.sb_rows.specs.inner.Exact as tells;
 
 use crate::{PlainAction, PlainMatch, Row};
 use nv_base::{Kept, OutOfMemory};

@@ -12,6 +12,3 @@ pub use listing::put_listing;
 pub use row::{PlainAction, PlainMatch, Row};
 pub use rows::Rows;
 pub use stage::{Pipeline, Stage};
-
-#[cfg(test)]
-mod tests;

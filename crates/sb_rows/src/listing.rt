@@ -8,7 +8,7 @@ use itoa::Buffer;
 use nv_base::{Name, ObjId, OutOfMemory};
 
 /// Writes the rows of each datapath that `names` numbers and names, or only of the one numbered
-/// `only`, in that order. After `OutOfMemory` a part may stand behind what was there.
+/// `only`, in that order. After `OutOfMemory` the bytes before are first, and a part of the listing may follow.
 pub fn put_listing(
     out: &mut Vec<u8>,
     rows: &Rows,

@@ -1,7 +1,8 @@
 ghost use Rattle.std.specs.Prelude.{◌≡◌, ◌++◌, OnOk, OnErr};
 ghost use Rattle.std.specs.Ordering.{nat_cmp};
 ghost use Rattle.std.specs.Cmp.Lexicographic.{slice_cmp};
-ghost use Rattle.sb_rows.specs.Row.{match_head, match_text, output_to, action_text, row_cmp};
+ghost use Rattle.sb_rows.specs.Row.{match_text, output_to, action_text, row_cmp};
+ghost use Rattle.sb_rows.specs.inner.Head.{match_head};
 ghost use Rattle.sb_rows.specs.Match.{is_multicast, holds};
 ghost use Rattle.nv_base.specs.Growth.{GrowsAtEnd};
 
@@ -14,11 +15,11 @@ use std::cmp::Ordering;
 #[derive(Debug, Drop, PartialEq, Eq)]
 pub enum PlainMatch {
     Any,
-    /// A source address of the group kind, which no sender may have.
+    /// A multicast source MAC, which no sender may have.
     SrcMcast,
-    /// A destination address of the group kind.
+    /// A multicast destination MAC.
     DstMcast,
-    /// This destination address.
+    /// This destination MAC.
     DstIs(Mac),
 }
 
@@ -35,8 +36,8 @@ impl PlainMatch {
         }
     }
 
-    /// Appends the text, as a listing of flows gives it. After `OutOfMemory` a part may stand behind what
-    /// was there.
+    /// Appends the text, as a listing of flows gives it. After `OutOfMemory` the bytes before are first, and a part of
+    /// the text may follow.
     pub(crate) fn put_text(&self, out: &mut Vec<u8>) -> Result<(), OutOfMemory>
         ensures ok { OnOk result (out.new.items ≡ out.old.items ++ match_text self.now) }
         ensures err { OnErr result (GrowsAtEnd out.old.items out.new.items) }
@@ -48,8 +49,8 @@ impl PlainMatch {
         Ok(())
     }
 
-    // How the text stands to another match's, by their bytes. Where not both end with an address, the parts before
-    // one tell it.
+    // The order of the text and another match's, by their bytes. Where not both end with a MAC, what comes before it
+    // decides.
     fn text_order(&self, other: &PlainMatch) -> Ordering
         ensures { result ≡ slice_cmp nat_cmp (match_text self.now) (match_text other.now) }
     {
@@ -63,7 +64,7 @@ impl PlainMatch {
         }
     }
 
-    // The text, or what stands in it before an address.
+    // The text, or what comes in it before a MAC.
     fn head(&self) -> &'static str
         ensures { result.now ≡ match_head self.now }
     {
@@ -76,7 +77,7 @@ impl PlainMatch {
     }
 }
 
-// Whether the address is of the group kind: the lowest bit of the byte that is sent first.
+// Whether the MAC is a multicast one: the lowest bit of the byte that is sent first is set.
 fn is_multicast(mac: u128) -> bool
     ensures { result ≡ is_multicast mac }
 {
@@ -96,8 +97,8 @@ pub enum PlainAction {
 }
 
 impl PlainAction {
-    /// Appends the text, as a listing of flows gives it. After `OutOfMemory` a part may stand behind what
-    /// was there.
+    /// Appends the text, as a listing of flows gives it. After `OutOfMemory` the bytes before are first, and a part of
+    /// the text may follow.
     pub(crate) fn put_text(&self, out: &mut Vec<u8>) -> Result<(), OutOfMemory>
         ensures ok { OnOk result (out.new.items ≡ out.old.items ++ action_text self.now) }
         ensures err { OnErr result (GrowsAtEnd out.old.items out.new.items) }
@@ -139,7 +140,7 @@ pub struct Row {
 }
 
 impl Row {
-    /// How the row stands to another in a listing: by datapath, stage, falling priority, hint, and the
+    /// The order of the row and another in a listing: by datapath, stage, falling priority, hint, and the
     /// text of the match. Rows that differ in their actions alone are `Equal`.
     #[tactic(auto, unfolding(crate::specs::Row::row_cmp))]
     pub fn order(&self, other: &Row) -> Ordering

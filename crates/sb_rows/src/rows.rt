@@ -4,7 +4,8 @@ ghost use Rattle.std.specs.Ordering.{is_le};
 ghost use Rattle.std.specs.List.{find};
 ghost use Rattle.std.specs.Option.{option_copied};
 ghost use Rattle.sb_rows.specs.Row.{IsInRowOrder, row_cmp, put_row, rows_of};
-ghost use Rattle.sb_rows.specs.Match.{holds, select, rows_of_table, table_key};
+ghost use Rattle.sb_rows.specs.Match.{holds, select};
+ghost use Rattle.sb_rows.specs.inner.Tables.{rows_of_table, table_key};
 
 use crate::{Row, Stage};
 use nv_base::{ObjId, OutOfMemory};
@@ -112,7 +113,7 @@ impl Rows {
     }
 }
 
-// Where a table stands among all: by datapath, then by stage.
+// The place of a table among all: by datapath, then by stage.
 fn table_key(dp: ObjId, stage: Stage) -> u64
     ensures { result ≡ table_key dp stage }
 {
@@ -126,8 +127,8 @@ fn first_that_holds<'r>(rows: &'r [Row], packet: &Packet) -> Option<&'r Row>
     rows.iter().find(|row| row.matching.holds(packet))
 }
 
-// Where a row goes among rows in order: behind all that do not stand after it. Rows mostly come in order, so the
-// last one is asked first.
+// Where a row goes among rows in order: after all that are not after it. Rows mostly come in order, so the last one
+// is looked at first.
 fn place_among(rows: &[Row], row: &Row) -> usize
     requires { IsInRowOrder rows.now }
     ensures bound { result ≤ length rows.now }

@@ -146,7 +146,7 @@ impl Stage {
         }
     }
 
-    /// Where the stage stands among all.
+    /// The place of the stage among all.
     #[tactic(auto, unfolding(crate::specs::Stage::stage_place))]
     pub(crate) fn place(self) -> u8
         ensures { result ≡ stage_place self }

@@ -11,7 +11,7 @@ use Rattle.sb_rows.specs.declared.stage.Stage.{Stage}
 use Rattle.sb_rows.specs.declared.row.Row.{Row}
 use Rattle.sb_rows.specs.Match.{holds, is_in_table, select}
 use Rattle.sb_rows.proofs.Tables.{in_table-from, in_table-gives}
-use Rattle.tr_stage.specs.Pipe.{TakesEach}
+use Rattle.tr_stage.specs.Machine.{TakesEach}
 
 module _ {X : Type 0} (p : X → Bool) where
   -- where an element passes, one is found

@@ -1,5 +1,4 @@
-pub mod Sound
 pub mod Found
 pub mod Runs
 pub mod Steps
-pub mod Ways
+pub mod Progress

@@ -15,34 +15,34 @@ use Rattle.sb_rows.specs.declared.row.Row.{Row}
 use Rattle.sb_rows.specs.Match.{select}
 use Rattle.tr_stage.specs.declared.outcome.Cause.{Cause}
 use Rattle.tr_stage.specs.declared.outcome.Outcome.{Outcome}
-use Rattle.tr_stage.specs.Pipe.{next_stage, cause_at, way_from, pipe, is_of_switch, is_last, IsRunnable}
-use Rattle.tr_stage.specs.Pipe.Ending.{Ended, Stuck}
+use Rattle.tr_stage.specs.Machine.{next_stage, cause_at, run_from, run_pipeline, is_of_switch, is_last, IsRunnable}
+use Rattle.tr_stage.specs.Machine.PipelineEnd.{Ended, Stuck}
 use Rattle.tr_stage.proofs.Found.{IsFound, IsFound-from_select, select_some}
-use Rattle.tr_stage.proofs.Steps.{pipe_begins, way-next, way-drop, way-output, way-to, way-flood}
+use Rattle.tr_stage.proofs.Steps.{pipeline_begins, run-next, run-drop, run-output, run-to, run-flood}
 
--- how many stages of the pipeline stand behind the stage
-behind : Stage → ℕ
-behind LsInCheckPortSec = 8
-behind LsInPreAcl = 7
-behind LsInPreStateful = 6
-behind LsInAclEval = 5
-behind LsInLb = 4
-behind LsInStateful = 3
-behind LsInArpRsp = 2
-behind LsInL2Lkup = 1
-behind LsOutPreAcl = 4
-behind LsOutPreStateful = 3
-behind LsOutAclEval = 2
-behind LsOutStateful = 1
-behind _ = 0
+-- how many stages of the pipeline come after the stage
+stages_after : Stage → ℕ
+stages_after LsInCheckPortSec = 8
+stages_after LsInPreAcl = 7
+stages_after LsInPreStateful = 6
+stages_after LsInAclEval = 5
+stages_after LsInLb = 4
+stages_after LsInStateful = 3
+stages_after LsInArpRsp = 2
+stages_after LsInL2Lkup = 1
+stages_after LsOutPreAcl = 4
+stages_after LsOutPreStateful = 3
+stages_after LsOutAclEval = 2
+stages_after LsOutStateful = 1
+stages_after _ = 0
 
--- the stage behind a stage of a switch is one too, unless there is none
+-- the next stage of a stage of a switch is one of a switch too, unless there is none
 GoesOn : Stage → Option Stage → Type 0
-GoesOn stage (Some later) = IsTrue (is_of_switch later) × (suc (behind later) ≡ behind stage)
+GoesOn stage (Some later) = IsTrue (is_of_switch later) × (suc (stages_after later) ≡ stages_after stage)
 GoesOn stage None = IsTrue (is_of_switch stage) → IsTrue (is_last stage)
 
 goes_on : (stage : Stage) → GoesOn stage (next_stage stage)
-unfolding GoesOn behind
+unfolding GoesOn stages_after
 goes_on LsInCheckPortSec = (refl, refl)
 goes_on LsInPreAcl = (refl, refl)
 goes_on LsInPreStateful = (refl, refl)
@@ -65,40 +65,40 @@ not_stuck outcome e = cc
 
 module _ (rows : List Row) (dp : ObjId) (packet : Values) (sound : IsRunnable rows dp) where
   module _ (budget : ℕ) (stage : Stage) (of_switch : IsTrue (is_of_switch stage))
-      (rest : (later : Stage) → IsTrue (is_of_switch later) → suc (behind later) ≡ behind stage → (way_from rows dp budget later packet).ending ≢ Stuck) where
+      (rest : (later : Stage) → IsTrue (is_of_switch later) → suc (stages_after later) ≡ stages_after stage → (run_from rows dp budget later packet).ending ≢ Stuck) where
     module _ (row : Row) (is : select dp stage packet rows ≡ Some row) (at : IsFound rows dp stage row) where
-      by_next : row.actions ≡ Next → (next : Option Stage) → next_stage stage ≡ next → GoesOn stage next → (way_from rows dp (suc budget) stage packet).ending ≢ Stuck
+      by_next : row.actions ≡ Next → (next : Option Stage) → next_stage stage ≡ next → GoesOn stage next → (run_from rows dp (suc budget) stage packet).ending ≢ Stuck
       unfolding GoesOn
-      by_next acts (Some later) there goes = rw (way-next rows dp budget stage packet row is later acts there) (rest later goes.0 goes.1)
+      by_next acts (Some later) there goes = rw (run-next rows dp budget stage packet row is later acts there) (rest later goes.0 goes.1)
       by_next acts None none goes = absurd (All-contains (λ (r : Row). r.dp ≡ dp → IsTrue (is_last r.stage) → r.actions ≢ Next) rows row sound.ends at.among at.of_dp (rw at.of_stage (goes of_switch)) acts)
 
-      by_cause : row.actions ≡ Drop → (cause : Option Cause) → cause_at stage ≡ cause → (way_from rows dp (suc budget) stage packet).ending ≢ Stuck
-      by_cause acts (Some cause) because = rw (way-drop rows dp budget stage packet row is cause acts because) (not_stuck _)
+      by_cause : row.actions ≡ Drop → (cause : Option Cause) → cause_at stage ≡ cause → (run_from rows dp (suc budget) stage packet).ending ≢ Stuck
+      by_cause acts (Some cause) because = rw (run-drop rows dp budget stage packet row is cause acts because) (not_stuck _)
       by_cause acts None none = absurd (All-contains (λ (r : Row). r.dp ≡ dp → r.actions ≡ Drop → cause_at r.stage ≢ None) rows row sound.drops at.among at.of_dp acts (ap cause_at at.of_stage ∙ none))
 
-      by_actions : (actions : PlainAction) → row.actions ≡ actions → (way_from rows dp (suc budget) stage packet).ending ≢ Stuck
+      by_actions : (actions : PlainAction) → row.actions ≡ actions → (run_from rows dp (suc budget) stage packet).ending ≢ Stuck
       by_actions Next acts = by_next acts (next_stage stage) refl (goes_on stage)
       by_actions Drop acts = by_cause acts (cause_at stage) refl
-      by_actions Output acts = rw (way-output rows dp budget stage packet row is acts) (not_stuck _)
-      by_actions (To port) acts = rw (way-to rows dp budget stage packet row is port acts) (not_stuck _)
-      by_actions Flood acts = rw (way-flood rows dp budget stage packet row is acts) (not_stuck _)
+      by_actions Output acts = rw (run-output rows dp budget stage packet row is acts) (not_stuck _)
+      by_actions (To port) acts = rw (run-to rows dp budget stage packet row is port acts) (not_stuck _)
+      by_actions Flood acts = rw (run-flood rows dp budget stage packet row is acts) (not_stuck _)
 
-    by_row : (found : Option Row) → select dp stage packet rows ≡ found → (way_from rows dp (suc budget) stage packet).ending ≢ Stuck
+    by_row : (found : Option Row) → select dp stage packet rows ≡ found → (run_from rows dp (suc budget) stage packet).ending ≢ Stuck
     by_row None none = absurd (select_some rows dp stage packet (sound.takes_each stage of_switch) none)
     by_row (Some row) is = by_actions row is (IsFound-from_select rows dp stage packet row is) row.actions refl
 
-    -- a step is not stuck, where no way behind it is
-    step_runs : (way_from rows dp (suc budget) stage packet).ending ≢ Stuck
-    step_runs = by_row (select dp stage packet rows) refl
+    -- a step is not stuck, where the run after it is not
+    step_not_stuck : (run_from rows dp (suc budget) stage packet).ending ≢ Stuck
+    step_not_stuck = by_row (select dp stage packet rows) refl
 
-  -- nor is a way of a switch, with a step for each stage that is still to come
-  way_runs : (budget : ℕ) (stage : Stage) → IsTrue (is_of_switch stage) → behind stage < budget → (way_from rows dp budget stage packet).ending ≢ Stuck
-  way_runs zero stage of_switch enough = absurd (omega arith)
-  way_runs (suc budget) stage of_switch enough =
-      step_runs budget stage of_switch (λ later of_it fewer. way_runs budget later of_it (omega arith))
+  -- nor is a run through a switch, with a step for each stage that is still to come
+  never_stuck : (budget : ℕ) (stage : Stage) → IsTrue (is_of_switch stage) → stages_after stage < budget → (run_from rows dp budget stage packet).ending ≢ Stuck
+  never_stuck zero stage of_switch enough = absurd (omega arith)
+  never_stuck (suc budget) stage of_switch enough =
+      step_not_stuck budget stage of_switch (λ later of_it fewer. never_stuck budget later of_it (omega arith))
 
   -- so no pipeline is stuck
-  pub pipe_runs : (pipeline : Pipeline) → (pipe rows dp pipeline packet).ending ≢ Stuck
-  unfolding behind
-  pipe_runs Ingress = rw (pipe_begins rows dp Ingress packet) (way_runs 128 LsInCheckPortSec refl (lit< tt))
-  pipe_runs Egress = rw (pipe_begins rows dp Egress packet) (way_runs 128 LsOutPreAcl refl (lit< tt))
+  pub pipeline_never_stuck : (pipeline : Pipeline) → (run_pipeline rows dp pipeline packet).ending ≢ Stuck
+  unfolding stages_after
+  pipeline_never_stuck Ingress = rw (pipeline_begins rows dp Ingress packet) (never_stuck 128 LsInCheckPortSec refl (lit< tt))
+  pipeline_never_stuck Egress = rw (pipeline_begins rows dp Egress packet) (never_stuck 128 LsOutPreAcl refl (lit< tt))

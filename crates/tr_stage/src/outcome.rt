@@ -5,7 +5,7 @@ use nv_base::ObjId;
 use pkt_core::Packet;
 use sb_rows::Stage;
 
-/// That a row acted on a packet: in which table the row stands, its priority and its hint.
+/// That a row acted on a packet: the table of the row, its priority and its hint.
 #[derive(Clone, Copy, Debug, PartialEq, Eq)]
 pub struct Hit {
     /// The datapath's number.

@@ -1,6 +1,6 @@
 ghost use Rattle.std.specs.Prelude.{◌≡◌, Some};
 ghost use Rattle.std.specs.Option.{IsSome};
-ghost use Rattle.tr_stage.specs.Pipe.{first_stage, next_stage, cause_at};
+ghost use Rattle.tr_stage.specs.Machine.{first_stage, next_stage, cause_at};
 
 use crate::Cause;
 use sb_rows::{Pipeline, Stage};
@@ -15,7 +15,7 @@ pub(crate) fn first_stage(pipeline: Pipeline) -> Stage
     }
 }
 
-// The stage behind one that is not the last of a pipeline of a switch.
+// The stage after one that is not the last of a pipeline of a switch.
 pub(crate) fn next_stage(stage: Stage) -> Stage
     requires { IsSome (next_stage stage) }
     ensures { next_stage stage ≡ Some result }

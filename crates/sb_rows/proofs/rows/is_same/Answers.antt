@@ -1,6 +1,6 @@
 use Rattle.std.proofs.Common.{◌≡◌, ◌∙◌, true, sym, subst}
 use Rattle.sb_rows.specs.declared.row.Row.{Row}
-use Rattle.sb_rows.specs.Exact.{same_row, row}
+use Rattle.sb_rows.specs.inner.Exact.{same_row, row}
 use Rattle.sb_rows.proofs.Same.{same_itself}
 use Rattle.sb_rows.proofs.rows.is_same.Goals as goal
 

@@ -2,7 +2,7 @@ use Rattle.std.proofs.Common.{ltb, leb, drop, rules, ◌∙◌}
 use Rattle.std.proofs.lemmas.List.{take_rest}
 use Rattle.std.proofs.lemmas.List.Sorted.{IsPartitionPoint-from_clause, IsPartitionedBy-ltb, IsPartitionedBy-leb, IsNonDecreasingBy-drop}
 use Rattle.sb_rows.specs.declared.row.Row.{Row}
-use Rattle.sb_rows.specs.Match.{table_key}
+use Rattle.sb_rows.specs.inner.Tables.{table_key}
 use Rattle.sb_rows.proofs.Tables.{key_of, keys_rise, in_table-key, filter_alike}
 use Rattle.sb_rows.proofs.Section.{section_at}
 use Rattle.sb_rows.proofs.rows.Rows.of_table.Goals as goal

@@ -1,0 +1,7 @@
+//! Tests of the public calls of the base crates: what their clauses do not say.
+#![tactic(auto)]
+
+#[cfg(test)]
+mod base;
+#[cfg(test)]
+mod packets;

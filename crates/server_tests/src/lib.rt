@@ -1,0 +1,9 @@
+//! Tests of the public calls of the server's crates: what their clauses do not say.
+#![tactic(auto)]
+
+#[cfg(test)]
+mod fixture;
+#[cfg(test)]
+mod rows;
+#[cfg(test)]
+mod stages;

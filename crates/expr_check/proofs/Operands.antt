@@ -10,7 +10,7 @@ use Rattle.expr_check.specs.declared.fault.TypeFault.{TypeFault}
 use Rattle.expr_check.specs.declared.role.Role.{Role}
 use Rattle.expr_check.specs.Check.{both, mapped, checked, all_checked}
 
--- formulas in front of others
+-- formulas before others
 abbrev pub in_front : {A : Type 0} → List (Formula A) → Formulas A → Formulas A
 in_front [] rest = rest
 in_front (f ∷ fs) rest = Cons f (in_front fs rest)

@@ -17,12 +17,12 @@ use Rattle.expr_check.specs.declared.role.Role.{Role}
 use Rattle.expr_check.specs.declared.subject.Subject.{Subject}
 use Rattle.expr_check.specs.declared.subject.Subject.TheVariants as subject
 use Rattle.expr_check.specs.Subject.{subject_of}
-use Rattle.expr_check.specs.Rules.{is_allowed, width_of, bits_fit, right_fits, may_stand_alone, may_be_compared}
+use Rattle.expr_check.specs.TypeRules.{is_allowed, width_of, bits_fit, right_fits, may_stand_alone, may_be_compared}
 
--- what the rules say of a part at this place: the first that fails, or the atom
+-- what the rules say of a part at this offset: the first that fails, or the atom
 abbrev pub judged : ℕ → Bool → Bool → Bool → TypedAtom → Result TypedAtom TypeFault
-judged place allowed fits suits atom =
-    if not allowed then Err (NotAllowedHere place) else (if not fits then Err (WrongWidth place) else (if not suits then Err (WrongForm place) else Ok atom))
+judged offset allowed fits suits atom =
+    if not allowed then Err (NotAllowedHere offset) else (if not fits then Err (WrongWidth offset) else (if not suits then Err (WrongForm offset) else Ok atom))
 
 -- a part of this subject alone
 abbrev pub alone : Subject → Bits → TypedAtom
@@ -35,13 +35,13 @@ comparison (subject.Field f) bits rel right = typed.Compare f bits rel right
 comparison (subject.Pred p) bits rel right = typed.Holds p
 
 abbrev pub checked_bare : Role → Part → Option Subject → Result TypedAtom TypeFault
-checked_bare role part None = Err (UnknownField part.place)
-checked_bare role part (Some s) = judged part.place (is_allowed role s) (bits_fit (width_of s) part.bits) (may_stand_alone s part.bits) (alone s part.bits)
+checked_bare role part None = Err (UnknownField part.offset)
+checked_bare role part (Some s) = judged part.offset (is_allowed role s) (bits_fit (width_of s) part.bits) (may_stand_alone s part.bits) (alone s part.bits)
 
 abbrev pub checked_comparison : Role → Part → Rel → Right → Option Subject → Result TypedAtom TypeFault
-checked_comparison role part rel right None = Err (UnknownField part.place)
+checked_comparison role part rel right None = Err (UnknownField part.offset)
 checked_comparison role part rel right (Some s) =
-    judged part.place (is_allowed role s) (bits_fit (width_of s) part.bits && right_fits (width_of s) part.bits right) (may_be_compared s part.bits rel right) (comparison s part.bits rel right)
+    judged part.offset (is_allowed role s) (bits_fit (width_of s) part.bits && right_fits (width_of s) part.bits right) (may_be_compared s part.bits rel right) (comparison s part.bits rel right)
 
 abbrev pub checked_atom : Role → Atom → Result TypedAtom TypeFault
 checked_atom role (Truth holds) = Ok (typed.Truth holds)
@@ -71,7 +71,7 @@ abbrev mutual
   all_checked role Nil = Ok Nil
   all_checked role (Cons f fs) = both Cons (checked role f) (all_checked role fs)
 
--- want of memory
+-- out of memory
 abbrev pub is_memory : TypeFault → Bool
 is_memory Memory = true
 is_memory _ = false

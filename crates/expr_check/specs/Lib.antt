@@ -1,3 +1,3 @@
 pub mod Check
-pub mod Rules
+pub mod TypeRules
 pub mod Subject

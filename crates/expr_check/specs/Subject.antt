@@ -1,4 +1,4 @@
--- What a part's name stands for.
+-- What a part's name means.
 use Rattle.std.specs.Prelude.{ℕ, List, Option, Some, None}
 use Rattle.std.specs.Option.{option_map}
 use Rattle.nv_base.specs.declared.field.Field.{Field}

@@ -23,14 +23,14 @@ fn check_bare(role: Role, part: &Part) -> Result<TypedAtom, TypeFault>
     ensures { result ≡ checked_bare role part.now (subject_of part.now.name) }
 {
     let Some(subject) = subject_of(part.name.as_slice()) else {
-        return Err(TypeFault::UnknownField(part.place));
+        return Err(TypeFault::UnknownField(part.offset));
     };
     if !is_allowed(role, subject) {
-        Err(TypeFault::NotAllowedHere(part.place))
+        Err(TypeFault::NotAllowedHere(part.offset))
     } else if !bits_fit(width_of(subject), part.bits) {
-        Err(TypeFault::WrongWidth(part.place))
+        Err(TypeFault::WrongWidth(part.offset))
     } else if !may_stand_alone(subject, part.bits) {
-        Err(TypeFault::WrongForm(part.place))
+        Err(TypeFault::WrongForm(part.offset))
     } else {
         Ok(alone(subject, part.bits))
     }
@@ -41,15 +41,15 @@ fn check_compared(role: Role, part: &Part, rel: Rel, right: &Right) -> Result<Su
     ensures { mapped (λ s. comparison s part.now.bits rel right.now) result ≡ checked_comparison role part.now rel right.now (subject_of part.now.name) }
 {
     let Some(subject) = subject_of(part.name.as_slice()) else {
-        return Err(TypeFault::UnknownField(part.place));
+        return Err(TypeFault::UnknownField(part.offset));
     };
     let width = width_of(subject);
     if !is_allowed(role, subject) {
-        Err(TypeFault::NotAllowedHere(part.place))
+        Err(TypeFault::NotAllowedHere(part.offset))
     } else if !(bits_fit(width, part.bits) && right_fits(width, part.bits, right)) {
-        Err(TypeFault::WrongWidth(part.place))
+        Err(TypeFault::WrongWidth(part.offset))
     } else if !may_be_compared(subject, part.bits, rel, right) {
-        Err(TypeFault::WrongForm(part.place))
+        Err(TypeFault::WrongForm(part.offset))
     } else {
         Ok(subject)
     }

@@ -4,7 +4,7 @@ ghost use Rattle.expr_check.specs.declared.fault.TypeFault.TheVariants.{Memory};
 use nv_base::OutOfMemory;
 use thiserror::Error;
 
-/// Why a match may not stand where it does. The place is that of the part's name, in bytes from the beginning of the
+/// Why a match is not allowed in its role. The offset is that of the part's name, in bytes from the beginning of the
 /// text.
 #[derive(Clone, Copy, Debug, PartialEq, Eq, Error)]
 pub enum TypeFault {

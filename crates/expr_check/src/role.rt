@@ -1,4 +1,4 @@
-/// Where a match stands.
+/// Where a match is used.
 #[derive(Clone, Copy, Debug, PartialEq, Eq)]
 pub enum Role {
     /// In a row of flows.

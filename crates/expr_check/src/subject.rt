@@ -4,7 +4,7 @@ ghost use Rattle.expr_check.specs.Subject.{subject_of};
 use expr_core::{Pred, pred_of};
 use nv_base::{Field, field_of};
 
-/// What a part's name stands for.
+/// What a part's name means.
 #[derive(Clone, Copy, Debug)]
 pub(crate) enum Subject {
     /// A field.
@@ -13,7 +13,7 @@ pub(crate) enum Subject {
     Pred(Pred),
 }
 
-/// What the name stands for, if it is that of a field or of a predicate.
+/// What the name means, if it is that of a field or of a predicate.
 pub(crate) fn subject_of(name: &[u8]) -> Option<Subject>
     ensures { result ≡ subject_of name.now }
 {

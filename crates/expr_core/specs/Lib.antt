@@ -1,15 +1,11 @@
 pub mod Equal
-pub mod EqualLaws
 pub mod EqualMatches
 pub mod EqualParts
-pub mod Exact
 pub mod Expr
-pub mod ExprFalls
 pub mod Formula
 pub mod Lookup
-pub mod Sizes
 pub mod Predicate
 pub mod Text
 pub mod Typed
-pub mod TypedFalls
 pub mod Width
+pub mod inner

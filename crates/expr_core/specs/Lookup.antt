@@ -2,7 +2,7 @@
 use Rattle.std.specs.Prelude.{ℕ, Bool, List, Option}
 use Rattle.nv_base.specs.declared.object.ObjId.{ObjId}
 
--- what names stand for, and which values sets and groups have
+-- what names mean, and which values sets and groups have
 pub record Lookup : Type 0 where
   -- the port of this name
   pub port : List ℕ → Option ObjId

@@ -1,4 +1,4 @@
--- The predicates (ovn-sb(5), 'Logical_Flow TABLE', predicates; what `ip4.mcast` and `icmp` are is this profile's own).
+-- The predicates (ovn-sb(5), 'Logical_Flow TABLE', predicates; what `ip4.mcast` and `icmp` are is not from OVN).
 use Rattle.std.specs.Prelude.{ℕ, List, [], ◌∷◌, Option, codes, nat_eq}
 use Rattle.std.specs.List.{find}
 use Rattle.std.specs.Cmp.Lexicographic.{pointwise}

@@ -55,7 +55,7 @@ item_text (item.Text name) = codes "\"" ++ name ++ codes "\""
 item_text (item.AddrSet name) = codes "$" ++ name
 item_text (item.Group name) = codes "@" ++ name
 
--- items with `, ` between, behind what stands in front of the first
+-- items with `, ` between, after what is written before the first
 abbrev pub items_text : List ℕ → List Item → List ℕ
 items_text front [] = []
 items_text front (i ∷ is) = front ++ item_text i ++ items_text (codes ", ") is
@@ -64,7 +64,7 @@ abbrev pub right_text : Right → List ℕ
 right_text (right.Item i) = item_text i
 right_text (right.Set is) = codes "{" ++ items_text [] is ++ codes "}"
 
--- a relation and its right side, behind the part
+-- a relation and its right side, after the part
 abbrev pub relation_text : Rel → Right → List ℕ
 relation_text r s = codes " " ++ rel_text r ++ codes " " ++ right_text s
 
@@ -121,7 +121,7 @@ abbrev mutual
   formula_text w (And fs) = operands_text w [] (codes " && ") fs
   formula_text w (Or fs) = operands_text w [] (codes " || ") fs
 
-  -- the operands of an operator, behind what stands in front of the first
+  -- the operands of an operator, after what is written before the first
   pub operands_text : {A : Type 0} → Writing A → List ℕ → List ℕ → Formulas A → List ℕ
   operands_text w front operator Nil = []
   operands_text w front operator (Cons f fs) = front ++ enclosed (is_joined f) (formula_text w f) ++ operands_text w operator operator fs

@@ -26,7 +26,7 @@ abbrev pub is_address : Form → Bool
 is_address Ip4 = true
 is_address _ = false
 
--- behind an address, a decimal is the length of a prefix; all else is a mask
+-- after an address, a decimal is the length of a prefix; all else is a mask
 abbrev pub is_prefix : Const → Const → Bool
 is_prefix base mask = is_address base.form && is_decimal mask.form
 

@@ -23,7 +23,7 @@ pub enum Rel {
 pub enum Item {
     /// One number.
     One(Const),
-    /// A number before `/`, and behind it the length of a prefix or the bits that count.
+    /// A number before `/`, and after it the length of a prefix or the bits that count.
     Masked(Const, Const),
     /// The name of a port or of a multicast group, in double quotes.
     Text(Name),

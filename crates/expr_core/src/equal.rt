@@ -22,7 +22,7 @@ fn same_expr_operands(ones: &[Expr], others: &[Expr]) -> bool
     true
 }
 
-// Of one shape, whose atoms are equal in their places.
+// Of one shape, whose atoms are equal in their order.
 #[cycle(same_expr)]
 fn same_expr(one: &Expr, other: &Expr) -> bool
     ensures { result ≡ expr_eq one.now other.now }
@@ -52,7 +52,7 @@ fn same_typed_operands(ones: &[Typed], others: &[Typed]) -> bool
     true
 }
 
-// Of one shape, whose atoms are equal in their places.
+// Of one shape, whose atoms are equal in their order.
 #[cycle(same_typed)]
 fn same_typed(one: &Typed, other: &Typed) -> bool
     ensures { result ≡ typed_eq one.now other.now }
@@ -67,7 +67,8 @@ fn same_typed(one: &Typed, other: &Typed) -> bool
 }
 
 impl PartialEq for Expr {
-    ghost use Rattle.expr_core.specs.EqualMatches.{expr_eq, expr_per};
+    ghost use Rattle.expr_core.specs.EqualMatches.{expr_eq};
+    ghost use Rattle.expr_core.specs.inner.EqualMatches.{expr_per};
 
     ghost eq = { expr_eq };
 
@@ -79,13 +80,14 @@ impl PartialEq for Expr {
 }
 
 impl Eq for Expr {
-    ghost use Rattle.expr_core.specs.EqualMatches.{expr_equiv};
+    ghost use Rattle.expr_core.specs.inner.EqualMatches.{expr_equiv};
 
     ghost laws = { expr_equiv };
 }
 
 impl PartialEq for Typed {
-    ghost use Rattle.expr_core.specs.EqualMatches.{typed_eq, typed_per};
+    ghost use Rattle.expr_core.specs.EqualMatches.{typed_eq};
+    ghost use Rattle.expr_core.specs.inner.EqualMatches.{typed_per};
 
     ghost eq = { typed_eq };
 
@@ -97,7 +99,7 @@ impl PartialEq for Typed {
 }
 
 impl Eq for Typed {
-    ghost use Rattle.expr_core.specs.EqualMatches.{typed_equiv};
+    ghost use Rattle.expr_core.specs.inner.EqualMatches.{typed_equiv};
 
     ghost laws = { typed_equiv };
 }

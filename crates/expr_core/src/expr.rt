@@ -18,7 +18,7 @@ pub enum Atom {
 }
 
 impl Atom {
-    /// The same atom, its part at the same place.
+    /// The same atom, its part at the same offset.
     pub fn copy(&self, alloc: Global) -> Result<Self, OutOfMemory>
         ensures { IfOk result (λ copied. copied ≡ self.now) }
     {
@@ -32,8 +32,8 @@ impl Atom {
     }
 }
 
-/// A match as it was read. A clause sees the formula over its atoms. Two matches are equal by `==` wherever their
-/// parts stand.
+/// A match as it was read. A clause sees the formula over its atoms. Two matches are equal by `==` at whatever
+/// offsets their parts are.
 // So it is not `Kept`: two matches that are equal by `==` need not be one value.
 #[cycle(expr)]
 #[derive(Drop)]
@@ -59,7 +59,8 @@ pub enum ExprNode {
 impl Model for Expr {
     ghost use Rattle.expr_core.specs.declared.expr.Atom.{Atom};
     ghost use Rattle.expr_core.specs.contracts.expr.Atom as atom;
-    ghost use Rattle.expr_core.specs.Formula.{Formula, formula_code, formula_size};
+    ghost use Rattle.expr_core.specs.Formula.{Formula};
+    ghost use Rattle.expr_core.specs.inner.FormulaCode.{formula_code, formula_size};
 
     ghost Value = { Formula Atom };
 
@@ -71,7 +72,7 @@ impl Model for Expr {
 
     ghost size = { formula_size };
 
-    ghost use Rattle.expr_core.specs.ExprFalls.{falls};
+    ghost use Rattle.expr_core.specs.inner.ExprFalls.{falls};
 
     ghost size_decreases = { λ e h. falls e.node };
 }
@@ -95,7 +96,7 @@ impl Expr {
         })
     }
 
-    /// The same match, its parts at the same places.
+    /// The same match, its parts at the same offsets.
     pub fn copy(&self, alloc: Global) -> Result<Self, OutOfMemory>
         ensures { IfOk result (λ copied. copied ≡ self.now) }
     {

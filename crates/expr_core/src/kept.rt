@@ -1,5 +1,5 @@
 ghost use Rattle.std.specs.Prelude.{◌≡◌, IfOk};
-ghost use Rattle.expr_core.specs.Exact as tells;
+ghost use Rattle.expr_core.specs.inner.Exact as tells;
 
 use crate::{Bits, Const, Item, Pred, Rel, Right, Typed, TypedAtom, TypedNode};
 use nv_base::{Items, Kept, OutOfMemory};

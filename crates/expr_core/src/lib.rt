@@ -9,8 +9,6 @@ mod expr;
 mod kept;
 mod part;
 mod predicate;
-#[cfg(test)]
-mod tests;
 mod text;
 mod typed;
 mod width;

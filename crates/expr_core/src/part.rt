@@ -14,32 +14,33 @@ pub enum Bits {
     Range(u8, u8),
 }
 
-/// A part of a packet as a match names it. Two parts are equal by `==` wherever they stand.
+/// A part of a packet as a match names it. Two parts are equal by `==` whatever their offsets.
 #[derive(Debug, Drop)]
 pub struct Part {
     /// The name of a field or of a predicate.
     pub name: Name,
     /// Which bits of the field.
     pub bits: Bits,
-    /// Where the name begins, in bytes from the beginning of the text.
-    pub place: u32,
+    /// The offset of the name in the text, in bytes.
+    pub offset: u32,
 }
 
 impl Part {
-    /// The same part, at the same place.
+    /// The same part, at the same offset.
     pub fn copy(&self, alloc: Global) -> Result<Self, OutOfMemory>
         ensures { IfOk result (λ copied. copied ≡ self.now) }
     {
         Ok(Part {
             name: self.name.copy(alloc)?,
             bits: self.bits,
-            place: self.place,
+            offset: self.offset,
         })
     }
 }
 
 impl PartialEq for Part {
-    ghost use Rattle.expr_core.specs.EqualParts.{part_eq, part_per};
+    ghost use Rattle.expr_core.specs.EqualParts.{part_eq};
+    ghost use Rattle.expr_core.specs.inner.EqualParts.{part_per};
 
     ghost eq = { part_eq };
 
@@ -51,7 +52,7 @@ impl PartialEq for Part {
 }
 
 impl Eq for Part {
-    ghost use Rattle.expr_core.specs.EqualParts.{part_equiv};
+    ghost use Rattle.expr_core.specs.inner.EqualParts.{part_equiv};
 
     ghost laws = { part_equiv };
 }

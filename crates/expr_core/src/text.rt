@@ -77,14 +77,14 @@ fn put_truth(out: &mut Vec<u8>, holds: bool) -> Result<(), OutOfMemory>
     Ok(())
 }
 
-// What stands in front of an operand.
+// What is written before an operand.
 fn opening(parentheses: bool) -> &'static str
     ensures { result.now ≡ opening parentheses }
 {
     if parentheses { "(" } else { "" }
 }
 
-// What stands behind an operand.
+// What is written after an operand.
 fn closing(parentheses: bool) -> &'static str
     ensures { result.now ≡ closing parentheses }
 {

@@ -44,7 +44,8 @@ pub enum TypedNode {
 impl Model for Typed {
     ghost use Rattle.expr_core.specs.declared.typed.TypedAtom.{TypedAtom};
     ghost use Rattle.expr_core.specs.contracts.typed.TypedAtom as atom;
-    ghost use Rattle.expr_core.specs.Formula.{Formula, formula_code, formula_size};
+    ghost use Rattle.expr_core.specs.Formula.{Formula};
+    ghost use Rattle.expr_core.specs.inner.FormulaCode.{formula_code, formula_size};
 
     ghost Value = { Formula TypedAtom };
 
@@ -56,7 +57,7 @@ impl Model for Typed {
 
     ghost size = { formula_size };
 
-    ghost use Rattle.expr_core.specs.TypedFalls.{falls};
+    ghost use Rattle.expr_core.specs.inner.TypedFalls.{falls};
 
     ghost size_decreases = { λ e h. falls e.node };
 }

@@ -81,14 +81,14 @@ impl Bits {
 }
 
 impl Const {
-    /// Whether what stands behind `/` is the length of a prefix: a decimal behind an address. All else is a mask.
+    /// Whether what follows `/` is the length of a prefix: a decimal after an address. All else is a mask.
     pub fn is_prefix(self, mask: Const) -> bool
         ensures { result ≡ is_prefix self mask }
     {
         matches!(self.form, Form::Ip4) && matches!(mask.form, Form::Dec)
     }
 
-    /// The bits that count, where this stands in front of `/` and a mask or the length of a prefix behind it.
+    /// The bits that count, where this is before `/` and a mask or the length of a prefix after it.
     pub fn mask_of(self, mask: Const) -> u128
         ensures { result ≡ mask_of self mask }
     {

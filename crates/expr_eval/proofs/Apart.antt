@@ -14,7 +14,7 @@ use Rattle.expr_core.specs.declared.comparison.Rel.TheVariants.{Eq, Ne, Lt, Le, 
 use Rattle.expr_core.specs.declared.comparison.Right.{Right}
 use Rattle.expr_core.specs.declared.typed.TypedAtom.{TypedAtom}
 use Rattle.expr_core.specs.declared.typed.TypedAtom.TheVariants.{Truth, Bare, Holds, Compare}
-use Rattle.expr_eval.specs.Meaning.{Test, test, tests, part_of, has, has_not, atom_yes, atom_no, yes, negation, all_yes, some_yes, all_no, some_no}
+use Rattle.expr_eval.specs.MatchMeaning.{Test, test, tests, part_of, has, has_not, atom_holds, atom_negation_holds, holds, negation_holds, all_hold, some_hold, all_negations_hold, some_negation_holds}
 use Rattle.expr_eval.specs.Relation.{equals, number_of, is_so, relates, opposite}
 
 -- not both
@@ -74,23 +74,23 @@ relations_apart net width n Gt right = numbers_apart (λ c. nat_lt c n) (λ c. n
 relations_apart net width n Ge right = numbers_apart (λ c. nat_le c n) (λ c. nat_lt n c) (λ c. swapped (nat_lt n c) (nat_le c n) (orders_apart n c)) (number_of right)
 
 module _ (net : Lookup) (packet : Values) where
-  atom_apart : (a : TypedAtom) → Apart (atom_yes net packet a) (atom_no net packet a)
+  atom_apart : (a : TypedAtom) → Apart (atom_holds net packet a) (atom_negation_holds net packet a)
   atom_apart (Truth holds) = of_opposites holds
   atom_apart (Bare field bits) = test_apart packet (test field bits 1)
   atom_apart (Holds p) = tests_apart packet (tests p)
   atom_apart (Compare field bits rel right) = under (is_there packet field) _ _ (relations_apart net (field_width field) (part_of packet field bits) rel right)
 
   mutual
-    pub apart : (f : Formula TypedAtom) → Apart (yes net packet f) (negation net packet f)
+    pub apart : (f : Formula TypedAtom) → Apart (holds net packet f) (negation_holds net packet f)
     apart (Leaf a) = atom_apart a
-    apart (Not f) = swapped (yes net packet f) (negation net packet f) (apart f)
+    apart (Not f) = swapped (holds net packet f) (negation_holds net packet f) (apart f)
     apart (And fs) = all_apart fs
     apart (Or fs) = some_apart fs
 
-    all_apart : (fs : Formulas TypedAtom) → Apart (all_yes net packet fs) (some_no net packet fs)
+    all_apart : (fs : Formulas TypedAtom) → Apart (all_hold net packet fs) (some_negation_holds net packet fs)
     all_apart Nil = refl
-    all_apart (Cons f fs) = all_and_some (yes net packet f) (all_yes net packet fs) (negation net packet f) (some_no net packet fs) (apart f) (all_apart fs)
+    all_apart (Cons f fs) = all_and_some (holds net packet f) (all_hold net packet fs) (negation_holds net packet f) (some_negation_holds net packet fs) (apart f) (all_apart fs)
 
-    some_apart : (fs : Formulas TypedAtom) → Apart (some_yes net packet fs) (all_no net packet fs)
+    some_apart : (fs : Formulas TypedAtom) → Apart (some_hold net packet fs) (all_negations_hold net packet fs)
     some_apart Nil = refl
-    some_apart (Cons f fs) = some_and_all (yes net packet f) (some_yes net packet fs) (negation net packet f) (all_no net packet fs) (apart f) (some_apart fs)
+    some_apart (Cons f fs) = some_and_all (holds net packet f) (some_hold net packet fs) (negation_holds net packet f) (all_negations_hold net packet fs) (apart f) (some_apart fs)

@@ -7,7 +7,7 @@ use Rattle.expr_core.specs.Formula.{Formula, formulas}
 use Rattle.expr_core.specs.Formula.Formula.{And, Or}
 use Rattle.expr_core.specs.Lookup.{Lookup}
 use Rattle.expr_core.specs.declared.typed.TypedAtom.{TypedAtom}
-use Rattle.expr_eval.specs.Wanted.{meant}
+use Rattle.expr_eval.specs.inner.Wanted.{meant}
 
 -- the conjunction of the operands that are left means what all do
 abbrev pub AndLeft : Bool → Lookup → Values → List (Formula TypedAtom) → ℕ → Type 0
@@ -53,7 +53,7 @@ module _ (net : Lookup) (packet : Values) where
   or_empty true = refl
   or_empty false = refl
 
-  -- the operand at hand and those behind it
+  -- the operand at hand and those after it
   pub and_goes_on : (w : Bool) (fs : List (Formula TypedAtom)) (i : ℕ) (d : Formula TypedAtom) → i < length fs → AndLeft w net packet fs i
       → meant w net packet (slice_index_or fs i d) ≡ w → AndLeft w net packet fs (i + 1)
   and_goes_on w fs i d within left e =

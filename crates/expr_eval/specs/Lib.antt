@@ -1,3 +1,3 @@
-pub mod Meaning
+pub mod MatchMeaning
 pub mod Relation
-pub mod Wanted
+pub mod inner

@@ -1,4 +1,4 @@
--- When a number stands in a relation to a right side (ovn-sb(5), 'Logical_Flow TABLE').
+-- When a number is in a relation to a right side (ovn-sb(5), 'Logical_Flow TABLE').
 use Rattle.std.specs.Prelude.{ℕ, ◌%◌, ◌^◌, ◌==◌, Bool, false, not, nat_lt, nat_le, bit_and, Option, Some, None}
 use Rattle.std.specs.List.{list_any}
 use Rattle.nv_base.specs.declared.object.ObjId.{ObjId}
@@ -44,7 +44,7 @@ abbrev pub is_so : (ℕ → Bool) → Option ℕ → Bool
 is_so test None = false
 is_so test (Some n) = test n
 
--- the number, of a field of this width, stands in the relation to the right side
+-- the number, of a field of this width, is in the relation to the right side
 abbrev pub relates : Lookup → ℕ → ℕ → Rel → Right → Bool
 relates net width n Eq right = equals net width n right
 relates net width n Ne right = not (equals net width n right)

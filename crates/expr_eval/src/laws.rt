@@ -8,18 +8,18 @@ ghost use Rattle.expr_core.specs.Lookup.{Lookup};
 ghost use Rattle.expr_core.specs.declared.predicate.Pred.TheVariants as pred;
 ghost use Rattle.expr_core.specs.declared.typed.TypedAtom.{TypedAtom};
 ghost use Rattle.expr_core.specs.declared.typed.TypedAtom.TheVariants.{Holds};
-ghost use Rattle.expr_eval.specs.Meaning.{atom_yes, yes, negation};
+ghost use Rattle.expr_eval.specs.MatchMeaning.{atom_holds, holds, negation_holds};
 
 /// A predicate that names what a field needs to be there holds of exactly the packets that meet it.
 pub fn predicates_are_prerequisites()
-    ensures ip4 { (net : Lookup) (packet : Values) → atom_yes net packet (Holds pred.Ip4) ≡ meets packet needs.Ip4 }
-    ensures arp { (net : Lookup) (packet : Values) → atom_yes net packet (Holds pred.Arp) ≡ meets packet needs.Arp }
-    ensures tcp { (net : Lookup) (packet : Values) → atom_yes net packet (Holds pred.Tcp) ≡ meets packet needs.Tcp }
-    ensures udp { (net : Lookup) (packet : Values) → atom_yes net packet (Holds pred.Udp) ≡ meets packet needs.Udp }
-    ensures icmp4 { (net : Lookup) (packet : Values) → atom_yes net packet (Holds pred.Icmp4) ≡ meets packet needs.Icmp4 }
+    ensures ip4 { (net : Lookup) (packet : Values) → atom_holds net packet (Holds pred.Ip4) ≡ meets packet needs.Ip4 }
+    ensures arp { (net : Lookup) (packet : Values) → atom_holds net packet (Holds pred.Arp) ≡ meets packet needs.Arp }
+    ensures tcp { (net : Lookup) (packet : Values) → atom_holds net packet (Holds pred.Tcp) ≡ meets packet needs.Tcp }
+    ensures udp { (net : Lookup) (packet : Values) → atom_holds net packet (Holds pred.Udp) ≡ meets packet needs.Udp }
+    ensures icmp4 { (net : Lookup) (packet : Values) → atom_holds net packet (Holds pred.Icmp4) ≡ meets packet needs.Icmp4 }
 {}
 
 /// No match holds of a packet together with its negation. Of a packet without a field that is asked for, neither may.
 pub fn a_match_excludes_its_negation()
-    ensures { (net : Lookup) (packet : Values) (f : Formula TypedAtom) → (yes net packet f && negation net packet f) ≡ false }
+    ensures { (net : Lookup) (packet : Values) (f : Formula TypedAtom) → (holds net packet f && negation_holds net packet f) ≡ false }
 {}

@@ -3,8 +3,8 @@ ghost use Rattle.nv_base.specs.Field.{field_width};
 ghost use Rattle.pkt_core.specs.Prerequisite.{is_there};
 ghost use Rattle.expr_eval.specs.Relation.{relates};
 ghost use Rattle.expr_core.specs.declared.predicate.Pred.TheVariants.{Ip};
-ghost use Rattle.expr_eval.specs.Meaning.{test, compares, tests, yes};
-ghost use Rattle.expr_eval.specs.Wanted.{meant_test, meant_tests, meant_atom, meant};
+ghost use Rattle.expr_eval.specs.MatchMeaning.{test, part_of, tests, holds};
+ghost use Rattle.expr_eval.specs.inner.Wanted.{meant_test, meant_tests, meant_atom, meant};
 
 use crate::relation::{opposite, relates};
 use expr_core::{Bits, Env, Pred, Rel, Right, Typed, TypedAtom, TypedNode};
@@ -58,7 +58,7 @@ fn is_ip_meant(packet: &Packet, wanted: bool) -> bool
     if wanted { ip4 || ip6 } else { ip4 && ip6 }
 }
 
-// Whether the packet has the field, and the part stands in the relation to the right side.
+// Whether the packet has the field, and the part is in the relation to the right side.
 fn compares<E: Env>(
     env: &E,
     packet: &Packet,
@@ -67,7 +67,7 @@ fn compares<E: Env>(
     rel: Rel,
     right: &Right,
 ) -> bool
-    ensures { result ≡ compares (E.lookup env.now) packet.now field bits rel right.now }
+    ensures { result ≡ (is_there packet.now field && relates (E.lookup env.now) (field_width field) (part_of packet.now field bits) rel right.now) }
 {
     is_there(packet, field) && relates(env, field.width(), bits.of(packet.get(field)), rel, right)
 }
@@ -115,7 +115,7 @@ fn is_match_meant<E: Env>(typed: &Typed, packet: &Packet, env: &E, wanted: bool)
 
 /// Whether the match holds of the packet, where names, sets and groups are what `env` says. It takes no memory.
 pub fn holds<E: Env>(typed: &Typed, packet: &Packet, env: &E) -> bool
-    ensures { result ≡ yes (E.lookup env.now) packet.now typed.now }
+    ensures { result ≡ holds (E.lookup env.now) packet.now typed.now }
 {
     is_match_meant(typed, packet, env, true)
 }

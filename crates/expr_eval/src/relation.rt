@@ -62,7 +62,7 @@ fn number_of(right: &Right) -> Option<u128>
     }
 }
 
-/// Whether the number, of a field of this width, stands in the relation to the right side.
+/// Whether the number, of a field of this width, is in the relation to the right side.
 pub(crate) fn relates<E: Env>(env: &E, width: u8, number: u128, rel: Rel, right: &Right) -> bool
     ensures { result ≡ relates (E.lookup env.now) width number rel right.now }
 {

@@ -8,7 +8,7 @@ pub none_from : {T : Type 0} (o : Option T) → ((x : T) → o ≡ Some x → �
 none_from None never = refl
 none_from (Some x) never = absurd (never x refl)
 
--- a value behind a test
+-- a value after a test
 pub guarded : {T : Type 0} (b : Bool) (o : Option T) (x : T) → cond b o None ≡ Some x → (b ≡ true) × (o ≡ Some x)
 guarded true o x e = (refl, e)
 guarded false o x e = absurd cc

@@ -12,10 +12,11 @@ use Rattle.nv_base.specs.Number.{decimal_of}
 use Rattle.expr_core.specs.declared.constant.Form.TheVariants as form
 use Rattle.expr_parse.specs.declared.class.Class.{Class}
 use Rattle.expr_parse.specs.declared.class.Class.TheVariants.{Letter, Digit, Quote, Dollar, At, Other}
-use Rattle.expr_parse.specs.Class.{begins_name, class_of}
+use Rattle.expr_parse.specs.Class.{begins_name}
+use Rattle.expr_parse.specs.inner.Class.{class_of}
 use Rattle.expr_parse.specs.Token.{Token}
 use Rattle.expr_parse.specs.Token.Token.{Name, Number, Text, AddrSet, Group}
-use Rattle.expr_parse.specs.Spelling.{or_else, constant, constant_of, number_behind_0x, is_name, name_behind, quoted_of, sign_among, signs}
+use Rattle.expr_parse.specs.Spelling.{or_else, constant, constant_of, number_after_0x, is_name, name_after, quoted_of, sign_among, signs}
 use Rattle.expr_parse.proofs.Choices.{none_from}
 use Rattle.expr_parse.proofs.Decimals.{decimal_digit, decimal_parts}
 use Rattle.expr_parse.proofs.Shapes.{hexadecimal_parts, mac_first, ip4_first}
@@ -152,8 +153,8 @@ never_named b bs other = rw (other_begins b other) refl
 decimal_begins : (b : ℕ) (bs : List ℕ) → (class_of b ≡ Digit → ⊥) → decimal_of (b ∷ bs) ≡ None
 decimal_begins b bs other = none_from (decimal_of (b ∷ bs)) (λ v e. other (decimal_class b (and_parts _ _ (decimal_parts (b ∷ bs) v e).1).0))
 
-hexadecimal_begins : (b : ℕ) (bs : List ℕ) → (class_of b ≡ Digit → ⊥) → number_behind_0x (b ∷ bs) ≡ None
-hexadecimal_begins b bs other = none_from (number_behind_0x (b ∷ bs)) (λ v e. let parts = hexadecimal_parts (b ∷ bs) v e in let zero_digit : b ≡ 48 = first b bs parts.0 parts.1 in other (subst (λ (n : ℕ). class_of n ≡ Digit) (sym zero_digit) refl))
+hexadecimal_begins : (b : ℕ) (bs : List ℕ) → (class_of b ≡ Digit → ⊥) → number_after_0x (b ∷ bs) ≡ None
+hexadecimal_begins b bs other = none_from (number_after_0x (b ∷ bs)) (λ v e. let parts = hexadecimal_parts (b ∷ bs) v e in let zero_digit : b ≡ 48 = first b bs parts.0 parts.1 in other (subst (λ (n : ℕ). class_of n ≡ Digit) (sym zero_digit) refl))
   where
     first : (b : ℕ) (bs ds : List ℕ) → b ∷ bs ≡ 48 ∷ 120 ∷ ds → b ≡ 48
     first b bs ds e = cc
@@ -166,7 +167,7 @@ ip4_begins b bs other = none_from (ip4_of (b ∷ bs)) (λ a e. other (decimal_cl
 
 pub constant_begins : (b : ℕ) (bs : List ℕ) → (class_of b ≡ Digit → ⊥) → constant_of (b ∷ bs) ≡ option_map (constant form.Mac) (mac_of (b ∷ bs))
 constant_begins b bs digit =
-    join (decimal_of (b ∷ bs)) (number_behind_0x (b ∷ bs)) (mac_of (b ∷ bs)) (ip4_of (b ∷ bs)) (decimal_begins b bs digit) (hexadecimal_begins b bs digit) (ip4_begins b bs digit)
+    join (decimal_of (b ∷ bs)) (number_after_0x (b ∷ bs)) (mac_of (b ∷ bs)) (ip4_of (b ∷ bs)) (decimal_begins b bs digit) (hexadecimal_begins b bs digit) (ip4_begins b bs digit)
   where
     join : (d h m : Option ℕ) (a : Option Ip4) → d ≡ None → h ≡ None → a ≡ None → or_else (option_map (constant form.Dec) d) (or_else (option_map (constant form.Hex) h) (or_else (option_map (constant form.Mac) m) (option_map (λ a. constant form.Ip4 a.0) a))) ≡ option_map (constant form.Mac) m
     join d h None a e f g = rw (e, f, g) refl
@@ -190,14 +191,14 @@ never_quoted b bs other = ap (option_map Text) (not_quoted (apart b 34 other))
     not_quoted e = rw (e, and_right (leb 2 (length (b ∷ bs))) false refl) refl
 
 unfoldable pub in_set : List ℕ → Option Token
-in_set text = option_map AddrSet (name_behind 36 text)
+in_set text = option_map AddrSet (name_after 36 text)
 
 pub never_in_set : (b : ℕ) (bs : List ℕ) → (class_of b ≡ Dollar → ⊥) → in_set (b ∷ bs) ≡ None
 unfolding in_set
 never_in_set b bs other = rw (apart b 36 other) refl
 
 unfoldable pub in_group : List ℕ → Option Token
-in_group text = option_map Group (name_behind 64 text)
+in_group text = option_map Group (name_after 64 text)
 
 pub never_in_group : (b : ℕ) (bs : List ℕ) → (class_of b ≡ At → ⊥) → in_group (b ∷ bs) ≡ None
 unfolding in_group

@@ -12,9 +12,10 @@ use Rattle.nv_base.specs.Number.{decimal_of}
 use Rattle.expr_core.specs.declared.constant.Const.{Const}
 use Rattle.expr_core.specs.declared.constant.Form.TheVariants as form
 use Rattle.expr_parse.specs.declared.class.Class.TheVariants.{Digit}
-use Rattle.expr_parse.specs.Class.{class_of}
+use Rattle.expr_parse.specs.inner.Class.{class_of}
 use Rattle.expr_parse.specs.Token.Token.{Number}
-use Rattle.expr_parse.specs.Spelling.{or_else, constant, constant_of, number_behind_0x, is_in_constant, spelled}
+use Rattle.expr_parse.specs.Spelling.{or_else, constant, constant_of, number_after_0x, spelled}
+use Rattle.expr_parse.specs.inner.Fronts.{is_in_constant}
 use Rattle.expr_parse.specs.Tokens.{longest}
 use Rattle.expr_parse.proofs.Choices.{none_from, mapped, first_or_second}
 use Rattle.expr_parse.proofs.Decimals.{decimal_parts, decimal_length}
@@ -48,7 +49,7 @@ decimal_spelt text v e =
     let parts = decimal_parts text v e in
     (weaker (λ c. is_digit c 10) is_in_constant decimal_byte text parts.1, (decimal_length 39 text v e (omega (arith, parts.3)) (omega arith)).1)
 
-hexadecimal_spelt : (text : List ℕ) (v : ℕ) → number_behind_0x text ≡ Some v → Spelt text
+hexadecimal_spelt : (text : List ℕ) (v : ℕ) → number_after_0x text ≡ Some v → Spelt text
 hexadecimal_spelt text v e =
     let parts = hexadecimal_parts text v e in
     let digits = weaker (λ c. is_digit c 16) is_in_constant hexadecimal_byte parts.0 parts.3 in
@@ -60,10 +61,10 @@ mac_spelt text n e = (weaker (λ c. is_digit c 16 || eqb c 58) is_in_constant ma
 
 pub constant_spelt : (text : List ℕ) (c : Const) → constant_of text ≡ Some c → Spelt text
 constant_spelt text c e =
-    elim (first_or_second (option_map (constant form.Dec) (decimal_of text)) (or_else (option_map (constant form.Hex) (number_behind_0x text)) (or_else (option_map (constant form.Mac) (mac_of text)) (option_map (λ a. constant form.Ip4 a.0) (ip4_of text)))) c e) as (λ _. Spelt text) [
+    elim (first_or_second (option_map (constant form.Dec) (decimal_of text)) (or_else (option_map (constant form.Hex) (number_after_0x text)) (or_else (option_map (constant form.Mac) (mac_of text)) (option_map (λ a. constant form.Ip4 a.0) (ip4_of text)))) c e) as (λ _. Spelt text) [
       | inl d ↦ let value = mapped (constant form.Dec) (decimal_of text) c d in decimal_spelt text value.0 value.1
-      | inr rest ↦ elim (first_or_second (option_map (constant form.Hex) (number_behind_0x text)) (or_else (option_map (constant form.Mac) (mac_of text)) (option_map (λ a. constant form.Ip4 a.0) (ip4_of text))) c rest) as (λ _. Spelt text) [
-        | inl h ↦ let value = mapped (constant form.Hex) (number_behind_0x text) c h in hexadecimal_spelt text value.0 value.1
+      | inr rest ↦ elim (first_or_second (option_map (constant form.Hex) (number_after_0x text)) (or_else (option_map (constant form.Mac) (mac_of text)) (option_map (λ a. constant form.Ip4 a.0) (ip4_of text))) c rest) as (λ _. Spelt text) [
+        | inl h ↦ let value = mapped (constant form.Hex) (number_after_0x text) c h in hexadecimal_spelt text value.0 value.1
         | inr rest ↦ elim (first_or_second (option_map (constant form.Mac) (mac_of text)) (option_map (λ a. constant form.Ip4 a.0) (ip4_of text)) c rest) as (λ _. Spelt text) [
           | inl m ↦ let value = mapped (constant form.Mac) (mac_of text) c m in mac_spelt text value.0 value.1
           | inr i ↦ let value = mapped (λ a. constant form.Ip4 a.0) (ip4_of text) c i in (weaker (λ c. is_digit c 10 || eqb c 46) is_in_constant ip4_byte text (ip4_digits text value.0 value.1), omega (arith, ip4_length text value.0 value.1))

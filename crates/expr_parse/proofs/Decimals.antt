@@ -10,7 +10,7 @@ use Rattle.std.proofs.lemmas.Option.{same_Some}
 use Rattle.nv_base.specs.Number.{digits_number, has_no_leading_zero, decimal_of}
 use Rattle.expr_parse.proofs.Choices.{guarded}
 
--- decimal digits stand in a row
+-- decimal digits in a row
 pub decimal_digit : (c : ℕ) → digit_value c < 10 → (48 ≤ c) × (c ≤ 57) × (digit_value c ≡ c - 48)
 decimal_digit c h = elim (cases_lt c 48) as (λ _. (48 ≤ c) × (c ≤ 57) × (digit_value c ≡ c - 48)) [
   | inl lt ↦ absurd (omega (arith, rw (lt-ltb c 48 lt) at h))

@@ -5,10 +5,10 @@ use Rattle.nv_base.specs.Mac.{mac_of}
 use Rattle.expr_core.specs.declared.constant.Form.TheVariants as form
 use Rattle.expr_parse.specs.declared.class.Class.{Class}
 use Rattle.expr_parse.specs.declared.class.Class.TheVariants.{Letter, Digit, Quote, Dollar, At, Other}
-use Rattle.expr_parse.specs.Class.{class_of}
+use Rattle.expr_parse.specs.inner.Class.{class_of}
 use Rattle.expr_parse.specs.Token.{Token}
 use Rattle.expr_parse.specs.Token.Token.{Name, Number, Text, AddrSet, Group}
-use Rattle.expr_parse.specs.Spelling.{or_else, constant, constant_of, is_name, name_behind, quoted_of, sign_among, signs, spelled}
+use Rattle.expr_parse.specs.Spelling.{or_else, constant, constant_of, is_name, name_after, quoted_of, sign_among, signs, spelled}
 use Rattle.expr_parse.proofs.Classes.{named, numbered, quoted, in_set, in_group, never_sign, never_named, never_numbered, never_quoted, never_in_set, never_in_group, constant_begins}
 
 -- a class is one
@@ -66,13 +66,13 @@ quote b bs is =
     only_fourth (sign_among signs (b ∷ bs)) (named (b ∷ bs)) (numbered (b ∷ bs)) (quoted (b ∷ bs)) (in_set (b ∷ bs)) (in_group (b ∷ bs))
     (never_sign b bs (differ b Quote Other is (λ e. cc))) (never_named b bs (differ b Quote Letter is (λ e. cc))) (never_numbered b bs (differ b Quote Digit is (λ e. cc)) (differ b Quote Letter is (λ e. cc))) (never_in_set b bs (differ b Quote Dollar is (λ e. cc))) (never_in_group b bs (differ b Quote At is (λ e. cc)))
 
-pub dollar : (b : ℕ) (bs : List ℕ) → class_of b ≡ Dollar → spelled (b ∷ bs) ≡ option_map AddrSet (name_behind 36 (b ∷ bs))
+pub dollar : (b : ℕ) (bs : List ℕ) → class_of b ≡ Dollar → spelled (b ∷ bs) ≡ option_map AddrSet (name_after 36 (b ∷ bs))
 unfolding spelled named numbered quoted in_set in_group
 dollar b bs is =
     only_fifth (sign_among signs (b ∷ bs)) (named (b ∷ bs)) (numbered (b ∷ bs)) (quoted (b ∷ bs)) (in_set (b ∷ bs)) (in_group (b ∷ bs))
     (never_sign b bs (differ b Dollar Other is (λ e. cc))) (never_named b bs (differ b Dollar Letter is (λ e. cc))) (never_numbered b bs (differ b Dollar Digit is (λ e. cc)) (differ b Dollar Letter is (λ e. cc))) (never_quoted b bs (differ b Dollar Quote is (λ e. cc))) (never_in_group b bs (differ b Dollar At is (λ e. cc)))
 
-pub at : (b : ℕ) (bs : List ℕ) → class_of b ≡ At → spelled (b ∷ bs) ≡ option_map Group (name_behind 64 (b ∷ bs))
+pub at : (b : ℕ) (bs : List ℕ) → class_of b ≡ At → spelled (b ∷ bs) ≡ option_map Group (name_after 64 (b ∷ bs))
 unfolding spelled named numbered quoted in_set in_group
 at b bs is =
     only_sixth (sign_among signs (b ∷ bs)) (named (b ∷ bs)) (numbered (b ∷ bs)) (quoted (b ∷ bs)) (in_set (b ∷ bs)) (in_group (b ∷ bs))
@@ -106,13 +106,13 @@ pub quote_fronts : Fronts Quote quote_kind
 quote_fronts = fronts Quote quote_kind quote
 
 abbrev pub dollar_kind : List ℕ → Option Token
-dollar_kind text = option_map AddrSet (name_behind 36 text)
+dollar_kind text = option_map AddrSet (name_after 36 text)
 
 pub dollar_fronts : Fronts Dollar dollar_kind
 dollar_fronts = fronts Dollar dollar_kind dollar
 
 abbrev pub at_kind : List ℕ → Option Token
-at_kind text = option_map Group (name_behind 64 text)
+at_kind text = option_map Group (name_after 64 text)
 
 pub at_fronts : Fronts At at_kind
 at_fronts = fronts At at_kind at

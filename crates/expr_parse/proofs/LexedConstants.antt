@@ -18,9 +18,9 @@ use Rattle.expr_core.specs.declared.constant.Form.TheVariants.{Dec, Hex, Mac, Ip
 use Rattle.expr_core.specs.Text.{number_in, const_text}
 use Rattle.expr_parse.specs.declared.class.Class.{Class}
 use Rattle.expr_parse.specs.declared.class.Class.TheVariants.{Letter, Digit, Quote, Dollar, At, Other}
-use Rattle.expr_parse.specs.Class.{class_of}
+use Rattle.expr_parse.specs.inner.Class.{class_of}
 use Rattle.expr_parse.specs.Token.Token.{Name, Number}
-use Rattle.expr_parse.specs.Spelling.{or_else, constant, constant_of, number_behind_0x, is_in_name, is_name}
+use Rattle.expr_parse.specs.Spelling.{or_else, constant, constant_of, number_after_0x, is_in_name, is_name}
 use Rattle.expr_parse.specs.Written.{limit, IsConst}
 use Rattle.expr_parse.proofs.Choices.{none_from, mapped}
 use Rattle.expr_parse.proofs.Classes.{numbered, never_numbered, constant_begins}
@@ -30,7 +30,7 @@ use Rattle.expr_parse.proofs.LexedWords.{IsWord, leads}
 use Rattle.expr_parse.proofs.NameFronts.{name_all, without_name}
 use Rattle.expr_parse.proofs.Shapes.{split_parts, ip4_number, mac_digits, ip4_digits, ip4_length, mac_not_so_long, hexadecimal_parts}
 
--- what stands between pieces
+-- what is between pieces
 between : (q : ℕ → Bool) (c : ℕ) (parts : List (List ℕ)) → 2 ≤ length parts → q c ≡ false → list_all q (join_with_byte c parts) ≡ false
 between q c [] two fails = absurd (omega arith)
 between q c (p ∷ []) two fails = absurd (omega arith)
@@ -50,11 +50,11 @@ pub no_decimal : (text : List ℕ) → list_all (λ c. is_digit c 10) text ≡ f
 no_decimal text fails = none_from (decimal_of text) (λ v e. false≢true (sym fails ∙ (decimal_parts text v e).1))
 
 -- no byte of these is an `x`
-no_hexadecimal : (q : ℕ → Bool) (text : List ℕ) → q 120 ≡ false → list_all q text ≡ true → number_behind_0x text ≡ None
-no_hexadecimal q text fails all = none_from (number_behind_0x text) (λ n e.
+no_hexadecimal : (q : ℕ → Bool) (text : List ℕ) → q 120 ≡ false → list_all q text ≡ true → number_after_0x text ≡ None
+no_hexadecimal q text fails all = none_from (number_after_0x text) (λ n e.
     let parts = hexadecimal_parts text n e in
-    let behind = (and_parts (q 48) (q 120 && list_all q parts.0) (subst (λ (xs : List ℕ). list_all q xs ≡ true) parts.1 all)).1 in
-    false≢true (sym fails ∙ (and_parts (q 120) (list_all q parts.0) behind).0))
+    let after = (and_parts (q 48) (q 120 && list_all q parts.0) (subst (λ (xs : List ℕ). list_all q xs ≡ true) parts.1 all)).1 in
+    false≢true (sym fails ∙ (and_parts (q 120) (list_all q parts.0) after).0))
 
 -- the constant by its form
 abbrev pub constant_from : Option ℕ → Option ℕ → Option ℕ → Option Ip4 → Option Const
@@ -74,19 +74,19 @@ is_address d h m a v e f g i = rw (e, f, g, i) refl
 
 mac_constant : (text : List ℕ) (v : ℕ) → mac_of text ≡ Some v → constant_of text ≡ Some (constant Mac v)
 mac_constant text v e =
-    is_mac (decimal_of text) (number_behind_0x text) (mac_of text) (ip4_of text) v
+    is_mac (decimal_of text) (number_after_0x text) (mac_of text) (ip4_of text) v
     (no_decimal text (mac_fails (λ c. is_digit c 10) text v refl e)) (no_hexadecimal _ text refl (mac_digits text v e)) e
 
 address_constant : (text : List ℕ) (v : ℕ) → ip4_of text ≡ Some (address v) → constant_of text ≡ Some (constant Address v)
 address_constant text v e =
     let few : (length text ≡ 17 → ⊥) = λ long. omega (arith, long, ip4_length text (address v) e) in
-    is_address (decimal_of text) (number_behind_0x text) (mac_of text) (ip4_of text) v
+    is_address (decimal_of text) (number_after_0x text) (mac_of text) (ip4_of text) v
     (no_decimal text (ip4_fails (λ c. is_digit c 10) text (address v) refl e)) (no_hexadecimal _ text refl (ip4_digits text (address v) e)) (mac_not_so_long text few) e
 
 -- what is written of a number is the constant
 spells : (f : Form) (v : ℕ) → v < limit f → constant_of (number_in f v) ≡ Some (constant f v)
-spells Dec v small = is_decimal (decimal_of (decimal v)) (number_behind_0x (decimal v)) (mac_of (decimal v)) (ip4_of (decimal v)) v (decimal_is_read v small)
-spells Hex v small = is_hexadecimal (decimal_of (hexadecimal v)) (number_behind_0x (hexadecimal v)) (mac_of (hexadecimal v)) (ip4_of (hexadecimal v)) v (no_decimal (hexadecimal v) refl) (written_hexadecimal v small)
+spells Dec v small = is_decimal (decimal_of (decimal v)) (number_after_0x (decimal v)) (mac_of (decimal v)) (ip4_of (decimal v)) v (decimal_is_read v small)
+spells Hex v small = is_hexadecimal (decimal_of (hexadecimal v)) (number_after_0x (hexadecimal v)) (mac_of (hexadecimal v)) (ip4_of (hexadecimal v)) v (no_decimal (hexadecimal v) refl) (written_hexadecimal v small)
 spells Mac v small =
     let same : v % 2 ^ 48 ≡ v = omega (arith, small) in
     ap (λ (n : ℕ). constant_of (mac_text n)) same ∙ mac_constant (mac_text v) v (written_mac v small)

@@ -1,4 +1,4 @@
--- A name between double quotes in front of a text.
+-- A name between double quotes before a text.
 use Rattle.std.proofs.Common.{◌≡◌, ℕ, suc, ◌<◌, Bool, true, false, not, eqb, List, [], ◌∷◌, ◌++◌, length, take, Some, refl, ap, sym, ◌∙◌, arith, append_assoc, length-append}
 use Rattle.std.specs.List.{list_all, prefix_len}
 use Rattle.std.proofs.Math.Seq.{take-append_seam}
@@ -29,7 +29,7 @@ before_quote : (name rest : List ℕ) → is_quotable name ≡ true → prefix_l
 before_quote name rest may = run is_plain name 34 rest (weaker is_name_byte is_plain plain_byte name (quotable_bytes name may)) refl
 
 pub quotes : (name rest : List ℕ) (ts : List Token) → is_quotable name ≡ true → Lexed rest ts → Lexed ((34 ∷ (name ++ 34 ∷ [])) ++ rest) (Text name ∷ ts)
-quotes name rest ts may behind =
+quotes name rest ts may after =
     let long : length (34 ∷ (name ++ 34 ∷ [])) ≡ suc (suc (length name)) = omega (arith, length-append name (34 ∷ [])) in
     let run = before_quote name rest may in
     let within : prefix_len is_plain (name ++ 34 ∷ rest) < length (name ++ 34 ∷ rest) = omega (arith, run, length-append name (34 ∷ rest)) in
@@ -39,4 +39,4 @@ quotes name rest ts may behind =
     ∙ ap (λ (xs : List ℕ). Some (Text xs, suc (suc (prefix_len is_plain (name ++ 34 ∷ rest))))) front ∙ ap (λ (n : ℕ). Some (Text name, suc (suc n))) run in
     let first : first_token ((34 ∷ (name ++ 34 ∷ [])) ++ rest) ≡ Some (Text name, length (34 ∷ (name ++ 34 ∷ []))) =
     ap (λ (xs : List ℕ). first_token (34 ∷ xs)) (append_assoc name (34 ∷ []) rest) ∙ here ∙ ap (λ (n : ℕ). Some (Text name, n)) (sym long) in
-    token (34 ∷ (name ++ 34 ∷ [])) rest (Text name) ts refl (omega arith) first behind
+    token (34 ∷ (name ++ 34 ∷ [])) rest (Text name) ts refl (omega arith) first after

@@ -58,15 +58,15 @@ mutual
   operands_begin operator Nil two all = absurd two
   operands_begin operator (Cons f fs) two all = and_more (enclosed (is_joined f) (formula_text expr_writing f)) (operands_text expr_writing operator operator fs) (enclosed_begins (is_joined f) (formula_text expr_writing f) (tree_begins f all.0))
 
--- a text has these tokens in front of any rest with which no word goes on
+-- a text has these tokens before any rest with which no word continues
 abbrev Lexes : List ℕ → List Token → Type 0
 Lexes text us = (rest : List ℕ) (ts : List Token) → Stops rest → Lexed rest ts → Lexed (text ++ rest) (us ++ ts)
 
 in_parentheses : (b : Bool) (text : List ℕ) (us : List Token) → Lexes text us → Lexes (enclosed b text) (enclosed_tokens b us)
-in_parentheses true text us lexes rest ts stop behind =
+in_parentheses true text us lexes rest ts stop after =
     regrouped _ _ _ _ (ap (λ (xs : List ℕ). 40 ∷ xs) (append_assoc text (41 ∷ []) rest)) (ap (λ (vs : List Token). Open ∷ vs) (append_assoc us (Close ∷ []) ts))
-    (opening _ _ (lexes (41 ∷ rest) (Close ∷ ts) refl (closing rest ts behind)))
-in_parentheses false text us lexes rest ts stop behind = respelled _ _ _ (append_assoc text [] rest) (lexes rest ts stop behind)
+    (opening _ _ (lexes (41 ∷ rest) (Close ∷ ts) refl (closing rest ts after)))
+in_parentheses false text us lexes rest ts stop after = respelled _ _ _ (append_assoc text [] rest) (lexes rest ts stop after)
 
 -- the text of an operator, with a space on each side
 record IsOperator (text : List ℕ) (sign : Token) : Type 0 where
@@ -85,34 +85,34 @@ operands_stop operator sign (Cons f fs) rest is stop =
     let P : List ℕ → Type 0 = λ xs. Stops xs in
     subst P (sym (three_pieces operator (enclosed (is_joined f) (formula_text expr_writing f)) (operands_text expr_writing operator operator fs) rest)) (is.stops _)
 
--- an operand in front of what follows it
+-- an operand before what follows it
 operand : (b : Bool) (text more rest : List ℕ) (us vs ts : List Token) → Lexes text us → Stops (more ++ rest) → Lexed (more ++ rest) (vs ++ ts) → Lexed ((enclosed b text ++ more) ++ rest) ((enclosed_tokens b us ++ vs) ++ ts)
-operand b text more rest us vs ts lexes stop behind =
-    regrouped _ _ _ _ (append_assoc (enclosed b text) more rest) (append_assoc (enclosed_tokens b us) vs ts) (in_parentheses b text us lexes (more ++ rest) (vs ++ ts) stop behind)
+operand b text more rest us vs ts lexes stop after =
+    regrouped _ _ _ _ (append_assoc (enclosed b text) more rest) (append_assoc (enclosed_tokens b us) vs ts) (in_parentheses b text us lexes (more ++ rest) (vs ++ ts) stop after)
 
 mutual
   tree : (f : Formula Atom) → IsWellFormed f → Lexes (formula_text expr_writing f) (tree_tokens f)
-  tree (Leaf a) is rest ts stop behind = atom a rest ts is stop behind
-  tree (Negation f) is rest ts stop behind =
+  tree (Leaf a) is rest ts stop after = atom a rest ts is stop after
+  tree (Negation f) is rest ts stop after =
       let b = needs_parentheses expr_writing f in
       negation _ _ (first_byte (enclosed b (formula_text expr_writing f)) rest (enclosed_begins b (formula_text expr_writing f) (tree_begins f is)))
-      (in_parentheses b (formula_text expr_writing f) (tree_tokens f) (tree f is) rest ts stop behind)
-  tree (Conjunction fs) is rest ts stop behind = operands (32 ∷ 38 ∷ 38 ∷ 32 ∷ []) And both fs is.1 rest ts stop behind
-  tree (Disjunction fs) is rest ts stop behind = operands (32 ∷ 124 ∷ 124 ∷ 32 ∷ []) Or either fs is.1 rest ts stop behind
+      (in_parentheses b (formula_text expr_writing f) (tree_tokens f) (tree f is) rest ts stop after)
+  tree (Conjunction fs) is rest ts stop after = operands (32 ∷ 38 ∷ 38 ∷ 32 ∷ []) And both fs is.1 rest ts stop after
+  tree (Disjunction fs) is rest ts stop after = operands (32 ∷ 124 ∷ 124 ∷ 32 ∷ []) Or either fs is.1 rest ts stop after
 
   operands : (operator : List ℕ) (sign : Token) → IsOperator operator sign → (fs : Formulas Atom) → AreWellFormed fs → Lexes (operands_text expr_writing [] operator fs) (operand_tokens sign fs)
-  operands operator sign o Nil all rest ts stop behind = behind
-  operands operator sign o (Cons f fs) all rest ts stop behind =
+  operands operator sign o Nil all rest ts stop after = after
+  operands operator sign o (Cons f fs) all rest ts stop after =
       operand (is_joined f) (formula_text expr_writing f) (operands_text expr_writing operator operator fs) rest (tree_tokens f) (more_tokens sign fs) ts
-      (tree f all.0) (operands_stop operator sign fs rest o stop) (more operator sign o fs all.1 rest ts stop behind)
+      (tree f all.0) (operands_stop operator sign fs rest o stop) (more operator sign o fs all.1 rest ts stop after)
 
-  -- the operands behind the first
+  -- the operands after the first
   more : (operator : List ℕ) (sign : Token) → IsOperator operator sign → (fs : Formulas Atom) → AreWellFormed fs → Lexes (operands_text expr_writing operator operator fs) (more_tokens sign fs)
-  more operator sign o Nil all rest ts stop behind = behind
-  more operator sign o (Cons f fs) all rest ts stop behind =
+  more operator sign o Nil all rest ts stop after = after
+  more operator sign o (Cons f fs) all rest ts stop after =
       respelled _ _ _ (pieces operator (enclosed (is_joined f) (formula_text expr_writing f)) (operands_text expr_writing operator operator fs) rest)
       (o.lexes _ _ (operand (is_joined f) (formula_text expr_writing f) (operands_text expr_writing operator operator fs) rest (tree_tokens f) (more_tokens sign fs) ts
-      (tree f all.0) (operands_stop operator sign fs rest o stop) (more operator sign o fs all.1 rest ts stop behind)))
+      (tree f all.0) (operands_stop operator sign fs rest o stop) (more operator sign o fs all.1 rest ts stop after)))
     where
       pieces : (a b c d : List ℕ) → ((a ++ b) ++ c) ++ d ≡ a ++ ((b ++ c) ++ d)
       pieces a b c d = simp append_assoc refl

@@ -1,4 +1,4 @@
--- A name, a constant, `$name` or `@name` in front of a byte that cannot lengthen it.
+-- A name, a constant, `$name` or `@name` before a byte that cannot lengthen it.
 use Rattle.std.proofs.Common.{◌≡◌, ℕ, suc, zero, ◌+◌, ◌<◌, ◌≤◌, Bool, true, false, cond, ◌||◌, ◌&&◌, List, [], ◌∷◌, ◌++◌, length, take, Some, None, refl, ap, sym, subst, ◌∙◌, arith, inl, inr, eqb, length-append}
 use Rattle.std.specs.List.{list_all}
 use Rattle.std.specs.Option.{option_map}
@@ -10,10 +10,12 @@ use Rattle.nv_base.specs.Mac.{mac_of}
 use Rattle.expr_core.specs.declared.constant.Form.TheVariants as form
 use Rattle.expr_parse.specs.declared.class.Class.{Class}
 use Rattle.expr_parse.specs.declared.class.Class.TheVariants.{Letter, Digit, Quote, Dollar, At, Other}
-use Rattle.expr_parse.specs.Class.{begins_name, class_of}
+use Rattle.expr_parse.specs.Class.{begins_name}
+use Rattle.expr_parse.specs.inner.Class.{class_of}
 use Rattle.expr_parse.specs.Token.{Token}
 use Rattle.expr_parse.specs.Token.Token.{Name, Number, AddrSet, Group}
-use Rattle.expr_parse.specs.Spelling.{constant, constant_of, is_in_name, is_in_constant, is_name, name_behind, spelled}
+use Rattle.expr_parse.specs.Spelling.{constant, constant_of, is_in_name, is_name, name_after, spelled}
+use Rattle.expr_parse.specs.inner.Fronts.{is_in_constant}
 use Rattle.expr_parse.specs.Tokens.{is_blank, blanks, first_token}
 use Rattle.expr_parse.proofs.Choices.{none_from, guarded, mapped, first_or_second}
 use Rattle.expr_parse.proofs.Classes.{apart}
@@ -25,11 +27,11 @@ use Rattle.expr_parse.proofs.NameFronts.{name_all, with_name}
 use Rattle.expr_parse.proofs.Pieces.{weaker}
 use Rattle.expr_parse.proofs.Shapes.{mac_digits}
 
--- a byte that may stand in a name or in a constant
+-- a byte that may be in a name or in a constant
 abbrev pub is_word_byte : ℕ → Bool
 is_word_byte b = is_in_name b || is_in_constant b
 
--- no word goes on with what stands here
+-- no word continues with what is here
 abbrev pub Stops : List ℕ → Type 0
 Stops [] = Unit {0}
 Stops (b ∷ bs) = is_word_byte b ≡ false
@@ -43,9 +45,9 @@ leads Dollar = true
 leads At = true
 leads Other = false
 
--- behind its first byte a word has nothing but such bytes
-behind_first : (x : ℕ) (xs : List ℕ) → list_all is_word_byte (x ∷ xs) ≡ true → list_all is_word_byte xs ≡ true
-behind_first x xs all = (and_parts (is_word_byte x) (list_all is_word_byte xs) all).1
+-- after its first byte a word has nothing but such bytes
+after_first : (x : ℕ) (xs : List ℕ) → list_all is_word_byte (x ∷ xs) ≡ true → list_all is_word_byte xs ≡ true
+after_first x xs all = (and_parts (is_word_byte x) (list_all is_word_byte xs) all).1
 
 name_bytes : (xs : List ℕ) → is_name xs ≡ true → list_all is_word_byte xs ≡ true
 name_bytes xs e = weaker is_in_name is_word_byte (λ b h. or_left (is_in_name b) (is_in_constant b) h) xs (name_all xs e)
@@ -56,19 +58,19 @@ constant_bytes xs e = weaker is_in_constant is_word_byte (λ b h. or_right (is_i
 letter_bytes : (x : ℕ) (xs : List ℕ) (t : Token) → letter_kind (x ∷ xs) ≡ Some t → list_all is_word_byte xs ≡ true
 letter_bytes x xs t e =
     elim (first_or_second (cond (is_name (x ∷ xs)) (Some (Name (x ∷ xs))) None) (option_map Number (option_map (constant form.Mac) (mac_of (x ∷ xs)))) t e) as (λ _. list_all is_word_byte xs ≡ true) [
-      | inl name ↦ behind_first x xs (name_bytes (x ∷ xs) (guarded (is_name (x ∷ xs)) (Some (Name (x ∷ xs))) t name).0)
+      | inl name ↦ after_first x xs (name_bytes (x ∷ xs) (guarded (is_name (x ∷ xs)) (Some (Name (x ∷ xs))) t name).0)
       | inr mac ↦
           let c = mapped Number (option_map (constant form.Mac) (mac_of (x ∷ xs))) t mac in
           let n = mapped (constant form.Mac) (mac_of (x ∷ xs)) c.0 c.1 in
-          behind_first x xs (constant_bytes (x ∷ xs) (weaker _ is_in_constant mac_byte (x ∷ xs) (mac_digits (x ∷ xs) n.0 n.1)))
+          after_first x xs (constant_bytes (x ∷ xs) (weaker _ is_in_constant mac_byte (x ∷ xs) (mac_digits (x ∷ xs) n.0 n.1)))
     ]
 
 digit_bytes : (x : ℕ) (xs : List ℕ) (t : Token) → digit_kind (x ∷ xs) ≡ Some t → list_all is_word_byte xs ≡ true
-digit_bytes x xs t e = let c = mapped Number (constant_of (x ∷ xs)) t e in behind_first x xs (constant_bytes (x ∷ xs) (constant_spelt (x ∷ xs) c.0 c.1).0)
+digit_bytes x xs t e = let c = mapped Number (constant_of (x ∷ xs)) t e in after_first x xs (constant_bytes (x ∷ xs) (constant_spelt (x ∷ xs) c.0 c.1).0)
 
-marked_bytes : (mark : ℕ) (wrap : List ℕ → Token) (x : ℕ) (xs : List ℕ) (t : Token) → option_map wrap (name_behind mark (x ∷ xs)) ≡ Some t → list_all is_word_byte xs ≡ true
+marked_bytes : (mark : ℕ) (wrap : List ℕ → Token) (x : ℕ) (xs : List ℕ) (t : Token) → option_map wrap (name_after mark (x ∷ xs)) ≡ Some t → list_all is_word_byte xs ≡ true
 marked_bytes mark wrap x xs t e =
-    let name = mapped wrap (name_behind mark (x ∷ xs)) t e in
+    let name = mapped wrap (name_after mark (x ∷ xs)) t e in
     name_bytes xs (and_parts (eqb x mark) (is_name xs) (guarded (eqb x mark && is_name xs) (Some xs) name.0 name.1).0).1
 
 word_bytes : (x : ℕ) (xs : List ℕ) (t : Token) → leads (class_of x) ≡ true → spelled (x ∷ xs) ≡ Some t → list_all is_word_byte xs ≡ true
@@ -83,7 +85,7 @@ word_bytes x xs t first e = go (class_of x) refl first
     go At is h = marked_bytes 64 Group x xs t (sym (at x xs is) ∙ e)
     go Other is h = absurd cc
 
--- so no front goes beyond the byte at which a word stops
+-- so no front reaches beyond the byte at which a word stops
 no_longer : (x : ℕ) (xs rest : List ℕ) → leads (class_of x) ≡ true → Stops rest → NoneBetween spelled (suc (length xs)) (length (x ∷ (xs ++ rest))) (x ∷ (xs ++ rest))
 no_longer x xs [] first stop k past high = absurd (omega (arith, past, high, length-append xs []))
 no_longer x xs (b ∷ bs) first stop zero past high = absurd (omega arith)
@@ -110,18 +112,18 @@ no_blank x first = rw (apart x 32 (λ e. bad 32 refl e), apart x 9 (λ e. bad 9 
     bad y is e = let other : class_of x ≡ Other = e ∙ is in let wrong = rw other at first in cc
 
 lead : (x : ℕ) (xs rest : List ℕ) (t : Token) (ts : List Token) → leads (class_of x) ≡ true → spelled (x ∷ xs) ≡ Some t → Stops rest → Lexed rest ts → Lexed (x ∷ (xs ++ rest)) (t ∷ ts)
-lead x xs rest t ts first is stop behind =
+lead x xs rest t ts first is stop after =
     let plain : cond (is_blank x) (1 + blanks (xs ++ rest)) 0 ≡ 0 = rw (no_blank x first) refl in
     let here : spelled (take (suc (length xs)) (x ∷ (xs ++ rest))) ≡ Some t = ap (λ (ys : List ℕ). spelled (x ∷ ys)) (take-append_seam xs rest) ∙ is in
     let front : first_token (x ∷ (xs ++ rest)) ≡ Some (t, suc (length xs)) = found spelled (suc (length xs)) (length (x ∷ (xs ++ rest))) (x ∷ (xs ++ rest)) t (omega arith) (omega (arith, length-append xs rest)) here (no_longer x xs rest first stop) in
-    token (x ∷ xs) rest t ts plain (omega arith) front behind
+    token (x ∷ xs) rest t ts plain (omega arith) front after
 
--- a word in front of a byte that cannot lengthen it
+-- a word before a byte that cannot lengthen it
 pub word : (w rest : List ℕ) (t : Token) (ts : List Token) → IsWord w t → Stops rest → Lexed rest ts → Lexed (w ++ rest) (t ∷ ts)
-word w rest t ts is stop behind =
+word w rest t ts is stop after =
     let P : List ℕ → Type 0 = λ v. spelled v ≡ Some t in
     let Q : List ℕ → Type 0 = λ v. Lexed (v ++ rest) (t ∷ ts) in
-    subst Q (sym is.2) (lead is.0 is.1 rest t ts is.3 (subst P is.2 is.4) stop behind)
+    subst Q (sym is.2) (lead is.0 is.1 rest t ts is.3 (subst P is.2 is.4) stop after)
 
 -- names
 pub name_class : (x : ℕ) → begins_name x ≡ true → class_of x ≡ Letter
@@ -137,11 +139,11 @@ name_word (x ∷ xs) e =
 pub set_word : (name : List ℕ) → is_name name ≡ true → IsWord (36 ∷ name) (AddrSet name)
 unfolding leads
 set_word name e =
-    let here : name_behind 36 (36 ∷ name) ≡ Some name = rw e refl in
+    let here : name_after 36 (36 ∷ name) ≡ Some name = rw e refl in
     (36, name, refl, refl, dollar 36 name refl ∙ ap (option_map AddrSet) here)
 
 pub group_word : (name : List ℕ) → is_name name ≡ true → IsWord (64 ∷ name) (Group name)
 unfolding leads
 group_word name e =
-    let here : name_behind 64 (64 ∷ name) ≡ Some name = rw e refl in
+    let here : name_after 64 (64 ∷ name) ≡ Some name = rw e refl in
     (64, name, refl, refl, at 64 name refl ∙ ap (option_map Group) here)

@@ -30,5 +30,5 @@ pub mod TakesMatch
 pub mod TakesParts
 pub mod TakesRight
 pub mod TreeTokens
-pub mod Unplaced
+pub mod TokenKinds
 pub mod Whole

@@ -10,10 +10,12 @@ use Rattle.nv_base.specs.Mac.{mac_of}
 use Rattle.expr_core.specs.declared.constant.Const.{Const}
 use Rattle.expr_core.specs.declared.constant.Form.TheVariants as form
 use Rattle.expr_parse.specs.declared.class.Class.TheVariants.{Letter}
-use Rattle.expr_parse.specs.Class.{begins_name, class_of}
+use Rattle.expr_parse.specs.Class.{begins_name}
+use Rattle.expr_parse.specs.inner.Class.{class_of}
 use Rattle.expr_parse.specs.Token.{Token}
 use Rattle.expr_parse.specs.Token.Token.{Name, Number}
-use Rattle.expr_parse.specs.Spelling.{or_else, constant, is_in_name, is_name, front_name, name_behind, spelled}
+use Rattle.expr_parse.specs.Spelling.{or_else, constant, is_in_name, is_name, name_after, spelled}
+use Rattle.expr_parse.specs.inner.Fronts.{front_name}
 use Rattle.expr_parse.specs.Tokens.{longest}
 use Rattle.expr_parse.proofs.Choices.{guarded}
 use Rattle.expr_parse.proofs.Shapes.{mac_not_so_long}
@@ -22,7 +24,7 @@ use Rattle.expr_parse.proofs.Fronts.{letter_fronts}
 use Rattle.expr_parse.proofs.Longest.{NoneBetween, cut, found}
 use Rattle.expr_parse.proofs.Runs.{run_passes, run_ends}
 
--- each byte of a name may stand in one
+-- each byte of a name may be in one
 pub name_all : (xs : List ℕ) → is_name xs ≡ true → list_all is_in_name xs ≡ true
 name_all [] e = absurd cc
 name_all (b ∷ bs) e = let parts = and_parts (begins_name b) (list_all is_in_name bs) e in and_from _ _ (or_left _ _ (or_left _ _ parts.0)) parts.1
@@ -102,7 +104,7 @@ letter_name text some first = rw (lt-ltb 0 (length text) some, letter_begins (ge
 pub name_length : (text name : List ℕ) → name ≡ take (prefix_len is_in_name text) text → length name ≡ prefix_len is_in_name text
 name_length text name e = ap length e ∙ length-take-le (prefix_len is_in_name text) text (prefix_len-le-length is_in_name text)
 
--- no name behind the mark
+-- no name after the mark
 some_none : (t : Bool) (x : List ℕ) → t ≡ true → cond (t && true) (Some x) None ≡ None → ⊥
 some_none t x e h = let bad = rw e at h in cc
 
@@ -115,22 +117,22 @@ no_name (b ∷ bs) (suc k) e = and_left (begins_name b) (list_all is_in_name (ta
     unguarded true x e = absurd (some_none (ltb 0 (suc (length bs))) x (lt-ltb 0 (suc (length bs)) (omega arith)) e)
     unguarded false x e = refl
 
-marked : (mark : ℕ) (bs : List ℕ) → name_behind mark (mark ∷ bs) ≡ cond (is_name bs) (Some bs) None
+marked : (mark : ℕ) (bs : List ℕ) → name_after mark (mark ∷ bs) ≡ cond (is_name bs) (Some bs) None
 marked mark bs = rw (eq-eqb mark mark refl) refl
 
 -- each front is what a mark and a name spell
 abbrev Marked : ℕ → (List ℕ → Token) → List ℕ → Type 0
-Marked mark wrap text = (k : ℕ) → 0 < k → spelled (take k text) ≡ option_map wrap (name_behind mark (take k text))
+Marked mark wrap text = (k : ℕ) → 0 < k → spelled (take k text) ≡ option_map wrap (name_after mark (take k text))
 
-none_behind : (mark : ℕ) (wrap : List ℕ → Token) (bs : List ℕ) → Marked mark wrap (mark ∷ bs) → front_name bs ≡ None → longest spelled (length (mark ∷ bs)) (mark ∷ bs) ≡ None
-none_behind mark wrap bs each missing = cut spelled 0 (length (mark ∷ bs)) (mark ∷ bs) (omega arith) (λ k low high. nothing k low)
+none_after : (mark : ℕ) (wrap : List ℕ → Token) (bs : List ℕ) → Marked mark wrap (mark ∷ bs) → front_name bs ≡ None → longest spelled (length (mark ∷ bs)) (mark ∷ bs) ≡ None
+none_after mark wrap bs each missing = cut spelled 0 (length (mark ∷ bs)) (mark ∷ bs) (omega arith) (λ k low high. nothing k low)
   where
     nothing : (k : ℕ) → 0 < k → spelled (take k (mark ∷ bs)) ≡ None
     nothing zero low = absurd (omega arith)
     nothing (suc k) low = each (suc k) low ∙ ap (option_map wrap) (marked mark (take k bs)) ∙ ap (λ (b : Bool). option_map wrap (cond b (Some (take k bs)) None)) (no_name bs k missing)
 
-some_behind : (mark : ℕ) (wrap : List ℕ → Token) (bs : List ℕ) → Marked mark wrap (mark ∷ bs) → 0 < length bs → begins_name (get_or bs 0 0) ≡ true → longest spelled (length (mark ∷ bs)) (mark ∷ bs) ≡ Some (wrap (take (prefix_len is_in_name bs) bs), suc (prefix_len is_in_name bs))
-some_behind mark wrap bs each some first =
+some_after : (mark : ℕ) (wrap : List ℕ → Token) (bs : List ℕ) → Marked mark wrap (mark ∷ bs) → 0 < length bs → begins_name (get_or bs 0 0) ≡ true → longest spelled (length (mark ∷ bs)) (mark ∷ bs) ≡ Some (wrap (take (prefix_len is_in_name bs) bs), suc (prefix_len is_in_name bs))
+some_after mark wrap bs each some first =
     let here : spelled (take (suc (prefix_len is_in_name bs)) (mark ∷ bs)) ≡ Some (wrap (take (prefix_len is_in_name bs) bs)) =
     each (suc (prefix_len is_in_name bs)) (omega arith) ∙ ap (option_map wrap) (marked mark (take (prefix_len is_in_name bs) bs)) ∙ ap (λ (b : Bool). option_map wrap (cond b (Some (take (prefix_len is_in_name bs) bs)) None)) (run_is_name bs some first) in
     found spelled (suc (prefix_len is_in_name bs)) (length (mark ∷ bs)) (mark ∷ bs) (wrap (take (prefix_len is_in_name bs) bs)) (omega arith) (omega (arith, prefix_len-le-length is_in_name bs)) here beyond
@@ -139,13 +141,13 @@ some_behind mark wrap bs each some first =
     beyond zero past high = absurd (omega arith)
     beyond (suc k) past high = each (suc k) (omega arith) ∙ ap (option_map wrap) (marked mark (take k bs)) ∙ ap (λ (b : Bool). option_map wrap (cond b (Some (take k bs)) None)) (no_longer_name bs k (omega arith) (omega arith))
 
--- the same of a text whose first byte is the mark, and of what the code finds behind it
+-- the same of a text whose first byte is the mark, and of what the code finds after it
 pub mark_none : (mark : ℕ) (wrap : List ℕ → Token) (text : List ℕ) → 0 < length text → eqb (get_or text 0 0) mark ≡ true → Marked mark wrap text → None ≡ front_name (drop 1 text) → None ≡ longest spelled (length text) text
 mark_none mark wrap [] some first each missing = absurd (omega arith)
 mark_none mark wrap (b ∷ bs) some first each missing = go b (eqb-true b mark first) each
   where
     go : (b : ℕ) → b ≡ mark → Marked mark wrap (b ∷ bs) → None ≡ longest spelled (length (b ∷ bs)) (b ∷ bs)
-    go b e each = let P : ℕ → Type 0 = λ n. Marked mark wrap (n ∷ bs) in subst (λ (n : ℕ). None ≡ longest spelled (length (n ∷ bs)) (n ∷ bs)) (sym e) (sym (none_behind mark wrap bs (subst P e each) (sym missing)))
+    go b e each = let P : ℕ → Type 0 = λ n. Marked mark wrap (n ∷ bs) in subst (λ (n : ℕ). None ≡ longest spelled (length (n ∷ bs)) (n ∷ bs)) (sym e) (sym (none_after mark wrap bs (subst P e each) (sym missing)))
 
 pub mark_some : (mark : ℕ) (wrap : List ℕ → Token) (text name : List ℕ) → 0 < length text → eqb (get_or text 0 0) mark ≡ true → Marked mark wrap text → Some name ≡ front_name (drop 1 text) → Some (wrap name, length name + 1) ≡ longest spelled (length text) text
 mark_some mark wrap [] name some first each is = absurd (omega arith)
@@ -156,4 +158,4 @@ mark_some mark wrap (b ∷ bs) name some first each is =
     rw (long, ← named.1) (go b (eqb-true b mark first) each (ltb-true _ _ tests.0) tests.1)
   where
     go : (b : ℕ) → b ≡ mark → Marked mark wrap (b ∷ bs) → 0 < length bs → begins_name (get_or bs 0 0) ≡ true → Some (wrap (take (prefix_len is_in_name bs) bs), suc (prefix_len is_in_name bs)) ≡ longest spelled (length (b ∷ bs)) (b ∷ bs)
-    go b e each more begins = let P : ℕ → Type 0 = λ n. Marked mark wrap (n ∷ bs) in subst (λ (n : ℕ). Some (wrap (take (prefix_len is_in_name bs) bs), suc (prefix_len is_in_name bs)) ≡ longest spelled (length (n ∷ bs)) (n ∷ bs)) (sym e) (sym (some_behind mark wrap bs (subst P e each) more begins))
+    go b e each more begins = let P : ℕ → Type 0 = λ n. Marked mark wrap (n ∷ bs) in subst (λ (n : ℕ). Some (wrap (take (prefix_len is_in_name bs) bs), suc (prefix_len is_in_name bs)) ≡ longest spelled (length (n ∷ bs)) (n ∷ bs)) (sym e) (sym (some_after mark wrap bs (subst P e each) more begins))

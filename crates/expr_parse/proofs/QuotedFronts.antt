@@ -9,7 +9,7 @@ use Rattle.std.proofs.lemmas.List.Folds.{list_all_at}
 use Rattle.std.proofs.lemmas.List.Sums.{prefix_len_passes, prefix_len_stops}
 use Rattle.nv_base.specs.Name.{is_name_byte, is_object_name}
 use Rattle.expr_parse.specs.declared.class.Class.TheVariants.{Quote}
-use Rattle.expr_parse.specs.Class.{class_of}
+use Rattle.expr_parse.specs.inner.Class.{class_of}
 use Rattle.expr_parse.specs.Token.Token.{Text}
 use Rattle.expr_parse.specs.Spelling.{is_quotable, quoted_of, spelled}
 use Rattle.expr_parse.specs.Tokens.{longest}
@@ -17,7 +17,7 @@ use Rattle.expr_parse.proofs.Classes.{quote_is}
 use Rattle.expr_parse.proofs.Fronts.{quote_fronts}
 use Rattle.expr_parse.proofs.Longest.{NoneBetween, cut, found}
 
--- the bytes of what may stand between quotes
+-- the bytes of what may is between quotes
 pub quotable_bytes : (text : List ℕ) → is_quotable text ≡ true → list_all is_name_byte text ≡ true
 quotable_bytes text e = elim (or_cases (is_object_name text || pointwise nat_eq text (codes "_MC_flood")) (pointwise nat_eq text (codes "_MC_unknown")) e) as (λ _. list_all is_name_byte text ≡ true) [
   | inl either ↦ elim (or_cases (is_object_name text) (pointwise nat_eq text (codes "_MC_flood")) either) as (λ _. list_all is_name_byte text ≡ true) [
@@ -27,7 +27,7 @@ quotable_bytes text e = elim (or_cases (is_object_name text || pointwise nat_eq 
   | inr unknown ↦ subst (λ (xs : List ℕ). list_all is_name_byte xs ≡ true) (sym (same_text text (codes "_MC_unknown") (sym unknown))) refl
 ]
 
--- nothing with a double quote may stand between quotes
+-- nothing with a double quote may is between quotes
 with_quote : (bs : List ℕ) (i j : ℕ) → i < j → j ≤ length bs → get_or bs i 0 ≡ 34 → is_quotable (take j bs) ≡ false
 with_quote bs i j lt within is = false_from_ne_true _ (λ e. false≢true (sym (list_all_at is_name_byte (take j bs) i 0 here byte) ∙ quotable_bytes (take j bs) e))
   where
@@ -132,7 +132,7 @@ text_missing (b ∷ bs) last some first is refused =
     let P : ℕ → Type 0 = λ n. n < length bs → is_quotable (take n bs) ≡ false in
     sym (no_text b bs (quote_is b first) (λ k low. quote_fronts (b ∷ bs) k some first low) (subst P is refused))
 
--- the same in the words of the code, which holds what stands behind the first byte
+-- the same in the words of the code, which holds what follows the first byte
 pub rest_found : (text rest : List ℕ) (last : ℕ) → 0 < length text → class_of (get_or text 0 0) ≡ Quote → rest ≡ drop 1 text → last ≡ prefix_len is_plain rest → last < length rest → true ≡ is_quotable (take last rest)
     → Some (Text (take last rest), last + 2) ≡ longest spelled (length text) text
 rest_found text rest last some first same is within may =

@@ -1,4 +1,4 @@
--- The text of a well-formed tree is read as the tree, but for places.
+-- The text of a well-formed tree is read as the tree, without offsets.
 use Rattle.std.proofs.Common.{◌≤◌, length}
 use Rattle.expr_core.specs.Formula.{Formula}
 use Rattle.expr_core.specs.Text.{expr_text}

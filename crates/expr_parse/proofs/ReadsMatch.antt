@@ -11,15 +11,15 @@ use Rattle.expr_core.specs.declared.part.Part.{Part}
 use Rattle.expr_parse.specs.declared.fault.MatchFault.TheVariants.{Syntax}
 use Rattle.expr_parse.specs.Token.{Token, Tokens}
 use Rattle.expr_parse.specs.Token.Token.{Name, Relation, And, Or, Not, Open, Close}
-use Rattle.expr_parse.specs.Grammar.{Reading, Inside, and_behind, part, right, compared, closed, operand, unit, conjuncts, disjuncts, joined, whole, levels, finished}
+use Rattle.expr_parse.specs.Grammar.{Reading, Inside, and_then, part, right, compared, closed, operand, unit, conjuncts, disjuncts, joined, whole, levels, finished}
 use Rattle.expr_parse.specs.Grammar.Reading.{Read, Fails}
-use Rattle.expr_parse.specs.Rules.{decimal, IsPart, IsAtom, IsMatch, AreUnits, IsUnit, IsOperand}
-use Rattle.expr_parse.specs.Rules.IsMatch.{alone, all, any}
-use Rattle.expr_parse.specs.Rules.AreUnits.{last, more}
-use Rattle.expr_parse.specs.Rules.IsUnit.{plain, comparison}
-use Rattle.expr_parse.specs.Rules.IsOperand.{truth as is_truth, bare as is_bare, negation as is_negation, enclosed as is_enclosed}
-use Rattle.expr_parse.proofs.Unplaced.{kinds_none, kinds_first}
-use Rattle.expr_parse.proofs.ReadsParts.{behind, NoBits, part_read}
+use Rattle.expr_parse.specs.GrammarRules.{decimal, IsPart, IsAtom, IsMatch, AreUnits, IsUnit, IsOperand}
+use Rattle.expr_parse.specs.GrammarRules.IsMatch.{alone, all, any}
+use Rattle.expr_parse.specs.GrammarRules.AreUnits.{last, more}
+use Rattle.expr_parse.specs.GrammarRules.IsUnit.{plain, comparison}
+use Rattle.expr_parse.specs.GrammarRules.IsOperand.{truth as is_truth, bare as is_bare, negation as is_negation, enclosed as is_enclosed}
+use Rattle.expr_parse.proofs.TokenKinds.{kinds_none, kinds_first}
+use Rattle.expr_parse.proofs.ReadsParts.{after, NoBits, part_read}
 use Rattle.expr_parse.proofs.ReadsRight.{NoMask, right_read}
 
 -- a unit ends before these tokens
@@ -83,22 +83,22 @@ truth_read end inside ts true rest e =
 
 bare_read : (end : ℕ) (inside : Inside) (ts : Tokens) (p : Part) (rest : Tokens) → IsPart ts p → EndsUnit rest → OperandRead end inside ts (Leaf (Bare p)) rest
 bare_read end inside ts p rest h stop =
-    let reads = part_read end p h.behind rest h.bits h.numbers (no_bits rest stop) in (
-      ap (λ xs. operand end inside (xs ++ rest)) h.whole ∙ behind (part end p.place p.name (h.behind ++ rest)) p rest (λ q more. Read (Leaf (Bare q)) more) reads,
-      ap (λ xs. unit end inside (xs ++ rest)) h.whole ∙ behind (part end p.place p.name (h.behind ++ rest)) p rest (compared end) reads ∙ alone_compared end p rest stop,
+    let reads = part_read end p h.after rest h.bits h.numbers (no_bits rest stop) in (
+      ap (λ xs. operand end inside (xs ++ rest)) h.whole ∙ after (part end p.offset p.name (h.after ++ rest)) p rest (λ q more. Read (Leaf (Bare q)) more) reads,
+      ap (λ xs. unit end inside (xs ++ rest)) h.whole ∙ after (part end p.offset p.name (h.after ++ rest)) p rest (compared end) reads ∙ alone_compared end p rest stop,
     )
 
 comparison_read : (end : ℕ) (inside : Inside) (ts : Tokens) (p : Part) (r : Rel) (s : Right) (rest : Tokens) → IsAtom ts (Compare p r s) → EndsUnit rest → unit end inside (ts ++ rest) ≡ Read (Leaf (Compare p r s)) rest
 comparison_read end inside ts p r s rest h stop =
-    let front = h.0 in let place = h.1 in let back = h.2 in let left = h.4 in
-    let next : Tokens = (place, Relation r) ∷ (back ++ rest) in
-    let all : ts ++ rest ≡ (p.place, Name p.name) ∷ (left.behind ++ next) = ap (λ xs. xs ++ rest) h.3 ∙ append_assoc front ((place, Relation r) ∷ back) rest ∙ ap (λ xs. xs ++ next) left.whole in
-    ap (unit end inside) all ∙ behind (part end p.place p.name (left.behind ++ next)) p next (compared end) (part_read end p left.behind next left.bits left.numbers tt)
-    ∙ behind (right end (back ++ rest)) s rest (λ t more. Read (Leaf (Compare p r t)) more) (right_read end back s rest h.5 (no_mask rest stop))
+    let front = h.0 in let offset = h.1 in let back = h.2 in let left = h.4 in
+    let next : Tokens = (offset, Relation r) ∷ (back ++ rest) in
+    let all : ts ++ rest ≡ (p.offset, Name p.name) ∷ (left.after ++ next) = ap (λ xs. xs ++ rest) h.3 ∙ append_assoc front ((offset, Relation r) ∷ back) rest ∙ ap (λ xs. xs ++ next) left.whole in
+    ap (unit end inside) all ∙ after (part end p.offset p.name (left.after ++ next)) p next (compared end) (part_read end p left.after next left.bits left.numbers tt)
+    ∙ after (right end (back ++ rest)) s rest (λ t more. Read (Leaf (Compare p r t)) more) (right_read end back s rest h.5 (no_mask rest stop))
 
--- what is read behind a sign
+-- what is read after a sign
 abbrev next_unit : ℕ → Inside → (ℕ → List (Formula Atom) → Tokens → Reading (Formula Atom)) → ℕ → List (Formula Atom) → Tokens → Reading (Formula Atom)
-next_unit end inside goes m before ts = and_behind (unit end inside ts) (λ g more. goes m (before ++ g ∷ []) more)
+next_unit end inside goes m before ts = and_then (unit end inside ts) (λ g more. goes m (before ++ g ∷ []) more)
 
 -- how a chain of this sign is read
 record Chain (end : ℕ) (inside : Inside) (sign : Token) (goes : ℕ → List (Formula Atom) → Tokens → Reading (Formula Atom)) (make : Formulas Atom → Formula Atom) : Type 0 where
@@ -132,35 +132,35 @@ chain_long : {n : ℕ} {sign : Token} {ts : Tokens} {fs : List (Formula Atom)} �
 chain_long (last f u) = omega arith
 chain_long (more {sign = sign} {ts = ts} front p back e u us) = omega (arith, chain_long us, length-append front ((p, sign) ∷ back), ap length e)
 
--- the unit of a chain is read, and the sign behind it
+-- the unit of a chain is read, and the sign after it
 unit_more : (end : ℕ) (inside : Inside) (goes : ℕ → List (Formula Atom) → Tokens → Reading (Formula Atom)) (m : ℕ) (before : List (Formula Atom)) (f : Formula Atom) (ts mid : Tokens) → unit end inside ts ≡ Read f mid → next_unit end inside goes m before ts ≡ goes m (before ++ f ∷ []) mid
-unit_more end inside goes m before f ts mid e = behind (unit end inside ts) f mid (λ g more. goes m (before ++ g ∷ []) more) e
+unit_more end inside goes m before f ts mid e = after (unit end inside ts) f mid (λ g more. goes m (before ++ g ∷ []) more) e
 
--- tokens behind tokens
-regroup : (ts front : Tokens) (place : ℕ) (sign : Token) (back rest : Tokens) → ts ≡ front ++ (place, sign) ∷ back → ts ++ rest ≡ front ++ (place, sign) ∷ (back ++ rest)
-regroup ts front place sign back rest e = ap (λ xs. xs ++ rest) e ∙ append_assoc front ((place, sign) ∷ back) rest
+-- tokens after tokens
+regroup : (ts front : Tokens) (offset : ℕ) (sign : Token) (back rest : Tokens) → ts ≡ front ++ (offset, sign) ∷ back → ts ++ rest ≡ front ++ (offset, sign) ∷ (back ++ rest)
+regroup ts front offset sign back rest e = ap (λ xs. xs ++ rest) e ∙ append_assoc front ((offset, sign) ∷ back) rest
 
 -- a level's inside is read at the next level
-negated_read : (end n place : ℕ) (ts inner : Tokens) (f : Formula Atom) (rest : Tokens) → ts ≡ (place, Not) ∷ inner → operand end (levels end n) (inner ++ rest) ≡ Read f rest → OperandRead end (levels end (suc n)) ts (Negation f) rest
-negated_read end n place ts inner f rest e reads =
-    let reads_on = behind (operand end (levels end n) (inner ++ rest)) f rest (λ g more. Read (Negation g) more) reads in
+negated_read : (end n offset : ℕ) (ts inner : Tokens) (f : Formula Atom) (rest : Tokens) → ts ≡ (offset, Not) ∷ inner → operand end (levels end n) (inner ++ rest) ≡ Read f rest → OperandRead end (levels end (suc n)) ts (Negation f) rest
+negated_read end n offset ts inner f rest e reads =
+    let reads_on = after (operand end (levels end n) (inner ++ rest)) f rest (λ g more. Read (Negation g) more) reads in
     (ap (λ xs. operand end (levels end (suc n)) (xs ++ rest)) e ∙ reads_on, ap (λ xs. unit end (levels end (suc n)) (xs ++ rest)) e ∙ reads_on)
 
 enclosed_read : (end n opening closing : ℕ) (ts inner : Tokens) (f : Formula Atom) (rest : Tokens) → ts ≡ (opening, Open) ∷ (inner ++ (closing, Close) ∷ []) → whole end (levels end n) (inner ++ (closing, Close) ∷ rest) ≡ Read f ((closing, Close) ∷ rest) → OperandRead end (levels end (suc n)) ts f rest
 enclosed_read end n opening closing ts inner f rest e reads =
     let all : ts ++ rest ≡ (opening, Open) ∷ (inner ++ (closing, Close) ∷ rest) = ap (λ xs. xs ++ rest) e ∙ ap (λ xs. (opening, Open) ∷ xs) (append_assoc inner ((closing, Close) ∷ []) rest) in
-    let reads_on = behind (whole end (levels end n) (inner ++ (closing, Close) ∷ rest)) f ((closing, Close) ∷ rest) (closed end) reads in
+    let reads_on = after (whole end (levels end n) (inner ++ (closing, Close) ∷ rest)) f ((closing, Close) ∷ rest) (closed end) reads in
     (ap (operand end (levels end (suc n))) all ∙ reads_on, ap (unit end (levels end (suc n))) all ∙ reads_on)
 
--- the chain behind the first unit and its sign
+-- the chain after the first unit and its sign
 joined_read : (end : ℕ) (inside : Inside) (f : Formula Atom) (ts front : Tokens) (mid rest : Tokens) (g : Formula Atom) → ts ++ rest ≡ front ++ mid → unit end inside (front ++ mid) ≡ Read f mid → joined end inside f mid ≡ Read g rest → whole end inside (ts ++ rest) ≡ Read g rest
-joined_read end inside f ts front mid rest g e reads joins = ap (whole end inside) e ∙ behind (unit end inside (front ++ mid)) f mid (joined end inside) reads ∙ joins
+joined_read end inside f ts front mid rest g e reads joins = ap (whole end inside) e ∙ after (unit end inside (front ++ mid)) f mid (joined end inside) reads ∙ joins
 
 mutual
   operand_read : {n : ℕ} {ts : Tokens} {f : Formula Atom} → IsOperand n ts f → (end : ℕ) (rest : Tokens) → EndsUnit rest → OperandRead end (levels end n) ts f rest
   operand_read {ts = ts} (is_truth b h) end rest stop = truth_read end _ ts b rest h
   operand_read {ts = ts} (is_bare p h) end rest stop = bare_read end _ ts p rest h stop
-  operand_read {ts = ts} (is_negation {n = n} {f = f} place inner e h) end rest stop = negated_read end n place ts inner f rest e (operand_read h end rest stop).0
+  operand_read {ts = ts} (is_negation {n = n} {f = f} offset inner e h) end rest stop = negated_read end n offset ts inner f rest e (operand_read h end rest stop).0
   operand_read {ts = ts} {f = f} (is_enclosed {n = n} opening closing inner e h) end rest stop = enclosed_read end n opening closing ts inner f rest e (match_read h end ((closing, Close) ∷ rest) tt)
 
   unit_read : {n : ℕ} {ts : Tokens} {f : Formula Atom} → IsUnit n ts f → (end : ℕ) (rest : Tokens) → EndsUnit rest → unit end (levels end n) (ts ++ rest) ≡ Read f rest
@@ -189,7 +189,7 @@ mutual
       joined_read end (levels end n) f ts front ((p, Or) ∷ (back ++ rest)) rest (Disjunction (formulas (f ∷ g ∷ fs))) (regroup ts front p Or back rest e) (unit_read u end ((p, Or) ∷ (back ++ rest)) tt)
       (units_read us end (disjuncts end (levels end n)) Disjunction (disjunction end (levels end n)) (length (back ++ rest)) (f ∷ []) rest long stop)
 
-pub whole_read : {n : ℕ} {ts : Tokens} {f : Formula Atom} → IsMatch n ts f → (len end : ℕ) → end ≡ len → and_behind (whole end (levels end n) ts) (finished len end) ≡ Read f []
+pub whole_read : {n : ℕ} {ts : Tokens} {f : Formula Atom} → IsMatch n ts f → (len end : ℕ) → end ≡ len → and_then (whole end (levels end n) ts) (finished len end) ≡ Read f []
 whole_read {n = n} {ts = ts} {f = f} h len end same =
     let reads : whole end (levels end n) ts ≡ Read f [] = ap (whole end (levels end n)) (sym (append-nil ts)) ∙ match_read h end [] tt in
-    behind (whole end (levels end n) ts) f [] (finished len end) reads ∙ ap (λ b. if b then Read f [] else Fails (Syntax end)) (eq-eqb end len same)
+    after (whole end (levels end n) ts) f [] (finished len end) reads ∙ ap (λ b. if b then Read f [] else Fails (Syntax end)) (eq-eqb end len same)

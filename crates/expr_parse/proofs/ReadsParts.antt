@@ -7,14 +7,14 @@ use Rattle.expr_core.specs.declared.part.Part.{Part}
 use Rattle.expr_parse.specs.declared.fault.MatchFault.TheVariants.{Syntax}
 use Rattle.expr_parse.specs.Token.{Tokens}
 use Rattle.expr_parse.specs.Token.Token.{OpenBracket, CloseBracket, Dots}
-use Rattle.expr_parse.specs.Grammar.{Reading, and_behind, bit_number, last_bit, first_bit, bits, part_of, part}
+use Rattle.expr_parse.specs.Grammar.{Reading, and_then, bit_number, last_bit, first_bit, bits, part_of, part}
 use Rattle.expr_parse.specs.Grammar.Reading.{Read, Fails}
-use Rattle.expr_parse.specs.Rules.{kinds, decimal, bits_tokens, AreBits}
-use Rattle.expr_parse.proofs.Unplaced.{kinds_none, kinds_first}
+use Rattle.expr_parse.specs.GrammarRules.{kinds, decimal, bits_tokens, AreBits}
+use Rattle.expr_parse.proofs.TokenKinds.{kinds_none, kinds_first}
 
--- go on behind what is read
-pub behind : {S T : Type 0} (r : Reading S) (s : S) (mid : Tokens) (k : S → Tokens → Reading T) → r ≡ Read s mid → and_behind r k ≡ k s mid
-behind r s mid k e = ap (λ x. and_behind x k) e
+-- read on after what is read
+pub after : {S T : Type 0} (r : Reading S) (s : S) (mid : Tokens) (k : S → Tokens → Reading T) → r ≡ Read s mid → and_then r k ≡ k s mid
+after r s mid k e = ap (λ x. and_then x k) e
 
 -- no bits come next
 abbrev pub NoBits : Tokens → Type 0
@@ -31,15 +31,15 @@ no_bits_read end ((p, OpenBracket) ∷ ts) h = absurd h
 no_bits_read end ((p, k) ∷ ts) h = refl
 
 bit_read : (end n a b c : ℕ) (rest : Tokens) → n ≤ 255 → bits end ((a, OpenBracket) ∷ (b, decimal n) ∷ (c, CloseBracket) ∷ rest) ≡ Read (Bit n) rest
-bit_read end n a b c rest low = behind (bit_number end ((b, decimal n) ∷ (c, CloseBracket) ∷ rest)) n ((c, CloseBracket) ∷ rest) (first_bit end) (number_read end b n ((c, CloseBracket) ∷ rest) low)
+bit_read end n a b c rest low = after (bit_number end ((b, decimal n) ∷ (c, CloseBracket) ∷ rest)) n ((c, CloseBracket) ∷ rest) (first_bit end) (number_read end b n ((c, CloseBracket) ∷ rest) low)
 
 range_end_read : (end m n b c d : ℕ) (rest : Tokens) → n ≤ 255 → first_bit end m ((b, Dots) ∷ (c, decimal n) ∷ (d, CloseBracket) ∷ rest) ≡ Read (Range m n) rest
-range_end_read end m n b c d rest low = behind (bit_number end ((c, decimal n) ∷ (d, CloseBracket) ∷ rest)) n ((d, CloseBracket) ∷ rest) (last_bit end m) (number_read end c n ((d, CloseBracket) ∷ rest) low)
+range_end_read end m n b c d rest low = after (bit_number end ((c, decimal n) ∷ (d, CloseBracket) ∷ rest)) n ((d, CloseBracket) ∷ rest) (last_bit end m) (number_read end c n ((d, CloseBracket) ∷ rest) low)
 
 range_read : (end m n a b : ℕ) (ts rest : Tokens) → m ≤ 255 → first_bit end m ts ≡ Read (Range m n) rest → bits end ((a, OpenBracket) ∷ (b, decimal m) ∷ ts) ≡ Read (Range m n) rest
-range_read end m n a b ts rest low e = behind (bit_number end ((b, decimal m) ∷ ts)) m ts (first_bit end) (number_read end b m ts low) ∙ e
+range_read end m n a b ts rest low e = after (bit_number end ((b, decimal m) ∷ ts)) m ts (first_bit end) (number_read end b m ts low) ∙ e
 
--- the tokens of bits, with their places
+-- the tokens of bits, with their offsets
 bit_tokens : (ts : Tokens) (n : ℕ) → kinds ts ≡ bits_tokens (Bit n) → (a : ℕ) × (b : ℕ) × (c : ℕ) × (ts ≡ (a, OpenBracket) ∷ (b, decimal n) ∷ (c, CloseBracket) ∷ [])
 bit_tokens ts n e =
     let f = kinds_first ts OpenBracket (decimal n ∷ CloseBracket ∷ []) e in
@@ -65,5 +65,5 @@ bits_read end ts (Range m n) rest e low h =
     let t = range_tokens ts m n e in
     ap (λ xs. bits end (xs ++ rest)) t.5 ∙ range_read end m n t.0 t.1 ((t.2, Dots) ∷ (t.3, decimal n) ∷ (t.4, CloseBracket) ∷ rest) rest low.0 (range_end_read end m n t.2 t.3 t.4 rest low.1)
 
-pub part_read : (end : ℕ) (p : Part) (ts : Tokens) (rest : Tokens) → kinds ts ≡ bits_tokens p.bits → AreBits p.bits → NoBits rest → part end p.place p.name (ts ++ rest) ≡ Read p rest
-part_read end p ts rest e low h = behind (bits end (ts ++ rest)) p.bits rest (λ b more. Read (part_of p.name p.place b) more) (bits_read end ts p.bits rest e low h)
+pub part_read : (end : ℕ) (p : Part) (ts : Tokens) (rest : Tokens) → kinds ts ≡ bits_tokens p.bits → AreBits p.bits → NoBits rest → part end p.offset p.name (ts ++ rest) ≡ Read p rest
+part_read end p ts rest e low h = after (bits end (ts ++ rest)) p.bits rest (λ b more. Read (part_of p.name p.offset b) more) (bits_read end ts p.bits rest e low h)

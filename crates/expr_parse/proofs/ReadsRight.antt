@@ -8,13 +8,13 @@ use Rattle.expr_core.specs.declared.comparison.Right.{Right}
 use Rattle.expr_core.specs.declared.comparison.Right.TheVariants as right_of
 use Rattle.expr_parse.specs.Token.{Token, Tokens}
 use Rattle.expr_parse.specs.Token.Token.{Number, Text, AddrSet, Group, OpenBrace, CloseBrace, Comma, Slash}
-use Rattle.expr_parse.specs.Grammar.{Reading, and_behind, number, item, items, right}
+use Rattle.expr_parse.specs.Grammar.{Reading, and_then, number, item, items, right}
 use Rattle.expr_parse.specs.Grammar.Reading.{Read}
-use Rattle.expr_parse.specs.Rules.{kinds, item_tokens, items_tokens, IsRight}
-use Rattle.expr_parse.proofs.Unplaced.{kinds_none, kinds_first, kinds_split}
-use Rattle.expr_parse.proofs.ReadsParts.{behind}
+use Rattle.expr_parse.specs.GrammarRules.{kinds, item_tokens, items_tokens, IsRight}
+use Rattle.expr_parse.proofs.TokenKinds.{kinds_none, kinds_first, kinds_split}
+use Rattle.expr_parse.proofs.ReadsParts.{after}
 
--- no mask comes next
+-- no mask is next
 abbrev pub NoMask : Tokens → Type 0
 NoMask [] = Unit {0}
 NoMask ((p, Slash) ∷ ts) = ⊥
@@ -43,15 +43,15 @@ item_read end ts (item_of.Text name) rest e h = let f = single ts (Text name) e 
 item_read end ts (item_of.AddrSet name) rest e h = let f = single ts (AddrSet name) e in ap (λ xs. item end (xs ++ rest)) f.1
 item_read end ts (item_of.Group name) rest e h = let f = single ts (Group name) e in ap (λ xs. item end (xs ++ rest)) f.1
 
--- the items of a set stand here, the first of them unread, behind those before
+-- the items of a set are here, the first of them unread, after those before
 abbrev next_item : ℕ → ℕ → List Item → Tokens → Reading Right
-next_item end m before ts = and_behind (item end ts) (λ i more. items end m (before ++ i ∷ []) more)
+next_item end m before ts = and_then (item end ts) (λ i more. items end m (before ++ i ∷ []) more)
 
 last_read : (end m : ℕ) (before : List Item) (i : Item) (us : Tokens) (p : ℕ) (rest : Tokens) → kinds us ≡ item_tokens i → next_item end m before (us ++ (p, CloseBrace) ∷ rest) ≡ Read (right_of.Set (before ++ i ∷ [])) rest
-last_read end m before i us p rest e = behind (item end (us ++ (p, CloseBrace) ∷ rest)) i ((p, CloseBrace) ∷ rest) (λ j more. items end m (before ++ j ∷ []) more) (item_read end us i ((p, CloseBrace) ∷ rest) e tt)
+last_read end m before i us p rest e = after (item end (us ++ (p, CloseBrace) ∷ rest)) i ((p, CloseBrace) ∷ rest) (λ j more. items end m (before ++ j ∷ []) more) (item_read end us i ((p, CloseBrace) ∷ rest) e tt)
 
 more_read : (end m : ℕ) (before : List Item) (i : Item) (us : Tokens) (p : ℕ) (ws : Tokens) → kinds us ≡ item_tokens i → next_item end (suc m) before (us ++ (p, Comma) ∷ ws) ≡ next_item end m (before ++ i ∷ []) ws
-more_read end m before i us p ws e = behind (item end (us ++ (p, Comma) ∷ ws)) i ((p, Comma) ∷ ws) (λ j more. items end (suc m) (before ++ j ∷ []) more) (item_read end us i ((p, Comma) ∷ ws) e tt)
+more_read end m before i us p ws e = after (item end (us ++ (p, Comma) ∷ ws)) i ((p, Comma) ∷ ws) (λ j more. items end (suc m) (before ++ j ∷ []) more) (item_read end us i ((p, Comma) ∷ ws) e tt)
 
 items_read : (js : List Item) (end m : ℕ) (before : List Item) (i : Item) (ts rest : Tokens) → kinds ts ≡ items_tokens i js ++ CloseBrace ∷ [] → length js ≤ m → next_item end m before (ts ++ rest) ≡ Read (right_of.Set (before ++ i ∷ js)) rest
 items_read [] end m before i ts rest e le =
@@ -88,7 +88,7 @@ first_of (item_of.AddrSet name) = (AddrSet name, [], refl, tt)
 first_of (item_of.Group name) = (Group name, [], refl, tt)
 
 abbrev lone : ℕ → Tokens → Reading Right
-lone end ts = and_behind (item end ts) (λ i more. Read (right_of.Item i) more)
+lone end ts = and_then (item end ts) (λ i more. Read (right_of.Item i) more)
 
 lone_right : (end p : ℕ) (k : Token) (ts : Tokens) → NoBrace k → right end ((p, k) ∷ ts) ≡ lone end ((p, k) ∷ ts)
 lone_right end p OpenBrace ts h = absurd h
@@ -99,7 +99,7 @@ item_right end i ts rest e h =
     let o = first_of i in
     let f = kinds_first ts o.0 o.1 (e ∙ o.2) in
     ap (λ xs. right end (xs ++ rest)) f.2 ∙ lone_right end f.0 o.0 (f.1 ++ rest) o.3 ∙ ap (λ xs. lone end (xs ++ rest)) (sym f.2)
-    ∙ behind (item end (ts ++ rest)) i rest (λ j more. Read (right_of.Item j) more) (item_read end ts i rest e h)
+    ∙ after (item end (ts ++ rest)) i rest (λ j more. Read (right_of.Item j) more) (item_read end ts i rest e h)
 
 pub right_read : (end : ℕ) (ts : Tokens) (s : Right) (rest : Tokens) → IsRight (kinds ts) s → NoMask rest → right end (ts ++ rest) ≡ Read s rest
 right_read end ts (right_of.Item i) rest e h = item_right end i ts rest e h

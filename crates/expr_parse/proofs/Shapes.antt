@@ -11,7 +11,7 @@ use Rattle.nv_base.specs.Ip4.{address, ip4_of}
 use Rattle.nv_base.specs.declared.ip4.Ip4.{Ip4}
 use Rattle.nv_base.specs.Mac.{mac_of}
 use Rattle.nv_base.specs.Number.{digits_number, decimal_of, below, hexadecimal_of}
-use Rattle.expr_parse.specs.Spelling.{number_behind_0x}
+use Rattle.expr_parse.specs.Spelling.{number_after_0x}
 use Rattle.expr_parse.proofs.Choices.{none_from, guarded, mapped}
 use Rattle.expr_parse.proofs.Decimals.{decimal_parts, decimal_length}
 use Rattle.expr_parse.proofs.Pieces.{weaker, joined_all, joined_first, joined_length_le, joined_length_is}
@@ -90,8 +90,8 @@ ip4_first b bs a e =
     let split = split_parts octet_of 4 46 (b ∷ bs) number.0 number.1 in
     joined_first (λ c. is_digit c 10) 46 b bs split.0 (weaker _ _ (λ p h. (octet_parts p h).2) split.0 split.2) (weaker _ _ (λ p h. (octet_parts p h).0) split.0 split.2) split.3
 
--- the digits behind `0x`
-pub hexadecimal_parts : (text : List ℕ) (n : ℕ) → number_behind_0x text ≡ Some n → (ds : List ℕ) × (text ≡ 48 ∷ 120 ∷ ds) × (length ds ≤ 32) × (list_all (λ c. is_digit c 16) ds ≡ true)
+-- the digits after `0x`
+pub hexadecimal_parts : (text : List ℕ) (n : ℕ) → number_after_0x text ≡ Some n → (ds : List ℕ) × (text ≡ 48 ∷ 120 ∷ ds) × (length ds ≤ 32) × (list_all (λ c. is_digit c 16) ds ≡ true)
 hexadecimal_parts [] n e = absurd cc
 hexadecimal_parts (a ∷ []) n e = absurd (no_mark (eqb 48 a) (guarded _ _ n e).0)
   where

@@ -5,7 +5,7 @@ use Rattle.std.specs.Cmp.Lexicographic.{pointwise, as_long}
 use Rattle.std.proofs.lemmas.Bool.{and_parts, leb-true, false_from_ne_true}
 use Rattle.std.proofs.lemmas.List.{length-take-le}
 use Rattle.expr_parse.specs.declared.class.Class.TheVariants.{Other}
-use Rattle.expr_parse.specs.Class.{class_of}
+use Rattle.expr_parse.specs.inner.Class.{class_of}
 use Rattle.expr_parse.specs.Token.{Token}
 use Rattle.expr_parse.specs.Spelling.{sign_among, signs, spelled}
 use Rattle.expr_parse.specs.Tokens.{longest}

@@ -11,18 +11,18 @@ use Rattle.expr_core.specs.declared.part.Part.{Part}
 use Rattle.expr_parse.specs.declared.fault.MatchFault.TheVariants.{Syntax}
 use Rattle.expr_parse.specs.Token.{Token, Tokens}
 use Rattle.expr_parse.specs.Token.Token.{Name, Number, Relation, And, Or, Not, Open, Close}
-use Rattle.expr_parse.specs.Grammar.{Reading, Inside, and_behind, finished, part, right, compared, truth, closed, operand, unit, conjuncts, disjuncts, joined, whole, too_deep, levels}
+use Rattle.expr_parse.specs.Grammar.{Reading, Inside, and_then, finished, part, right, compared, truth, closed, operand, unit, conjuncts, disjuncts, joined, whole, too_deep, levels}
 use Rattle.expr_parse.specs.Grammar.Reading.{Read, Fails}
-use Rattle.expr_parse.specs.Rules.{IsPart, IsMatch, AreUnits, IsUnit, IsOperand}
-use Rattle.expr_parse.specs.Rules.IsMatch.{alone, all, any}
-use Rattle.expr_parse.specs.Rules.AreUnits.{last, more}
-use Rattle.expr_parse.specs.Rules.IsUnit.{plain, comparison}
-use Rattle.expr_parse.specs.Rules.IsOperand.{truth as is_truth, bare as is_bare, negation as is_negation, enclosed as is_enclosed}
-use Rattle.expr_parse.proofs.Takes.{Takes, and_behind_read, read_is}
+use Rattle.expr_parse.specs.GrammarRules.{IsPart, IsMatch, AreUnits, IsUnit, IsOperand}
+use Rattle.expr_parse.specs.GrammarRules.IsMatch.{alone, all, any}
+use Rattle.expr_parse.specs.GrammarRules.AreUnits.{last, more}
+use Rattle.expr_parse.specs.GrammarRules.IsUnit.{plain, comparison}
+use Rattle.expr_parse.specs.GrammarRules.IsOperand.{truth as is_truth, bare as is_bare, negation as is_negation, enclosed as is_enclosed}
+use Rattle.expr_parse.proofs.Takes.{Takes, and_then_read, read_is}
 use Rattle.expr_parse.proofs.TakesParts.{part_taken}
 use Rattle.expr_parse.proofs.TakesRight.{right_taken}
 
--- what stands behind these tokens, and makes a unit with them, stands in front of the rest
+-- what follows these tokens, and makes a unit with them, is before the rest
 abbrev Completes : {T : Type 0} → (Tokens → T → Type 0) → Tokens → Tokens → T → Tokens → Type 0
 Completes Is head ts v rest = (front : Tokens) × (ts ≡ front ++ rest) × Is (head ++ front) v
 
@@ -34,7 +34,7 @@ nothing_more Is head ts v w rest e h =
 compared_taken : (n end : ℕ) (head : Tokens) (q : Part) (ts : Tokens) (f : Formula Atom) (rest : Tokens) → IsPart head q → compared end q ts ≡ Read f rest → Completes (IsUnit n) head ts f rest
 compared_taken n end head q [] f rest h e = nothing_more (IsUnit n) head [] (Leaf (Bare q)) f rest e (plain (is_bare q h))
 compared_taken n end head q ((p, Relation r) ∷ ts) f rest h e =
-    let a = and_behind_read (right end ts) (λ s behind. Read (Leaf (Compare q r s)) behind) f rest e in
+    let a = and_then_read (right end ts) (λ s after. Read (Leaf (Compare q r s)) after) f rest e in
     let s = right_taken end ts a.0 a.1 a.2 in
     read_is (Completes (IsUnit n) head ((p, Relation r) ∷ ts)) (Leaf (Compare q r a.0)) f a.1 rest a.3
     ((p, Relation r) ∷ s.0, ap (λ xs. (p, Relation r) ∷ xs) s.1, comparison q r a.0 (head, p, s.0, refl, h, s.2))
@@ -75,18 +75,18 @@ module _ (n end : ℕ) (inside : Inside) (sound : Sound n inside) where
   operand_taken : (ts : Tokens) (f : Formula Atom) (rest : Tokens) → operand end inside ts ≡ Read f rest → Takes (IsOperand n) ts f rest
   operand_taken [] f rest e = absurd (cc)
   operand_taken ((p, Not) ∷ ts) f rest e =
-      let a = and_behind_read (inside.negated p ts) (λ g behind. Read (Negation g) behind) f rest e in
+      let a = and_then_read (inside.negated p ts) (λ g after. Read (Negation g) after) f rest e in
       let h = sound.negated p ts a.0 a.1 a.2 in
       read_is (Takes (IsOperand n) ((p, Not) ∷ ts)) (Negation a.0) f a.1 rest a.3 ((p, Not) ∷ h.0, ap (λ xs. (p, Not) ∷ xs) h.1, h.2)
   operand_taken ((p, Open) ∷ ts) f rest e =
-      let a = and_behind_read (inside.enclosed p ts) (closed end) f rest e in
+      let a = and_then_read (inside.enclosed p ts) (closed end) f rest e in
       let h = sound.enclosed p ts a.0 a.1 a.2 in
       let c = closed_taken end a.0 f a.1 rest a.3 in
       let whole : ts ≡ (h.0 ++ (c.0, Close) ∷ []) ++ rest = h.1 ∙ ap (λ xs. h.0 ++ xs) c.1 ∙ sym (append_assoc h.0 ((c.0, Close) ∷ []) rest) in
       ((p, Open) ∷ (h.0 ++ (c.0, Close) ∷ []), ap (λ xs. (p, Open) ∷ xs) whole, subst (IsOperand n ((p, Open) ∷ (h.0 ++ (c.0, Close) ∷ []))) c.2 (h.2 c.0))
   operand_taken ((p, Number c) ∷ ts) f rest e = truth_taken n p c.form c.value ts f rest e
   operand_taken ((p, Name name) ∷ ts) f rest e =
-      let a = and_behind_read (part end p name ts) (λ q behind. Read (Leaf (Bare q)) behind) f rest e in
+      let a = and_then_read (part end p name ts) (λ q after. Read (Leaf (Bare q)) after) f rest e in
       let h = part_taken end p name ts a.0 a.1 a.2 in
       read_is (Takes (IsOperand n) ((p, Name name) ∷ ts)) (Leaf (Bare a.0)) f a.1 rest a.3 ((p, Name name) ∷ h.0, ap (λ xs. (p, Name name) ∷ xs) h.1, is_bare a.0 h.2)
   operand_taken ((p, _) ∷ ts) f rest e = absurd (cc)
@@ -97,30 +97,30 @@ module _ (n end : ℕ) (inside : Inside) (sound : Sound n inside) where
   unit_taken : (ts : Tokens) (f : Formula Atom) (rest : Tokens) → unit end inside ts ≡ Read f rest → Takes (IsUnit n) ts f rest
   unit_taken [] f rest e = plain_taken [] f rest e
   unit_taken ((p, Name name) ∷ ts) f rest e =
-      let a = and_behind_read (part end p name ts) (compared end) f rest e in
+      let a = and_then_read (part end p name ts) (compared end) f rest e in
       let h = part_taken end p name ts a.0 a.1 a.2 in
       let c = compared_taken n end ((p, Name name) ∷ h.0) a.0 a.1 f rest h.2 a.3 in
       let whole : ts ≡ (h.0 ++ c.0) ++ rest = h.1 ∙ ap (λ xs. h.0 ++ xs) c.1 ∙ sym (append_assoc h.0 c.0 rest) in
       ((p, Name name) ∷ (h.0 ++ c.0), ap (λ xs. (p, Name name) ∷ xs) whole, c.2)
   unit_taken ((p, k) ∷ ts) f rest e = plain_taken ((p, k) ∷ ts) f rest e
 
--- a chain ends here, or goes on behind its sign
+-- a chain ends here, or continues after its sign
 abbrev EndsHere : (Formulas Atom → Formula Atom) → List (Formula Atom) → Tokens → Formula Atom → Tokens → Type 0
 EndsHere make before ts f rest = (f ≡ make (formulas before)) × (ts ≡ rest)
 
 abbrev GoesOn : Token → Tokens → (Tokens → Reading (Formula Atom)) → Formula Atom → Tokens → Type 0
-GoesOn sign ts behind f rest = (p : ℕ) × (next : Tokens) × (ts ≡ (p, sign) ∷ next) × (behind next ≡ Read f rest)
+GoesOn sign ts after f rest = (p : ℕ) × (next : Tokens) × (ts ≡ (p, sign) ∷ next) × (after next ≡ Read f rest)
 
--- what is read behind a sign
+-- what is read after a sign
 abbrev next_unit : ℕ → Inside → (ℕ → List (Formula Atom) → Tokens → Reading (Formula Atom)) → ℕ → List (Formula Atom) → Tokens → Reading (Formula Atom)
-next_unit end inside goes m before ts = and_behind (unit end inside ts) (λ g behind. goes m (before ++ g ∷ []) behind)
+next_unit end inside goes m before ts = and_then (unit end inside ts) (λ g after. goes m (before ++ g ∷ []) after)
 
 -- how a chain of this sign is read
 record Chain (end : ℕ) (inside : Inside) (sign : Token) (goes : ℕ → List (Formula Atom) → Tokens → Reading (Formula Atom)) (make : Formulas Atom → Formula Atom) : Type 0 where
   none : (before : List (Formula Atom)) (ts : Tokens) (f : Formula Atom) (rest : Tokens) → goes zero before ts ≡ Read f rest → EndsHere make before ts f rest
   some : (m : ℕ) (before : List (Formula Atom)) (ts : Tokens) (f : Formula Atom) (rest : Tokens) → goes (suc m) before ts ≡ Read f rest → EndsHere make before ts f rest ⊎ GoesOn sign ts (next_unit end inside goes m before) f rest
 
--- units stand in front of the rest, and are joined behind those before
+-- units are before the rest, and are joined after those before
 abbrev Joins : ℕ → Token → (Formulas Atom → Formula Atom) → List (Formula Atom) → Tokens → Formula Atom → Tokens → Type 0
 Joins n sign make before ts f rest = (g : Formula Atom) × (gs : List (Formula Atom)) × (front : Tokens) × (ts ≡ front ++ rest) × AreUnits n sign front (g ∷ gs) × (f ≡ make (formulas (before ++ g ∷ gs)))
 
@@ -135,11 +135,11 @@ module _ (n end : ℕ) (inside : Inside) (sound : Sound n inside) (sign : Token)
 
   chain_taken : (m : ℕ) (before : List (Formula Atom)) (ts : Tokens) (f : Formula Atom) (rest : Tokens) → next_unit end inside goes m before ts ≡ Read f rest → Joins n sign make before ts f rest
   chain_taken zero before ts f rest e =
-      let a = and_behind_read (unit end inside ts) (λ g behind. goes zero (before ++ g ∷ []) behind) f rest e in
+      let a = and_then_read (unit end inside ts) (λ g after. goes zero (before ++ g ∷ []) after) f rest e in
       let u = unit_taken n end inside sound ts a.0 a.1 a.2 in
       ends before a.0 u.0 ts f a.1 rest u.1 u.2 (chain.none (before ++ a.0 ∷ []) a.1 f rest a.3)
   chain_taken (suc m) before ts f rest e =
-      let a = and_behind_read (unit end inside ts) (λ g behind. goes (suc m) (before ++ g ∷ []) behind) f rest e in
+      let a = and_then_read (unit end inside ts) (λ g after. goes (suc m) (before ++ g ∷ []) after) f rest e in
       let u = unit_taken n end inside sound ts a.0 a.1 a.2 in
       let go : EndsHere make (before ++ a.0 ∷ []) a.1 f rest ⊎ GoesOn sign a.1 (next_unit end inside goes m (before ++ a.0 ∷ [])) f rest → Joins n sign make before ts f rest = elim [ inl h ↦ ends before a.0 u.0 ts f a.1 rest u.1 u.2 h | inr h ↦ goes_on before a.0 u.0 ts f a.1 rest h.0 h.1 u.1 u.2 h.2 (chain_taken m (before ++ a.0 ∷ []) h.1 f rest h.3) ] in
       go (chain.some m (before ++ a.0 ∷ []) a.1 f rest a.3)
@@ -188,7 +188,7 @@ module _ (n end : ℕ) (inside : Inside) (sound : Sound n inside) where
 
   whole_taken : (ts : Tokens) (f : Formula Atom) (rest : Tokens) → whole end inside ts ≡ Read f rest → Takes (IsMatch n) ts f rest
   whole_taken ts f rest e =
-      let a = and_behind_read (unit end inside ts) (joined end inside) f rest e in
+      let a = and_then_read (unit end inside ts) (joined end inside) f rest e in
       let u = unit_taken n end inside sound ts a.0 a.1 a.2 in
       let j = joined_taken u.0 a.0 a.1 f rest u.2 a.3 in
       (u.0 ++ j.0, u.1 ∙ ap (λ xs. u.0 ++ xs) j.1 ∙ sym (append_assoc u.0 j.0 rest), j.2)
@@ -211,9 +211,9 @@ finished_taken : (len end : ℕ) (g : Formula Atom) (ts : Tokens) (f : Formula A
 finished_taken len end g [] f e = let h = ended len end g f (end == len) refl e in (refl, h.0, h.1)
 finished_taken len end g (t ∷ ts) f e = absurd (cc)
 
-pub match_taken : (n len end : ℕ) (ts : Tokens) (f : Formula Atom) → and_behind (whole end (levels end n) ts) (finished len end) ≡ Read f [] → (end ≡ len) × IsMatch n ts f
+pub match_taken : (n len end : ℕ) (ts : Tokens) (f : Formula Atom) → and_then (whole end (levels end n) ts) (finished len end) ≡ Read f [] → (end ≡ len) × IsMatch n ts f
 match_taken n len end ts f e =
-    let a = and_behind_read (whole end (levels end n) ts) (finished len end) f [] e in
+    let a = and_then_read (whole end (levels end n) ts) (finished len end) f [] e in
     let w = whole_taken n end (levels end n) (levels_sound end n) ts a.0 a.1 a.2 in
     let d = finished_taken len end a.0 a.1 f a.3 in
     let same : w.0 ≡ ts = sym (w.1 ∙ ap (λ xs. w.0 ++ xs) d.0 ∙ append-nil w.0) in

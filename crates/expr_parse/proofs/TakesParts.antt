@@ -12,10 +12,10 @@ use Rattle.expr_parse.specs.Token.{Tokens}
 use Rattle.expr_parse.specs.Token.Token.{Name, Number, OpenBracket, CloseBracket, Dots}
 use Rattle.expr_parse.specs.Grammar.{bit_number, last_bit, first_bit, bits, part_of, part}
 use Rattle.expr_parse.specs.Grammar.Reading.{Read, Fails}
-use Rattle.expr_parse.specs.Rules.{kinds, decimal, bits_tokens, AreBits, IsPart}
-use Rattle.expr_parse.proofs.Takes.{and_behind_read, read_is}
+use Rattle.expr_parse.specs.GrammarRules.{kinds, decimal, bits_tokens, AreBits, IsPart}
+use Rattle.expr_parse.proofs.Takes.{and_then_read, read_is}
 
--- the number of a bit stands in front of the rest
+-- the number of a bit is before the rest
 abbrev IsNumber : ℕ → Tokens → ℕ → Tokens → Type 0
 IsNumber p ts n rest = (ts ≡ (p, decimal n) ∷ rest) × (n ≤ 255)
 
@@ -41,7 +41,7 @@ last_taken end m n [] b rest e = absurd (cc)
 last_taken end m n ((p, CloseBracket) ∷ ts) b rest e = read_is (λ w r. (k : ℕ) × (◌∷◌ (p, CloseBracket) ts ≡ (k, CloseBracket) ∷ r) × (w ≡ Range m n)) (Range m n) b ts rest e (p, refl, refl)
 last_taken end m n ((p, _) ∷ ts) b rest e = absurd (cc)
 
--- what stands behind the first bit's number
+-- what follows the first bit's number
 abbrev Ends : ℕ → Tokens → Bits → Tokens → Type 0
 Ends m ts b rest = (front : Tokens) × (ts ≡ front ++ rest) × (OpenBracket ∷ decimal m ∷ kinds front ≡ bits_tokens b) × AreBits b
 
@@ -49,7 +49,7 @@ first_taken : (end m : ℕ) (ts : Tokens) (b : Bits) (rest : Tokens) → m ≤ 2
 first_taken end m [] b rest low e = absurd (cc)
 first_taken end m ((p, CloseBracket) ∷ ts) b rest low e = read_is (λ w r. Ends m ((p, CloseBracket) ∷ ts) w r) (Bit m) b ts rest e ((p, CloseBracket) ∷ [], refl, refl, low)
 first_taken end m ((p, Dots) ∷ ts) b rest low e =
-    let r = and_behind_read (bit_number end ts) (last_bit end m) b rest e in
+    let r = and_then_read (bit_number end ts) (last_bit end m) b rest e in
     let n = number_taken end ts r.0 r.1 r.2 in
     let l = last_taken end m r.0 r.1 b rest r.3 in
     let whole : (p, Dots) ∷ ts ≡ (p, Dots) ∷ (n.0, decimal r.0) ∷ (l.0, CloseBracket) ∷ rest = cc in
@@ -57,26 +57,26 @@ first_taken end m ((p, Dots) ∷ ts) b rest low e =
     ((p, Dots) ∷ (n.0, decimal r.0) ∷ (l.0, CloseBracket) ∷ [], whole, sym (ap bits_tokens l.2), subst AreBits (sym l.2) both)
 first_taken end m ((p, _) ∷ ts) b rest low e = absurd (cc)
 
--- the bits of a part stand in front of the rest
+-- the bits of a part are before the rest
 abbrev pub AreTaken : Tokens → Bits → Tokens → Type 0
 AreTaken ts b rest = (front : Tokens) × (ts ≡ front ++ rest) × (kinds front ≡ bits_tokens b) × AreBits b
 
 pub bits_taken : (end : ℕ) (ts : Tokens) (b : Bits) (rest : Tokens) → bits end ts ≡ Read b rest → AreTaken ts b rest
 bits_taken end [] b rest e = read_is (AreTaken []) Whole b [] rest e ([], refl, refl, tt)
 bits_taken end ((p, OpenBracket) ∷ ts) b rest e =
-    let r = and_behind_read (bit_number end ts) (first_bit end) b rest e in
+    let r = and_then_read (bit_number end ts) (first_bit end) b rest e in
     let n = number_taken end ts r.0 r.1 r.2 in
     let l = first_taken end r.0 r.1 b rest n.1.1 r.3 in
     let whole : (p, OpenBracket) ∷ ts ≡ (p, OpenBracket) ∷ (n.0, decimal r.0) ∷ (l.0 ++ rest) = cc in
     ((p, OpenBracket) ∷ (n.0, decimal r.0) ∷ l.0, whole, l.2, l.3)
 bits_taken end ((p, k) ∷ ts) b rest e = read_is (AreTaken ((p, k) ∷ ts)) Whole b ((p, k) ∷ ts) rest e ([], refl, refl, tt)
 
--- the part whose name stands before these tokens stands in front of the rest
+-- the part whose name is before these tokens is before the rest
 abbrev pub IsTaken : ℕ → List ℕ → Tokens → Part → Tokens → Type 0
-IsTaken place name ts q rest = (front : Tokens) × (ts ≡ front ++ rest) × IsPart ((place, Name name) ∷ front) q
+IsTaken offset name ts q rest = (front : Tokens) × (ts ≡ front ++ rest) × IsPart ((offset, Name name) ∷ front) q
 
-pub part_taken : (end place : ℕ) (name : List ℕ) (ts : Tokens) (q : Part) (rest : Tokens) → part end place name ts ≡ Read q rest → IsTaken place name ts q rest
-part_taken end place name ts q rest e =
-    let r = and_behind_read (bits end ts) (λ b behind. Read (part_of name place b) behind) q rest e in
+pub part_taken : (end offset : ℕ) (name : List ℕ) (ts : Tokens) (q : Part) (rest : Tokens) → part end offset name ts ≡ Read q rest → IsTaken offset name ts q rest
+part_taken end offset name ts q rest e =
+    let r = and_then_read (bits end ts) (λ b after. Read (part_of name offset b) after) q rest e in
     let b = bits_taken end ts r.0 r.1 r.2 in
-    read_is (IsTaken place name ts) (part_of name place r.0) q r.1 rest r.3 (b.0, b.1, record { behind = b.0; whole = refl; bits = b.2; numbers = b.3 })
+    read_is (IsTaken offset name ts) (part_of name offset r.0) q r.1 rest r.3 (b.0, b.1, record { after = b.0; whole = refl; bits = b.2; numbers = b.3 })

@@ -1,4 +1,4 @@
--- The tokens of a tree are the tree by the rules, whatever the places.
+-- The tokens of a tree are the tree by the rules, whatever their offsets.
 use Rattle.std.proofs.Common.{◌≡◌, ℕ, zero, suc, ◌+◌, ◌≤◌, Bool, true, false, List, [], ◌∷◌, ◌++◌, refl, ap, ◌∙◌, arith, append-nil}
 use Rattle.std.proofs.Math.Nat.{le-max_left, le-max_right}
 use Rattle.expr_core.specs.Formula.{Formula, Formulas, formulas}
@@ -13,20 +13,20 @@ use Rattle.expr_core.specs.declared.expr.Atom.TheVariants.{Truth, Bare, Compare}
 use Rattle.expr_core.specs.declared.part.Part.{Part}
 use Rattle.expr_parse.specs.Token.{Token, Tokens}
 use Rattle.expr_parse.specs.Token.Token.{Name, Relation, And, Or, Not, Open, Close}
-use Rattle.expr_parse.specs.Rules.{kinds, bits_tokens, IsPart, IsRight, IsMatch, AreUnits, IsUnit, IsOperand}
-use Rattle.expr_parse.specs.Rules.IsMatch.{alone, all, any}
-use Rattle.expr_parse.specs.Rules.AreUnits.{last, more}
-use Rattle.expr_parse.specs.Rules.IsUnit.{plain, comparison}
-use Rattle.expr_parse.specs.Rules.IsOperand.{truth as is_truth, bare as is_bare, negation as is_negation, enclosed as is_enclosed}
-use Rattle.expr_parse.specs.Written.{IsRightSide, IsPartName, IsLeaf, AreTwo, IsWellFormed, AreWellFormed, one_if, levels_of, levels_among, part_tokens, right_tokens, atom_tokens, enclosed_tokens, tree_tokens, operand_tokens, more_tokens, unplaced, all_unplaced}
-use Rattle.expr_parse.proofs.Unplaced.{kinds_none, kinds_first, kinds_split}
+use Rattle.expr_parse.specs.GrammarRules.{kinds, bits_tokens, IsPart, IsRight, IsMatch, AreUnits, IsUnit, IsOperand}
+use Rattle.expr_parse.specs.GrammarRules.IsMatch.{alone, all, any}
+use Rattle.expr_parse.specs.GrammarRules.AreUnits.{last, more}
+use Rattle.expr_parse.specs.GrammarRules.IsUnit.{plain, comparison}
+use Rattle.expr_parse.specs.GrammarRules.IsOperand.{truth as is_truth, bare as is_bare, negation as is_negation, enclosed as is_enclosed}
+use Rattle.expr_parse.specs.Written.{IsRightSide, IsPartName, IsLeaf, AreTwo, IsWellFormed, AreWellFormed, one_if, levels_of, levels_among, part_tokens, right_tokens, atom_tokens, enclosed_tokens, tree_tokens, operand_tokens, more_tokens, without_offsets, all_without_offsets}
+use Rattle.expr_parse.proofs.TokenKinds.{kinds_none, kinds_first, kinds_split}
 
--- The tokens are by this rule a tree that differs from the given one by places at most.
+-- The tokens are by this rule a tree that differs from the given one in its offsets at most.
 abbrev Alike : (Formula Atom → Type 0) → Formula Atom → Type 0
-Alike Is f = (g : Formula Atom) × Is g × (unplaced g ≡ unplaced f)
+Alike Is f = (g : Formula Atom) × Is g × (without_offsets g ≡ without_offsets f)
 
 abbrev UnitsAlike : ℕ → Token → Tokens → Formulas Atom → Type 0
-UnitsAlike n sign ts fs = (gs : List (Formula Atom)) × AreUnits n sign ts gs × (all_unplaced (formulas gs) ≡ all_unplaced fs)
+UnitsAlike n sign ts fs = (gs : List (Formula Atom)) × AreUnits n sign ts gs × (all_without_offsets (formulas gs) ≡ all_without_offsets fs)
 
 -- by which rules the tokens are a tree
 record ByRules (n : ℕ) (ts : Tokens) (f : Formula Atom) : Type 0 where
@@ -54,14 +54,14 @@ from_operand f a = record { as_match = a_match f (a_unit f a); as_unit = λ e. a
 
 -- Atoms
 
--- the part whose name stands at this place
-abbrev placed_part : ℕ → Part → Part
-placed_part place p = record { name = p.name; bits = p.bits; place = place }
+-- the part whose name is at this offset
+abbrev part_at : ℕ → Part → Part
+part_at offset p = record { name = p.name; bits = p.bits; offset = offset }
 
-a_part : (ts : Tokens) (p : Part) → IsPartName p → kinds ts ≡ part_tokens p → (place : ℕ) × IsPart ts (placed_part place p)
+a_part : (ts : Tokens) (p : Part) → IsPartName p → kinds ts ≡ part_tokens p → (offset : ℕ) × IsPart ts (part_at offset p)
 a_part ts p is e =
     let f = kinds_first ts (Name p.name) (bits_tokens p.bits) e in
-    (f.0, record { behind = f.1; whole = f.2; bits = f.3; numbers = is.1 })
+    (f.0, record { after = f.1; whole = f.2; bits = f.3; numbers = is.1 })
 
 a_right : (ts : Tokens) (s : Right) → IsRightSide s → kinds ts ≡ right_tokens s → IsRight (kinds ts) s
 a_right ts (right_of.Item i) is e = e
@@ -69,7 +69,7 @@ a_right ts (right_of.Set []) is e = absurd is
 a_right ts (right_of.Set (i ∷ is)) each e = e
 
 bare_ruled : (n : ℕ) (ts : Tokens) (p : Part) → IsPartName p → kinds ts ≡ part_tokens p → Alike (IsOperand n ts) (Leaf (Bare p))
-bare_ruled n ts p is e = let q = a_part ts p is e in (Leaf (Bare (placed_part q.0 p)), is_bare (placed_part q.0 p) q.1, refl)
+bare_ruled n ts p is e = let q = a_part ts p is e in (Leaf (Bare (part_at q.0 p)), is_bare (part_at q.0 p) q.1, refl)
 
 comparison_ruled : (n : ℕ) (ts : Tokens) (p : Part) (r : Rel) (s : Right) → IsLeaf (Compare p r s) → kinds ts ≡ atom_tokens (Compare p r s) → Alike (IsUnit n ts) (Leaf (Compare p r s))
 comparison_ruled n ts p r s is e =
@@ -77,7 +77,7 @@ comparison_ruled n ts p r s is e =
     let sign = kinds_first cut.1 (Relation r) (right_tokens s) cut.4 in
     let q = a_part cut.0 p is.0 cut.3 in
     let whole : ts ≡ cut.0 ++ (sign.0, Relation r) ∷ sign.1 = cut.2 ∙ ap (λ xs. cut.0 ++ xs) sign.2 in
-    (Leaf (Compare (placed_part q.0 p) r s), comparison (placed_part q.0 p) r s (cut.0, sign.0, sign.1, whole, q.1, a_right sign.1 s is.1 sign.3), refl)
+    (Leaf (Compare (part_at q.0 p) r s), comparison (part_at q.0 p) r s (cut.0, sign.0, sign.1, whole, q.1, a_right sign.1 s is.1 sign.3), refl)
 
 leaf_ruled : (a : Atom) → IsLeaf a → Ruled (Leaf a)
 leaf_ruled (Truth b) is n ts le e = from_operand (Leaf (Truth b)) (Leaf (Truth b), is_truth b e, refl)
@@ -133,15 +133,15 @@ units_ruled f (Cons g gs) ruled each n sign ts le e =
     let u = joined (is_joined f) n cut.0 f refl ruled here cut.3 in
     let us = units_ruled g gs each.0 each.1 n sign next.1 there next.3 in
     let whole : ts ≡ cut.0 ++ (next.0, sign) ∷ next.1 = cut.2 ∙ ap (λ xs. cut.0 ++ xs) next.2 in
-    (u.0 ∷ us.0, more cut.0 next.0 next.1 whole u.1 us.1, ap (λ h. Cons h (all_unplaced (formulas us.0))) u.2 ∙ ap (λ hs. Cons (unplaced f) hs) us.2)
+    (u.0 ∷ us.0, more cut.0 next.0 next.1 whole u.1 us.1, ap (λ h. Cons h (all_without_offsets (formulas us.0))) u.2 ∙ ap (λ hs. Cons (without_offsets f) hs) us.2)
 
 -- two operands or more make a tree
-conjoined : (n : ℕ) (ts : Tokens) (gs : List (Formula Atom)) (f g : Formula Atom) (fs : Formulas Atom) → AreUnits n And ts gs → all_unplaced (formulas gs) ≡ all_unplaced (Cons f (Cons g fs)) → Alike (IsMatch n ts) (Conjunction (Cons f (Cons g fs)))
+conjoined : (n : ℕ) (ts : Tokens) (gs : List (Formula Atom)) (f g : Formula Atom) (fs : Formulas Atom) → AreUnits n And ts gs → all_without_offsets (formulas gs) ≡ all_without_offsets (Cons f (Cons g fs)) → Alike (IsMatch n ts) (Conjunction (Cons f (Cons g fs)))
 conjoined n ts [] f g fs us e = absurd (cc)
 conjoined n ts (h ∷ []) f g fs us e = absurd (cc)
 conjoined n ts (h ∷ i ∷ hs) f g fs us e = (Conjunction (formulas (h ∷ i ∷ hs)), all h i hs us, ap (λ gs. Conjunction gs) e)
 
-disjoined : (n : ℕ) (ts : Tokens) (gs : List (Formula Atom)) (f g : Formula Atom) (fs : Formulas Atom) → AreUnits n Or ts gs → all_unplaced (formulas gs) ≡ all_unplaced (Cons f (Cons g fs)) → Alike (IsMatch n ts) (Disjunction (Cons f (Cons g fs)))
+disjoined : (n : ℕ) (ts : Tokens) (gs : List (Formula Atom)) (f g : Formula Atom) (fs : Formulas Atom) → AreUnits n Or ts gs → all_without_offsets (formulas gs) ≡ all_without_offsets (Cons f (Cons g fs)) → Alike (IsMatch n ts) (Disjunction (Cons f (Cons g fs)))
 disjoined n ts [] f g fs us e = absurd (cc)
 disjoined n ts (h ∷ []) f g fs us e = absurd (cc)
 disjoined n ts (h ∷ i ∷ hs) f g fs us e = (Disjunction (formulas (h ∷ i ∷ hs)), any h i hs us, ap (λ gs. Disjunction gs) e)
@@ -171,6 +171,6 @@ mutual
   trees_ruled Nil each = tt
   trees_ruled (Cons f fs) each = (tree_ruled f each.0, trees_ruled fs each.1)
 
--- the tokens of a well-formed tree are, by the rules, a match that differs from it by places at most
+-- the tokens of a well-formed tree are, by the rules, a match that differs from it in its offsets at most
 pub tokens_are_the_tree : (f : Formula Atom) → IsWellFormed f → (n : ℕ) → levels_of f ≤ n → (ts : Tokens) → kinds ts ≡ tree_tokens f → Alike (IsMatch n ts) f
 tokens_are_the_tree f is n le ts e = (tree_ruled f is n ts le e).as_match

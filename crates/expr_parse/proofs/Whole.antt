@@ -3,13 +3,13 @@ use Rattle.std.proofs.Common.{◌≡◌, ℕ, false, List, [], length, Result, O
 use Rattle.expr_core.specs.Formula.{Formula}
 use Rattle.expr_core.specs.declared.expr.Atom.{Atom}
 use Rattle.expr_parse.specs.declared.fault.MatchFault.{MatchFault}
-use Rattle.expr_parse.specs.declared.lexeme.Placed.{Placed}
-use Rattle.expr_parse.specs.Gives.{seen}
+use Rattle.expr_parse.specs.declared.token.TokenAt.{TokenAt}
+use Rattle.expr_parse.specs.inner.Gives.{seen}
 use Rattle.expr_parse.specs.Grammar.{match_of, reading, is_memory}
 use Rattle.expr_parse.specs.Grammar.Reading.{Read, Fails}
 use Rattle.expr_parse.specs.Tokens.{tokens_of}
 
-module _ (text : List ℕ) (lexed lent : List Placed) (end : ℕ) (tokens : (seen lexed, end) ≡ tokens_of text) (same : lent ≡ lexed) where
+module _ (text : List ℕ) (lexed lent : List TokenAt) (end : ℕ) (tokens : (seen lexed, end) ≡ tokens_of text) (same : lent ≡ lexed) where
   pub same_reading : reading text ≡ match_of (length text) (seen lent, end)
   same_reading = sym (ap (λ ts. match_of (length text) (seen ts, end)) same ∙ ap (match_of (length text)) tokens)
 

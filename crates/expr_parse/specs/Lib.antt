@@ -3,6 +3,6 @@ pub mod Token
 pub mod Spelling
 pub mod Tokens
 pub mod Grammar
-pub mod Gives
-pub mod Rules
+pub mod GrammarRules
 pub mod Written
+pub mod inner

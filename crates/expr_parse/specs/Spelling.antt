@@ -1,7 +1,6 @@
 -- Which texts spell a token.
-use Rattle.std.specs.Prelude.{ℕ, ◌-◌, ◌==◌, ◌||◌, ◌&&◌, Bool, false, nat_le, nat_lt, nat_eq, List, [], ◌∷◌, length, take, drop, slice_index, Option, Some, None, codes, if◌then◌else◌}
-use Rattle.std.specs.Char.{is_digit}
-use Rattle.std.specs.List.{list_all, starts_with, take_while}
+use Rattle.std.specs.Prelude.{ℕ, ◌-◌, ◌==◌, ◌||◌, ◌&&◌, Bool, false, nat_le, nat_eq, List, [], ◌∷◌, length, take, drop, slice_index, Option, Some, None, codes, if◌then◌else◌}
+use Rattle.std.specs.List.{list_all, starts_with}
 use Rattle.std.specs.Cmp.Lexicographic.{pointwise}
 use Rattle.std.specs.Option.{option_map}
 use Rattle.nv_base.specs.Name.{is_object_name}
@@ -30,20 +29,16 @@ abbrev pub is_name : List ℕ → Bool
 is_name [] = false
 is_name (b ∷ bs) = begins_name b && list_all is_in_name bs
 
--- the longest name at the front of a text
-abbrev pub front_name : List ℕ → Option (List ℕ)
-front_name text = if nat_lt 0 (length text) && begins_name (slice_index text 0) then Some (take_while is_in_name text) else None
-
--- a name, behind this byte
-abbrev pub name_behind : ℕ → List ℕ → Option (List ℕ)
-name_behind mark [] = None
-name_behind mark (b ∷ bs) = if (b == mark) && is_name bs then Some bs else None
+-- a name, after this byte
+abbrev pub name_after : ℕ → List ℕ → Option (List ℕ)
+name_after mark [] = None
+name_after mark (b ∷ bs) = if (b == mark) && is_name bs then Some bs else None
 
 -- the name of a port, or of a multicast group
 abbrev pub is_quotable : List ℕ → Bool
 is_quotable text = is_object_name text || pointwise nat_eq text (codes "_MC_flood") || pointwise nat_eq text (codes "_MC_unknown")
 
--- what stands between the first byte and the last
+-- what is between the first byte and the last
 abbrev pub inside : List ℕ → List ℕ
 inside text = take (length text - 2) (drop 1 text)
 
@@ -51,7 +46,7 @@ inside text = take (length text - 2) (drop 1 text)
 abbrev pub is_quoted : List ℕ → Bool
 is_quoted text = nat_le 2 (length text) && (slice_index text 0 == 34) && (slice_index text (length text - 1) == 34)
 
--- what stands between double quotes, where it may
+-- what is between double quotes, where it may
 abbrev pub quoted_of : List ℕ → Option (List ℕ)
 quoted_of text = if is_quoted text && is_quotable (inside text) then Some (inside text) else None
 
@@ -59,21 +54,17 @@ quoted_of text = if is_quoted text && is_quotable (inside text) then Some (insid
 abbrev pub constant : Form → ℕ → Const
 constant f n = record { form = f; value = n }
 
--- the number behind `0x`
-abbrev pub number_behind_0x : List ℕ → Option ℕ
-number_behind_0x text = if starts_with nat_eq text (codes "0x") then hexadecimal_of (drop 2 text) else None
+-- the number after `0x`
+abbrev pub number_after_0x : List ℕ → Option ℕ
+number_after_0x text = if starts_with nat_eq text (codes "0x") then hexadecimal_of (drop 2 text) else None
 
 -- the constant that a text spells
 abbrev pub constant_of : List ℕ → Option Const
 constant_of text =
     or_else (option_map (constant form.Dec) (decimal_of text))
-    (or_else (option_map (constant form.Hex) (number_behind_0x text))
+    (or_else (option_map (constant form.Hex) (number_after_0x text))
     (or_else (option_map (constant form.Mac) (mac_of text))
     (option_map (λ a. constant form.Ip4 a.0) (ip4_of text))))
-
--- a byte that constants are spelled with: a hexadecimal digit, `x`, `.` or `:`
-abbrev pub is_in_constant : ℕ → Bool
-is_in_constant byte = is_digit byte 16 || (byte == 120) || (byte == 46) || (byte == 58)
 
 -- the signs, and how each is spelled
 abbrev pub signs : List (List ℕ × Token)
@@ -94,5 +85,5 @@ spelled text =
     (or_else (if is_name text then Some (Name text) else None)
     (or_else (option_map Number (constant_of text))
     (or_else (option_map Text (quoted_of text))
-    (or_else (option_map AddrSet (name_behind 36 text))
-    (option_map Group (name_behind 64 text))))))
+    (or_else (option_map AddrSet (name_after 36 text))
+    (option_map Group (name_after 64 text))))))

@@ -1,4 +1,4 @@
--- The tokens of a text: the longest that fits at each place, with blanks between.
+-- The tokens of a text: the longest that fits at each offset, with blanks between.
 use Rattle.std.specs.Prelude.{ℕ, zero, suc, ◌+◌, ◌==◌, ◌||◌, Bool, List, [], ◌∷◌, length, take, drop, Option, Some, None}
 use Rattle.std.specs.List.{prefix_len}
 use Rattle.std.specs.Option.{option_map}
@@ -22,20 +22,20 @@ longest token (suc n) text = or_else (option_map (λ t. (t, suc n)) (token (take
 abbrev pub first_token : List ℕ → Option (Token × ℕ)
 first_token text = longest spelled (length text) text
 
--- a token in front of others
+-- a token before others
 abbrev pub in_front : ℕ → Token → Tokens × ℕ → Tokens × ℕ
-in_front place token others = ((place, token) ∷ others.0, others.1)
+in_front offset token others = ((offset, token) ∷ others.0, others.1)
 
--- what stands from a place on: the token found there, and what stands behind it
+-- the tokens from an offset on: the one found there, and those after it
 abbrev pub tokens_at : (ℕ → List ℕ → Tokens × ℕ) → ℕ → List ℕ → Option (Token × ℕ) → Tokens × ℕ
-tokens_at behind place text None = ([], place)
-tokens_at behind place text (Some found) = in_front place found.0 (behind (place + found.1) (drop found.1 text))
+tokens_at after offset text None = ([], offset)
+tokens_at after offset text (Some found) = in_front offset found.0 (after (offset + found.1) (drop found.1 text))
 
--- the first tokens, at most so many, of the text that stands at this place, and the place where they end
+-- the first tokens, at most so many, of the text at this offset, and the offset where they end
 abbrev pub tokens_from : ℕ → ℕ → List ℕ → Tokens × ℕ
-tokens_from zero place text = ([], place)
-tokens_from (suc n) place text = tokens_at (tokens_from n) (place + blanks text) (drop (blanks text) text) (first_token (drop (blanks text) text))
+tokens_from zero offset text = ([], offset)
+tokens_from (suc n) offset text = tokens_at (tokens_from n) (offset + blanks text) (drop (blanks text) text) (first_token (drop (blanks text) text))
 
--- the tokens of a text, and the place of the first byte that begins none, or of the end
+-- the tokens of a text, and the offset of the first byte that begins none, or of the end
 abbrev pub tokens_of : List ℕ → Tokens × ℕ
 tokens_of text = tokens_from (length text + 1) 0 text

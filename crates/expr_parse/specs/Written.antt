@@ -20,7 +20,7 @@ use Rattle.expr_parse.specs.Token.Token.{Name, Relation, And, Or, Not, Open, Clo
 use Rattle.expr_parse.specs.Tokens.{tokens_of}
 use Rattle.expr_parse.specs.Grammar.{reading}
 use Rattle.expr_parse.specs.Grammar.Reading.{Read}
-use Rattle.expr_parse.specs.Rules.{kinds, decimal, truth_number, bits_tokens, AreBits, item_tokens, items_tokens}
+use Rattle.expr_parse.specs.GrammarRules.{kinds, decimal, truth_number, bits_tokens, AreBits, item_tokens, items_tokens}
 
 -- Well-formed trees: each part can be spelled.
 
@@ -76,7 +76,7 @@ abbrev mutual
   AreWellFormed Nil = Unit {0}
   AreWellFormed (Cons f fs) = IsWellFormed f × AreWellFormed fs
 
--- How many levels are open in the canonical text of a tree, at the place where most are: each `!` and each `(` opens one.
+-- How many levels are open in the canonical text of a tree, where most are open: each `!` and each `(` opens one.
 
 -- one more, where there are parentheses
 abbrev pub one_if : Bool → ℕ
@@ -118,7 +118,7 @@ abbrev mutual
   tree_tokens (Conjunction fs) = operand_tokens And fs
   tree_tokens (Disjunction fs) = operand_tokens Or fs
 
-  -- operands with a sign in front of each but the first
+  -- operands with a sign before each but the first
   pub operand_tokens : Token → Formulas Atom → List Token
   operand_tokens sign Nil = []
   operand_tokens sign (Cons f fs) = enclosed_tokens (is_joined f) (tree_tokens f) ++ more_tokens sign fs
@@ -132,27 +132,27 @@ pub record IsLexed (f : Formula Atom) : Type 0 where
   pub whole : (tokens_of (expr_text f)).1 ≡ length (expr_text f)
   pub tokens : kinds (tokens_of (expr_text f)).0 ≡ tree_tokens f
 
--- Equality that leaves places out.
+-- Matches without their offsets.
 
-abbrev pub unplaced_part : Part → Part
-unplaced_part p = record { name = p.name; bits = p.bits; place = 0 }
+abbrev pub part_without_offset : Part → Part
+part_without_offset p = record { name = p.name; bits = p.bits; offset = 0 }
 
-abbrev pub unplaced_atom : Atom → Atom
-unplaced_atom (Truth b) = Truth b
-unplaced_atom (Bare p) = Bare (unplaced_part p)
-unplaced_atom (Compare p r s) = Compare (unplaced_part p) r s
+abbrev pub atom_without_offset : Atom → Atom
+atom_without_offset (Truth b) = Truth b
+atom_without_offset (Bare p) = Bare (part_without_offset p)
+atom_without_offset (Compare p r s) = Compare (part_without_offset p) r s
 
 abbrev mutual
-  pub unplaced : Formula Atom → Formula Atom
-  unplaced (Leaf a) = Leaf (unplaced_atom a)
-  unplaced (Negation f) = Negation (unplaced f)
-  unplaced (Conjunction fs) = Conjunction (all_unplaced fs)
-  unplaced (Disjunction fs) = Disjunction (all_unplaced fs)
+  pub without_offsets : Formula Atom → Formula Atom
+  without_offsets (Leaf a) = Leaf (atom_without_offset a)
+  without_offsets (Negation f) = Negation (without_offsets f)
+  without_offsets (Conjunction fs) = Conjunction (all_without_offsets fs)
+  without_offsets (Disjunction fs) = Disjunction (all_without_offsets fs)
 
-  pub all_unplaced : Formulas Atom → Formulas Atom
-  all_unplaced Nil = Nil
-  all_unplaced (Cons f fs) = Cons (unplaced f) (all_unplaced fs)
+  pub all_without_offsets : Formulas Atom → Formulas Atom
+  all_without_offsets Nil = Nil
+  all_without_offsets (Cons f fs) = Cons (without_offsets f) (all_without_offsets fs)
 
--- The text of a tree is read as the tree, its places left out.
+-- The text of a tree is read as the tree, without offsets.
 abbrev pub IsReadAgain : Formula Atom → Type 0
-IsReadAgain f = (g : Formula Atom) × (reading (expr_text f) ≡ Read g []) × (unplaced g ≡ unplaced f)
+IsReadAgain f = (g : Formula Atom) × (reading (expr_text f) ≡ Read g []) × (without_offsets g ≡ without_offsets f)

@@ -1,12 +1,12 @@
 ghost use Rattle.std.specs.Prelude.{◌≡◌, ◌≤◌, length, IfOk};
 ghost use Rattle.expr_core.specs.Formula.Formula.{Leaf};
-ghost use Rattle.expr_parse.specs.Gives.{Reads, seen};
+ghost use Rattle.expr_parse.specs.inner.Gives.{Reads, seen};
 ghost use Rattle.expr_parse.specs.Grammar as grammar;
 
 use crate::MatchFault;
-use crate::lexeme::{Lexeme, Placed};
 use crate::right::right;
 use crate::tail::{Read, front};
+use crate::token::{Token, TokenAt};
 use expr_core::{Atom, Const, Expr, ExprNode, Form, Part};
 use std::alloc::Global;
 
@@ -24,13 +24,13 @@ pub(crate) fn compared<'a>(
     alloc: Global,
     end: u32,
     part: Part,
-    tokens: &'a [Placed<'a>],
+    tokens: &'a [TokenAt<'a>],
 ) -> Read<'a, Expr>
     ensures reads { Reads result (grammar.compared end part (seen tokens.now)) }
     ensures left { IfOk result (λ x. length x.1.now ≤ length tokens.now) }
 {
     match front(tokens) {
-        Some((Lexeme::Rel(rel), _, rest)) => {
+        Some((Token::Rel(rel), _, rest)) => {
             let (right, rest) = right(alloc, end, rest)?;
             Ok((leaf(Atom::Compare(part, rel, right)), rest))
         }
@@ -39,13 +39,13 @@ pub(crate) fn compared<'a>(
 }
 
 /// The atom `0` or `1`.
-pub(crate) fn truth<'a>(place: u32, number: Const, tokens: &'a [Placed<'a>]) -> Read<'a, Expr>
-    ensures reads { Reads result (grammar.truth place number (seen tokens.now)) }
+pub(crate) fn truth<'a>(offset: u32, number: Const, tokens: &'a [TokenAt<'a>]) -> Read<'a, Expr>
+    ensures reads { Reads result (grammar.truth offset number (seen tokens.now)) }
     ensures left { IfOk result (λ x. length x.1.now ≤ length tokens.now) }
 {
     match (number.form, number.value) {
         (Form::Dec, 0) => Ok((leaf(Atom::Truth(false)), tokens)),
         (Form::Dec, 1) => Ok((leaf(Atom::Truth(true)), tokens)),
-        _ => Err(MatchFault::Syntax(place)),
+        _ => Err(MatchFault::Syntax(offset)),
     }
 }

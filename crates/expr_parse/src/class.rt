@@ -1,5 +1,6 @@
 ghost use Rattle.std.specs.Prelude.{◌≡◌};
-ghost use Rattle.expr_parse.specs.Class.{begins_name, class_of};
+ghost use Rattle.expr_parse.specs.Class.{begins_name};
+ghost use Rattle.expr_parse.specs.inner.Class.{class_of};
 
 /// What the first byte of a token says of its kind.
 #[derive(Clone, Copy, Debug)]

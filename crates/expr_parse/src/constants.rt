@@ -4,13 +4,14 @@ ghost use Rattle.std.specs.List.{prefix_len};
 ghost use Rattle.nv_base.specs.Ip4.{ip4_of};
 ghost use Rattle.nv_base.specs.Mac.{mac_of};
 ghost use Rattle.nv_base.specs.Number.{decimal_of};
-ghost use Rattle.expr_parse.specs.Class.{class_of};
+ghost use Rattle.expr_parse.specs.inner.Class.{class_of};
 ghost use Rattle.expr_parse.specs.declared.class.Class.TheVariants.{Digit};
-ghost use Rattle.expr_parse.specs.Spelling.{constant, constant_of, is_in_constant, number_behind_0x, or_else};
-ghost use Rattle.expr_parse.specs.Token.{found_token};
+ghost use Rattle.expr_parse.specs.Spelling.{constant, constant_of, number_after_0x, or_else};
+ghost use Rattle.expr_parse.specs.inner.Fronts.{is_in_constant};
+ghost use Rattle.expr_parse.specs.inner.Borrowed.{front_token};
 ghost use Rattle.expr_parse.specs.Tokens.{first_token};
 
-use crate::lexeme::{Found, Lexeme};
+use crate::token::{FrontToken, Token};
 use expr_core::{Const, Form};
 use nv_base::{read_ip4, read_mac, read_number};
 
@@ -23,14 +24,14 @@ const LONGEST_IP4: usize = 15;
 /// How many bytes a MAC takes.
 pub(crate) const MAC_LEN: usize = 17;
 
-/// Whether this byte may stand in a constant.
+/// Whether this byte may be in a constant.
 fn is_in_constant(byte: u8) -> bool
     ensures { result ≡ is_in_constant byte }
 {
     char::from(byte).is_digit(16) || matches!(byte, b'x' | b'.' | b':')
 }
 
-/// How many bytes that may stand in a constant the text begins with.
+/// How many bytes that may be in a constant the text begins with.
 fn constant_run(text: &[u8]) -> usize
     ensures { result ≡ prefix_len is_in_constant text.now }
 {
@@ -39,9 +40,9 @@ fn constant_run(text: &[u8]) -> usize
         .count()
 }
 
-/// The decimal that the text is, or the number behind `0x`.
+/// The decimal that the text is, or the number after `0x`.
 fn number_of(text: &[u8]) -> Option<Const>
-    ensures { result ≡ or_else (option_map (constant Form.Dec) (decimal_of text.now)) (option_map (constant Form.Hex) (number_behind_0x text.now)) }
+    ensures { result ≡ or_else (option_map (constant Form.Dec) (decimal_of text.now)) (option_map (constant Form.Hex) (number_after_0x text.now)) }
 {
     let form = if text.starts_with(b"0x") {
         Form::Hex
@@ -104,16 +105,16 @@ pub(crate) fn mac_front(text: &[u8]) -> Option<Const>
 }
 
 /// The token of a text that begins with a digit: the longest constant.
-pub(crate) fn constant(text: &[u8]) -> Option<Found<'_>>
+pub(crate) fn constant(text: &[u8]) -> Option<FrontToken<'_>>
     requires some { 0 < length text.now }
     requires first { class_of (slice_index text.now 0) ≡ Digit }
-    ensures { option_map found_token result ≡ first_token text.now }
+    ensures { option_map front_token result ≡ first_token text.now }
 {
     let mut len = constant_run(&text[..text.len().min(LONGEST)]);
     while len > 0 {
         if let Some(number) = constant_of(&text[..len]) {
-            return Some(Found {
-                lexeme: Lexeme::Number(number),
+            return Some(FrontToken {
+                token: Token::Number(number),
                 len,
             });
         }

@@ -4,16 +4,16 @@ use nv_base::OutOfMemory;
 use std::alloc::AllocFailed;
 use thiserror::Error;
 
-/// Why a text is no match. A place is counted in bytes from the beginning of the text.
+/// Why a text is no match. An offset is in bytes from the beginning of the text.
 #[derive(Clone, Copy, Debug, PartialEq, Eq, Error)]
 pub enum MatchFault {
-    /// No reading of what stands before goes on with the token at this place, or no token begins there.
+    /// No reading of the tokens before continues with the token at this offset, or no token begins there.
     #[error("syntax error at byte {0}")]
     Syntax(u32),
-    /// `&&` or `||` at this place, after units that the other operator joined.
+    /// `&&` or `||` at this offset, after units that the other operator joined.
     #[error("&& and || without parentheses at byte {0}")]
     Mixed(u32),
-    /// `(` or `!` at this place opens the 65th level.
+    /// `(` or `!` at this offset opens the 65th level.
     #[error("more than 64 levels at byte {0}")]
     TooDeep(u32),
     /// There was no memory for the tree.

@@ -1,35 +1,35 @@
 ghost use Rattle.std.specs.Prelude.{◌≤◌, [], ◌∷◌, length, IfOk};
 ghost use Rattle.expr_core.specs.Formula.Formula.{Not};
-ghost use Rattle.expr_parse.specs.Gives.{Reads, seen};
+ghost use Rattle.expr_parse.specs.inner.Gives.{Reads, seen};
 ghost use Rattle.expr_parse.specs.Grammar as grammar;
 ghost use Rattle.expr_parse.specs.Grammar.Reading.{Read};
 
 use crate::MatchFault;
 use crate::atom::{compared, leaf, truth};
-use crate::lexeme::{Lexeme, Placed};
 use crate::part::part;
 use crate::tail::{Read, front, stuck};
+use crate::token::{Token, TokenAt};
 use expr_core::{Atom, Expr, ExprNode};
 use std::alloc::Global;
 
-/// The closing parenthesis behind a match.
-fn closed<'a>(end: u32, inner: Expr, tokens: &'a [Placed<'a>]) -> Read<'a, Expr>
+/// The closing parenthesis after a match.
+fn closed<'a>(end: u32, inner: Expr, tokens: &'a [TokenAt<'a>]) -> Read<'a, Expr>
     ensures reads { Reads result (grammar.closed end inner (seen tokens.now)) }
     ensures left { IfOk result (λ x. length x.1.now ≤ length tokens.now) }
 {
     match front(tokens) {
-        Some((Lexeme::Close, _, rest)) => Ok((inner, rest)),
+        Some((Token::Close, _, rest)) => Ok((inner, rest)),
         _ => Err(stuck(end, tokens)),
     }
 }
 
 /// The end of units that `&&` joins.
-fn conjoined<'a>(units: Vec<Expr>, tokens: &'a [Placed<'a>]) -> Read<'a, Expr>
+fn conjoined<'a>(units: Vec<Expr>, tokens: &'a [TokenAt<'a>]) -> Read<'a, Expr>
     ensures reads { Reads result (grammar.conjuncts 0 (grammar.levels 0 0) 0 units.items (seen tokens.now)) }
     ensures left { IfOk result (λ x. length x.1.now ≤ length tokens.now) }
 {
     match front(tokens) {
-        Some((Lexeme::Or, place, _)) => Err(MatchFault::Mixed(place)),
+        Some((Token::Or, offset, _)) => Err(MatchFault::Mixed(offset)),
         _ => Ok((
             Expr {
                 node: ExprNode::And(units),
@@ -40,12 +40,12 @@ fn conjoined<'a>(units: Vec<Expr>, tokens: &'a [Placed<'a>]) -> Read<'a, Expr>
 }
 
 /// The end of units that `||` joins.
-fn disjoined<'a>(units: Vec<Expr>, tokens: &'a [Placed<'a>]) -> Read<'a, Expr>
+fn disjoined<'a>(units: Vec<Expr>, tokens: &'a [TokenAt<'a>]) -> Read<'a, Expr>
     ensures reads { Reads result (grammar.disjuncts 0 (grammar.levels 0 0) 0 units.items (seen tokens.now)) }
     ensures left { IfOk result (λ x. length x.1.now ≤ length tokens.now) }
 {
     match front(tokens) {
-        Some((Lexeme::And, place, _)) => Err(MatchFault::Mixed(place)),
+        Some((Token::And, offset, _)) => Err(MatchFault::Mixed(offset)),
         _ => Ok((
             Expr {
                 node: ExprNode::Or(units),
@@ -55,20 +55,20 @@ fn disjoined<'a>(units: Vec<Expr>, tokens: &'a [Placed<'a>]) -> Read<'a, Expr>
     }
 }
 
-/// What `!` at this place negates.
+/// What `!` at this offset negates.
 #[cycle(formula)]
 fn negated<'a>(
     alloc: Global,
     end: u32,
     levels: u8,
-    place: u32,
-    tokens: &'a [Placed<'a>],
+    offset: u32,
+    tokens: &'a [TokenAt<'a>],
 ) -> Read<'a, Expr>
-    ensures reads { Reads result (grammar.and_behind ((grammar.levels end levels).negated place (seen tokens.now)) (λ f behind. Read (Not f) behind)) }
+    ensures reads { Reads result (grammar.and_then ((grammar.levels end levels).negated offset (seen tokens.now)) (λ f after. Read (Not f) after)) }
     ensures left { IfOk result (λ x. length x.1.now ≤ length tokens.now) }
 {
     if levels == 0 {
-        return Err(MatchFault::TooDeep(place));
+        return Err(MatchFault::TooDeep(offset));
     }
     let (inner, rest) = operand(alloc, end, levels - 1, tokens)?;
     let inner = Box::new(alloc, inner)?;
@@ -80,37 +80,37 @@ fn negated<'a>(
     ))
 }
 
-/// What the parenthesis at this place encloses, and its end.
+/// What the parenthesis at this offset encloses, and its end.
 #[cycle(formula)]
 fn enclosed<'a>(
     alloc: Global,
     end: u32,
     levels: u8,
-    place: u32,
-    tokens: &'a [Placed<'a>],
+    offset: u32,
+    tokens: &'a [TokenAt<'a>],
 ) -> Read<'a, Expr>
-    ensures reads { Reads result (grammar.and_behind ((grammar.levels end levels).enclosed place (seen tokens.now)) (grammar.closed end)) }
+    ensures reads { Reads result (grammar.and_then ((grammar.levels end levels).enclosed offset (seen tokens.now)) (grammar.closed end)) }
     ensures left { IfOk result (λ x. length x.1.now ≤ length tokens.now) }
 {
     if levels == 0 {
-        return Err(MatchFault::TooDeep(place));
+        return Err(MatchFault::TooDeep(offset));
     }
     let (inner, rest) = whole(alloc, end, levels - 1, tokens)?;
     closed(end, inner, rest)
 }
 
-/// What may stand behind `!`.
+/// What `!` may negate.
 #[cycle(formula)]
-fn operand<'a>(alloc: Global, end: u32, levels: u8, tokens: &'a [Placed<'a>]) -> Read<'a, Expr>
+fn operand<'a>(alloc: Global, end: u32, levels: u8, tokens: &'a [TokenAt<'a>]) -> Read<'a, Expr>
     ensures reads { Reads result (grammar.operand end (grammar.levels end levels) (seen tokens.now)) }
     ensures left { IfOk result (λ x. length x.1.now ≤ length tokens.now) }
 {
     match front(tokens) {
-        Some((Lexeme::Not, place, rest)) => negated(alloc, end, levels, place, rest),
-        Some((Lexeme::Open, place, rest)) => enclosed(alloc, end, levels, place, rest),
-        Some((Lexeme::Number(number), place, rest)) => truth(place, number, rest),
-        Some((Lexeme::Name(name), place, rest)) => {
-            let (part, rest) = part(alloc, end, place, name, rest)?;
+        Some((Token::Not, offset, rest)) => negated(alloc, end, levels, offset, rest),
+        Some((Token::Open, offset, rest)) => enclosed(alloc, end, levels, offset, rest),
+        Some((Token::Number(number), offset, rest)) => truth(offset, number, rest),
+        Some((Token::Name(name), offset, rest)) => {
+            let (part, rest) = part(alloc, end, offset, name, rest)?;
             Ok((leaf(Atom::Bare(part)), rest))
         }
         _ => Err(stuck(end, tokens)),
@@ -119,37 +119,37 @@ fn operand<'a>(alloc: Global, end: u32, levels: u8, tokens: &'a [Placed<'a>]) ->
 
 /// A unit: what operators join.
 #[cycle(formula)]
-fn unit<'a>(alloc: Global, end: u32, levels: u8, tokens: &'a [Placed<'a>]) -> Read<'a, Expr>
+fn unit<'a>(alloc: Global, end: u32, levels: u8, tokens: &'a [TokenAt<'a>]) -> Read<'a, Expr>
     ensures reads { Reads result (grammar.unit end (grammar.levels end levels) (seen tokens.now)) }
     ensures left { IfOk result (λ x. length x.1.now ≤ length tokens.now) }
 {
     match front(tokens) {
-        Some((Lexeme::Name(name), place, rest)) => {
-            let (part, rest) = part(alloc, end, place, name, rest)?;
+        Some((Token::Name(name), offset, rest)) => {
+            let (part, rest) = part(alloc, end, offset, name, rest)?;
             compared(alloc, end, part, rest)
         }
         _ => operand(alloc, end, levels, tokens),
     }
 }
 
-/// The units that `&&` joins to the first, behind the first `&&`.
+/// The units that `&&` joins to the first, after the first `&&`.
 #[cycle(formula)]
 fn conjunction<'a>(
     alloc: Global,
     end: u32,
     levels: u8,
     first: Expr,
-    tokens: &'a [Placed<'a>],
+    tokens: &'a [TokenAt<'a>],
 ) -> Read<'a, Expr>
-    ensures reads { Reads result (grammar.and_behind (grammar.unit end (grammar.levels end levels) (seen tokens.now))
-        (λ f behind. grammar.conjuncts end (grammar.levels end levels) (length (seen tokens.now)) (first ∷ f ∷ []) behind)) }
+    ensures reads { Reads result (grammar.and_then (grammar.unit end (grammar.levels end levels) (seen tokens.now))
+        (λ f after. grammar.conjuncts end (grammar.levels end levels) (length (seen tokens.now)) (first ∷ f ∷ []) after)) }
     ensures left { IfOk result (λ x. length x.1.now ≤ length tokens.now) }
 {
     let mut units = Vec::new(alloc);
     units.push(first)?;
     let (second, mut left) = unit(alloc, end, levels, tokens)?;
     units.push(second)?;
-    while let Some((Lexeme::And, _, rest)) = front(left) {
+    while let Some((Token::And, _, rest)) = front(left) {
         let (next, rest) = unit(alloc, end, levels, rest)?;
         units.push(next)?;
         left = rest;
@@ -157,24 +157,24 @@ fn conjunction<'a>(
     conjoined(units, left)
 }
 
-/// The units that `||` joins to the first, behind the first `||`.
+/// The units that `||` joins to the first, after the first `||`.
 #[cycle(formula)]
 fn disjunction<'a>(
     alloc: Global,
     end: u32,
     levels: u8,
     first: Expr,
-    tokens: &'a [Placed<'a>],
+    tokens: &'a [TokenAt<'a>],
 ) -> Read<'a, Expr>
-    ensures reads { Reads result (grammar.and_behind (grammar.unit end (grammar.levels end levels) (seen tokens.now))
-        (λ f behind. grammar.disjuncts end (grammar.levels end levels) (length (seen tokens.now)) (first ∷ f ∷ []) behind)) }
+    ensures reads { Reads result (grammar.and_then (grammar.unit end (grammar.levels end levels) (seen tokens.now))
+        (λ f after. grammar.disjuncts end (grammar.levels end levels) (length (seen tokens.now)) (first ∷ f ∷ []) after)) }
     ensures left { IfOk result (λ x. length x.1.now ≤ length tokens.now) }
 {
     let mut units = Vec::new(alloc);
     units.push(first)?;
     let (second, mut left) = unit(alloc, end, levels, tokens)?;
     units.push(second)?;
-    while let Some((Lexeme::Or, _, rest)) = front(left) {
+    while let Some((Token::Or, _, rest)) = front(left) {
         let (next, rest) = unit(alloc, end, levels, rest)?;
         units.push(next)?;
         left = rest;
@@ -188,15 +188,15 @@ pub(crate) fn whole<'a>(
     alloc: Global,
     end: u32,
     levels: u8,
-    tokens: &'a [Placed<'a>],
+    tokens: &'a [TokenAt<'a>],
 ) -> Read<'a, Expr>
     ensures reads { Reads result (grammar.whole end (grammar.levels end levels) (seen tokens.now)) }
     ensures left { IfOk result (λ x. length x.1.now ≤ length tokens.now) }
 {
     let (first, left) = unit(alloc, end, levels, tokens)?;
     match front(left) {
-        Some((Lexeme::And, _, rest)) => conjunction(alloc, end, levels, first, rest),
-        Some((Lexeme::Or, _, rest)) => disjunction(alloc, end, levels, first, rest),
+        Some((Token::And, _, rest)) => conjunction(alloc, end, levels, first, rest),
+        Some((Token::Or, _, rest)) => disjunction(alloc, end, levels, first, rest),
         _ => Ok((first, left)),
     }
 }

@@ -4,7 +4,7 @@ ghost use Rattle.expr_core.specs.Formula.{Formula};
 ghost use Rattle.expr_core.specs.declared.expr.Atom.{Atom};
 ghost use Rattle.expr_parse.specs.Grammar.{level_limit, reading};
 ghost use Rattle.expr_parse.specs.Grammar.Reading.{Read};
-ghost use Rattle.expr_parse.specs.Rules.{IsText};
+ghost use Rattle.expr_parse.specs.GrammarRules.{IsText};
 ghost use Rattle.expr_parse.specs.Written.{IsWellFormed, IsLexed, IsReadAgain, levels_of};
 
 /// What is read of a text is a match by the rules of the grammar.
@@ -22,7 +22,7 @@ pub fn written_matches_have_their_tokens()
     ensures { (f : Formula Atom) → IsWellFormed f → IsLexed f }
 {}
 
-/// The canonical text of a well-formed match, where it opens at most 64 levels, is read as the match, places left out.
+/// The canonical text of a well-formed match, where it opens at most 64 levels, is read as the match, without offsets.
 pub fn written_matches_are_read()
     ensures { (f : Formula Atom) → IsWellFormed f → levels_of f ≤ level_limit → IsReadAgain f }
 {}

@@ -1,14 +1,14 @@
 //! The tokens of a text.
 ghost use Rattle.std.specs.Prelude.{◌≡◌, ◌+◌, ◌<◌, ◌≤◌, ◌^◌, drop, length, map, option_map, IfOk};
-ghost use Rattle.expr_parse.specs.Token.{found_token, placed_token};
+ghost use Rattle.expr_parse.specs.inner.Borrowed.{front_token, token_at};
 ghost use Rattle.expr_parse.specs.Tokens.{blanks, first_token, is_blank, tokens_of};
 
 use crate::class::{Class, class_of};
 use crate::constants::constant;
-use crate::lexeme::{Found, Placed};
 use crate::names::{address_set, group, name_or_mac};
 use crate::quoted::quoted;
 use crate::signs::sign;
+use crate::token::{FrontToken, TokenAt};
 use nv_base::OutOfMemory;
 use std::alloc::Global;
 
@@ -26,19 +26,19 @@ fn blanks(text: &[u8]) -> usize
     text.iter().take_while(|byte| is_blank(**byte)).count()
 }
 
-/// The place of the first byte from this place on that is no blank, or of the end.
-fn after_blanks(text: &[u8], place: usize) -> usize
+/// The offset of the first byte from this offset on that is no blank, or of the end.
+fn after_blanks(text: &[u8], offset: usize) -> usize
     requires short { length text.now < 2 ^ 32 }
-    requires within { place ≤ length text.now }
-    ensures value { result ≡ place + blanks (drop place text.now) }
+    requires within { offset ≤ length text.now }
+    ensures value { result ≡ offset + blanks (drop offset text.now) }
     ensures within { result ≤ length text.now }
 {
-    place + blanks(&text[place..])
+    offset + blanks(&text[offset..])
 }
 
 /// The longest token at the front of the text, which its first byte tells the kind of.
-fn first_token(text: &[u8]) -> Option<Found<'_>>
-    ensures { option_map found_token result ≡ first_token text.now }
+fn first_token(text: &[u8]) -> Option<FrontToken<'_>>
+    ensures { option_map front_token result ≡ first_token text.now }
 {
     match class_of(*text.first()?) {
         Class::Letter => name_or_mac(text),
@@ -50,17 +50,17 @@ fn first_token(text: &[u8]) -> Option<Found<'_>>
     }
 }
 
-/// The tokens of a text, and the place of the first byte that begins none, or of the end.
-pub(crate) fn tokens(alloc: Global, text: &[u8]) -> Result<(Vec<Placed<'_>>, u32), OutOfMemory>
+/// The tokens of a text, and the offset of the first byte that begins none, or of the end.
+pub(crate) fn tokens(alloc: Global, text: &[u8]) -> Result<(Vec<TokenAt<'_>>, u32), OutOfMemory>
     requires { length text.now < 2 ^ 32 }
-    ensures { IfOk result (λ lexed. (map placed_token lexed.0.items, lexed.1) ≡ tokens_of text.now) }
+    ensures { IfOk result (λ lexed. (map token_at lexed.0.items, lexed.1) ≡ tokens_of text.now) }
 {
     let mut tokens = Vec::new(alloc);
     let mut at = after_blanks(text, 0);
     while let Some(found) = first_token(&text[at..]) {
-        tokens.push(Placed {
-            place: at as u32,
-            lexeme: found.lexeme,
+        tokens.push(TokenAt {
+            offset: at as u32,
+            token: found.token,
         })?;
         at = after_blanks(text, at + found.len);
     }

@@ -7,19 +7,15 @@ mod constants;
 mod fault;
 mod formula;
 mod laws;
-mod lexeme;
 mod lexer;
-#[cfg(test)]
-mod lexer_tests;
 mod names;
 mod part;
 mod quoted;
 mod reader;
-#[cfg(test)]
-mod reader_tests;
 mod right;
 mod signs;
 mod tail;
+mod token;
 
 pub use fault::MatchFault;
 pub use laws::{

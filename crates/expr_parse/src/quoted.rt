@@ -1,23 +1,23 @@
 //! Texts in double quotes.
 ghost use Rattle.std.specs.Prelude.{◌≡◌, ◌==◌, ◌<◌, not, length, slice_index, option_map};
 ghost use Rattle.std.specs.List.{prefix_len};
-ghost use Rattle.expr_parse.specs.Class.{class_of};
+ghost use Rattle.expr_parse.specs.inner.Class.{class_of};
 ghost use Rattle.expr_parse.specs.declared.class.Class.TheVariants.{Quote};
 ghost use Rattle.expr_parse.specs.Spelling.{is_quotable};
-ghost use Rattle.expr_parse.specs.Token.{found_token};
+ghost use Rattle.expr_parse.specs.inner.Borrowed.{front_token};
 ghost use Rattle.expr_parse.specs.Tokens.{first_token};
 
-use crate::lexeme::{Found, Lexeme};
+use crate::token::{FrontToken, Token};
 use nv_base::is_object_name;
 
-/// Whether the text may stand in double quotes: the name of a port or of a multicast group.
+/// Whether the text may be in double quotes: the name of a port or of a multicast group.
 fn is_quotable(text: &[u8]) -> bool
     ensures { result ≡ is_quotable text.now }
 {
     is_object_name(text) || text == b"_MC_flood".as_slice() || text == b"_MC_unknown".as_slice()
 }
 
-/// How many bytes stand before the first double quote, or in all the text.
+/// How many bytes there are before the first double quote, or in all the text.
 fn before_quote(text: &[u8]) -> usize
     ensures { result ≡ prefix_len (λ b. not (b == 34)) text.now }
 {
@@ -25,16 +25,16 @@ fn before_quote(text: &[u8]) -> usize
 }
 
 /// The token of a text that begins with a double quote.
-pub(crate) fn quoted(text: &[u8]) -> Option<Found<'_>>
+pub(crate) fn quoted(text: &[u8]) -> Option<FrontToken<'_>>
     requires some { 0 < length text.now }
     requires first { class_of (slice_index text.now 0) ≡ Quote }
-    ensures { option_map found_token result ≡ first_token text.now }
+    ensures { option_map front_token result ≡ first_token text.now }
 {
     let rest = &text[1..];
     let end = before_quote(rest);
     if end < rest.len() && is_quotable(&rest[..end]) {
-        Some(Found {
-            lexeme: Lexeme::Text(&rest[..end]),
+        Some(FrontToken {
+            token: Token::Text(&rest[..end]),
             len: end + 2,
         })
     } else {

@@ -1,21 +1,21 @@
 ghost use Rattle.std.specs.Prelude.{◌≡◌, ◌<◌, ◌^◌, false, [], length, IfOk, IfErr};
-ghost use Rattle.expr_parse.specs.Gives.{seen};
+ghost use Rattle.expr_parse.specs.inner.Gives.{seen};
 ghost use Rattle.expr_parse.specs.Grammar as grammar;
 ghost use Rattle.expr_parse.specs.Grammar.Reading.{Read, Fails};
 
 use crate::MatchFault;
 use crate::formula::whole;
-use crate::lexeme::Placed;
 use crate::lexer::tokens;
 use crate::tail::stuck;
+use crate::token::TokenAt;
 use expr_core::Expr;
 use std::alloc::Global;
 
-/// How many levels may be open at a place.
+/// How many levels may be open at once.
 const LEVEL_LIMIT: u8 = 64;
 
-/// The match that these tokens are, which end at this place of a text that is so long.
-fn match_of(alloc: Global, tokens: &[Placed<'_>], end: u32, len: usize) -> Result<Expr, MatchFault>
+/// The match that these tokens are, which end at this offset of a text of this length.
+fn match_of(alloc: Global, tokens: &[TokenAt<'_>], end: u32, len: usize) -> Result<Expr, MatchFault>
     ensures tree { IfOk result (λ e. grammar.match_of len (seen tokens.now, end) ≡ Read e []) }
     ensures fault { IfErr result (λ f. grammar.is_memory f ≡ false → grammar.match_of len (seen tokens.now, end) ≡ Fails f) }
 {

@@ -1,28 +1,43 @@
 use crate::nothing::Nothing;
 use expr_check::{Role, TypeFault, check};
-use expr_core::{Typed, put_typed};
+use expr_core::{Typed, put_expr, put_typed};
 use expr_eval::holds;
 use expr_parse::{MatchFault, parse_match};
 use nv_base::{Field, OutOfMemory, put_dec};
 use pkt_core::Packet;
 use std::alloc::Global;
 
-/// Why a line is no match.
+/// What is asked of a match.
+#[derive(Drop)]
+enum Question {
+    /// Whether it can be read.
+    Read,
+    /// Whether it is allowed in this role too.
+    Check(Role),
+}
+
+/// Why the answer to a line is no match.
 enum Fault {
-    /// A fault, and its place in bytes.
+    /// A fault, and its offset in bytes.
     At(&'static str, u32),
-    /// The line has 4 GiB or more.
+    /// The match has 4 GiB or more.
     TooLong,
     /// There was no memory.
     Memory,
 }
 
+impl From<OutOfMemory> for Fault {
+    fn from(_: OutOfMemory) -> Self {
+        Fault::Memory
+    }
+}
+
 impl From<MatchFault> for Fault {
     fn from(fault: MatchFault) -> Self {
         match fault {
-            MatchFault::Syntax(place) => Fault::At("syntax", place),
-            MatchFault::Mixed(place) => Fault::At("mixed", place),
-            MatchFault::TooDeep(place) => Fault::At("too-deep", place),
+            MatchFault::Syntax(offset) => Fault::At("syntax", offset),
+            MatchFault::Mixed(offset) => Fault::At("mixed", offset),
+            MatchFault::TooDeep(offset) => Fault::At("too-deep", offset),
             MatchFault::Memory => Fault::Memory,
         }
     }
@@ -31,22 +46,28 @@ impl From<MatchFault> for Fault {
 impl From<TypeFault> for Fault {
     fn from(fault: TypeFault) -> Self {
         match fault {
-            TypeFault::UnknownField(place) => Fault::At("unknown-field", place),
-            TypeFault::WrongWidth(place) => Fault::At("wrong-width", place),
-            TypeFault::WrongForm(place) => Fault::At("wrong-form", place),
-            TypeFault::NotAllowedHere(place) => Fault::At("not-allowed-here", place),
+            TypeFault::UnknownField(offset) => Fault::At("unknown-field", offset),
+            TypeFault::WrongWidth(offset) => Fault::At("wrong-width", offset),
+            TypeFault::WrongForm(offset) => Fault::At("wrong-form", offset),
+            TypeFault::NotAllowedHere(offset) => Fault::At("not-allowed-here", offset),
             TypeFault::Memory => Fault::Memory,
         }
     }
 }
 
-/// The match that the line is.
-fn read(alloc: Global, line: &[u8]) -> Result<Typed, Fault> {
-    if line.len() > u32::MAX as usize {
-        return Err(Fault::TooLong);
+/// What a line asks, and of which match. Without a word the question is whether a row may have the match.
+fn split_question(line: &[u8]) -> (Question, &[u8]) {
+    if let Some(text) = line.strip_prefix(b"%read ") {
+        (Question::Read, text)
+    } else if let Some(text) = line.strip_prefix(b"%acl-from ") {
+        (Question::Check(Role::AclFrom), text)
+    } else if let Some(text) = line.strip_prefix(b"%acl-to ") {
+        (Question::Check(Role::AclTo), text)
+    } else if let Some(text) = line.strip_prefix(b"%microflow ") {
+        (Question::Check(Role::Micro), text)
+    } else {
+        (Question::Check(Role::Row), line)
     }
-    let expr = parse_match(alloc, line)?;
-    Ok(check(alloc, &expr, Role::Row)?)
 }
 
 /// How often the match holds of so many TCP packets to port 65535, from port 0 on, with all else zero.
@@ -74,24 +95,37 @@ fn put_match(out: &mut Vec<u8>, typed: &Typed, times: u32) -> Result<(), OutOfMe
     Ok(())
 }
 
-fn put_fault(out: &mut Vec<u8>, name: &str, place: u32) -> Result<(), OutOfMemory> {
-    out.extend_from_slice(name.as_bytes())?;
-    out.extend_from_slice(b" ")?;
-    put_dec(out, u128::from(place))?;
+/// Appends the canonical text of the match, and how often it held if that was asked.
+fn put_text(alloc: Global, out: &mut Vec<u8>, line: &[u8], times: u32) -> Result<(), Fault> {
+    let (question, text) = split_question(line);
+    if text.len() > u32::MAX as usize {
+        return Err(Fault::TooLong);
+    }
+    let expr = parse_match(alloc, text)?;
+    match question {
+        Question::Read => put_expr(out, &expr)?,
+        Question::Check(role) => put_match(out, &check(alloc, &expr, role)?, times)?,
+    }
     Ok(())
 }
 
-/// Appends the answer to a line: its canonical text as a row's match, and how often it held if that was asked; or its
-/// fault.
+fn put_fault(out: &mut Vec<u8>, name: &str, offset: u32) -> Result<(), OutOfMemory> {
+    out.extend_from_slice(name.as_bytes())?;
+    out.extend_from_slice(b" ")?;
+    put_dec(out, u128::from(offset))?;
+    Ok(())
+}
+
+/// Appends the answer to a line: the match's canonical text, and how often it held if that was asked; or its fault.
 pub(crate) fn put_answer(
     alloc: Global,
     out: &mut Vec<u8>,
     line: &[u8],
     times: u32,
 ) -> Result<(), OutOfMemory> {
-    match read(alloc, line) {
-        Ok(typed) => put_match(out, &typed, times)?,
-        Err(Fault::At(name, place)) => put_fault(out, name, place)?,
+    match put_text(alloc, out, line, times) {
+        Ok(()) => {}
+        Err(Fault::At(name, offset)) => put_fault(out, name, offset)?,
         Err(Fault::TooLong) => out.extend_from_slice(b"too-long")?,
         Err(Fault::Memory) => return Err(OutOfMemory),
     }

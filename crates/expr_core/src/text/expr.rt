@@ -60,7 +60,7 @@ fn is_joined(operand: &Expr) -> bool
     matches!(operand.node, ExprNode::And(_) | ExprNode::Or(_))
 }
 
-// An operand behind what stands in front of it, in parentheses where it needs them.
+// An operand after what is written before it, in parentheses where it needs them.
 #[cycle(put_expr)]
 fn put_enclosed(
     out: &mut Vec<u8>,
@@ -79,7 +79,7 @@ fn put_enclosed(
 }
 
 /// Appends the canonical text of a match: one space round relations, `&&` and `||`, `, ` in sets, and parentheses only
-/// where they are needed. After `OutOfMemory` more bytes may stand behind what was there.
+/// where they are needed. After `OutOfMemory` more bytes may follow what was there.
 #[cycle(put_expr)]
 pub fn put_expr(out: &mut Vec<u8>, expr: &Expr) -> Result<(), OutOfMemory>
     ensures ok { OnOk result (out.new.items ≡ out.old.items ++ expr_text expr.now) }

@@ -30,7 +30,7 @@ fn put_quoted(out: &mut Vec<u8>, name: &[u8]) -> Result<(), OutOfMemory>
     Ok(())
 }
 
-// The name of an address set, behind its mark.
+// The name of an address set, after its mark.
 fn put_set_name(out: &mut Vec<u8>, name: &[u8]) -> Result<(), OutOfMemory>
     ensures ok { OnOk result (out.new.items ≡ out.old.items ++ item_text (AddrSet name.now)) }
     ensures err { OnErr result (GrowsAtEnd out.old.items out.new.items) }
@@ -40,7 +40,7 @@ fn put_set_name(out: &mut Vec<u8>, name: &[u8]) -> Result<(), OutOfMemory>
     Ok(())
 }
 
-// The name of a port group, behind its mark.
+// The name of a port group, after its mark.
 fn put_group_name(out: &mut Vec<u8>, name: &[u8]) -> Result<(), OutOfMemory>
     ensures ok { OnOk result (out.new.items ≡ out.old.items ++ item_text (Group name.now)) }
     ensures err { OnErr result (GrowsAtEnd out.old.items out.new.items) }

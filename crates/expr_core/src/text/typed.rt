@@ -74,7 +74,7 @@ fn is_joined(operand: &Typed) -> bool
     matches!(operand.node, TypedNode::And(_) | TypedNode::Or(_))
 }
 
-// An operand behind what stands in front of it, in parentheses where it needs them.
+// An operand after what is written before it, in parentheses where it needs them.
 #[cycle(put_typed)]
 fn put_enclosed(
     out: &mut Vec<u8>,

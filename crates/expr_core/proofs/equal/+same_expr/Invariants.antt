@@ -1,7 +1,8 @@
 use Rattle.std.proofs.Common.{◌+◌, ◌*◌, length}
 use Rattle.std.specs.Iterator.Adapters.{zip_first, zip_second}
 use Rattle.std.specs.Slice.Iter.{iter_rest}
-use Rattle.expr_core.specs.Formula.{formula_size, formulas_size, formulas}
+use Rattle.expr_core.specs.Formula.{formulas}
+use Rattle.expr_core.specs.inner.FormulaCode.{formula_size, formulas_size}
 use Rattle.expr_core.specs.EqualMatches.{atom_eq}
 use Rattle.expr_core.proofs.Pairs.{Left}
 use Rattle.expr_core.proofs.equal.+same_expr.Given as goal

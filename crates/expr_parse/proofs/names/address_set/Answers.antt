@@ -1,6 +1,6 @@
 use Rattle.std.proofs.Common.{◌≡◌, ℕ, List, Some, None, subst}
 use Rattle.std.proofs.lemmas.List.{take_rest}
-use Rattle.expr_parse.specs.Spelling.{front_name}
+use Rattle.expr_parse.specs.inner.Fronts.{front_name}
 use Rattle.expr_parse.specs.Token.Token.{AddrSet}
 use Rattle.expr_parse.proofs.Classes.{dollar_is}
 use Rattle.expr_parse.proofs.Fronts.{dollar_fronts}

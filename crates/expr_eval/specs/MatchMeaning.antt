@@ -1,5 +1,5 @@
--- What a match means (after ovn-sb(5), 'Logical_Flow TABLE'; what the negation of a predicate means is this profile's own).
--- There are two meanings: `yes`, that the match holds, and `no`, that its negation does. A field that a packet does not
+-- What a match means (after ovn-sb(5), 'Logical_Flow TABLE'; what the negation of a predicate means is not from OVN).
+-- There are two meanings: `holds`, that the match holds, and `negation_holds`, that its negation does. A field that a packet does not
 -- have is in no relation: neither holds then.
 use Rattle.std.specs.Prelude.{ℕ, ◌==◌, Bool, not, ◌&&◌, ◌||◌, true, false, List, [], ◌∷◌}
 use Rattle.std.specs.List.{list_any, list_all}
@@ -13,8 +13,6 @@ use Rattle.expr_core.specs.Formula.Formula.{Leaf, Not, And, Or}
 use Rattle.expr_core.specs.Formula.Formulas.{Nil, Cons}
 use Rattle.expr_core.specs.Lookup.{Lookup}
 use Rattle.expr_core.specs.Width.{bits_of}
-use Rattle.expr_core.specs.declared.comparison.Rel.{Rel}
-use Rattle.expr_core.specs.declared.comparison.Right.{Right}
 use Rattle.expr_core.specs.declared.part.Bits.{Bits}
 use Rattle.expr_core.specs.declared.part.Bits.TheVariants.{Whole, Bit, Range}
 use Rattle.expr_core.specs.declared.predicate.Pred.{Pred}
@@ -64,50 +62,46 @@ has packet t = is_there packet t.field && (part_of packet t.field t.bits == t.nu
 abbrev pub has_not : Values → Test → Bool
 has_not packet t = is_there packet t.field && not (part_of packet t.field t.bits == t.number)
 
--- the packet has the field, and the part stands in the relation to the right side
-abbrev pub compares : Lookup → Values → Field → Bits → Rel → Right → Bool
-compares net packet field bits rel right = is_there packet field && relates net (field_width field) (part_of packet field bits) rel right
+-- A part alone is the test for 1. A comparison needs its field, and then the part is in the relation to the right side.
+abbrev pub atom_holds : Lookup → Values → TypedAtom → Bool
+atom_holds net packet (Truth b) = b
+atom_holds net packet (Bare field bits) = has packet (test field bits 1)
+atom_holds net packet (Holds p) = list_any (has packet) (tests p)
+atom_holds net packet (Compare field bits rel right) = is_there packet field && relates net (field_width field) (part_of packet field bits) rel right
 
--- A part alone is the test for 1.
-abbrev pub atom_yes : Lookup → Values → TypedAtom → Bool
-atom_yes net packet (Truth holds) = holds
-atom_yes net packet (Bare field bits) = has packet (test field bits 1)
-atom_yes net packet (Holds p) = list_any (has packet) (tests p)
-atom_yes net packet (Compare field bits rel right) = compares net packet field bits rel right
-
-abbrev pub atom_no : Lookup → Values → TypedAtom → Bool
-atom_no net packet (Truth holds) = not holds
-atom_no net packet (Bare field bits) = has_not packet (test field bits 1)
-atom_no net packet (Holds p) = list_all (has_not packet) (tests p)
-atom_no net packet (Compare field bits rel right) = compares net packet field bits (opposite rel) right
+abbrev pub atom_negation_holds : Lookup → Values → TypedAtom → Bool
+atom_negation_holds net packet (Truth b) = not b
+atom_negation_holds net packet (Bare field bits) = has_not packet (test field bits 1)
+atom_negation_holds net packet (Holds p) = list_all (has_not packet) (tests p)
+atom_negation_holds net packet (Compare field bits rel right) = is_there packet field && relates net (field_width field) (part_of packet field bits) (opposite rel) right
 
 abbrev mutual
   -- the match holds of the packet
-  pub yes : Lookup → Values → Formula TypedAtom → Bool
-  yes net packet (Leaf a) = atom_yes net packet a
-  yes net packet (Not f) = negation net packet f
-  yes net packet (And fs) = all_yes net packet fs
-  yes net packet (Or fs) = some_yes net packet fs
+  pub holds : Lookup → Values → Formula TypedAtom → Bool
+  holds net packet (Leaf a) = atom_holds net packet a
+  holds net packet (Not f) = negation_holds net packet f
+  holds net packet (And fs) = all_hold net packet fs
+  holds net packet (Or fs) = some_hold net packet fs
 
   -- the negation of the match holds of the packet
-  pub negation : Lookup → Values → Formula TypedAtom → Bool
-  negation net packet (Leaf a) = atom_no net packet a
-  negation net packet (Not f) = yes net packet f
-  negation net packet (And fs) = some_no net packet fs
-  negation net packet (Or fs) = all_no net packet fs
+  pub negation_holds : Lookup → Values → Formula TypedAtom → Bool
+  negation_holds net packet (Leaf a) = atom_negation_holds net packet a
+  negation_holds net packet (Not f) = holds net packet f
+  negation_holds net packet (And fs) = some_negation_holds net packet fs
+  negation_holds net packet (Or fs) = all_negations_hold net packet fs
 
-  pub all_yes : Lookup → Values → Formulas TypedAtom → Bool
-  all_yes net packet Nil = true
-  all_yes net packet (Cons f fs) = yes net packet f && all_yes net packet fs
+  pub all_hold : Lookup → Values → Formulas TypedAtom → Bool
+  all_hold net packet Nil = true
+  all_hold net packet (Cons f fs) = holds net packet f && all_hold net packet fs
 
-  pub some_yes : Lookup → Values → Formulas TypedAtom → Bool
-  some_yes net packet Nil = false
-  some_yes net packet (Cons f fs) = yes net packet f || some_yes net packet fs
+  pub some_hold : Lookup → Values → Formulas TypedAtom → Bool
+  some_hold net packet Nil = false
+  some_hold net packet (Cons f fs) = holds net packet f || some_hold net packet fs
 
-  pub all_no : Lookup → Values → Formulas TypedAtom → Bool
-  all_no net packet Nil = true
-  all_no net packet (Cons f fs) = negation net packet f && all_no net packet fs
+  pub all_negations_hold : Lookup → Values → Formulas TypedAtom → Bool
+  all_negations_hold net packet Nil = true
+  all_negations_hold net packet (Cons f fs) = negation_holds net packet f && all_negations_hold net packet fs
 
-  pub some_no : Lookup → Values → Formulas TypedAtom → Bool
-  some_no net packet Nil = false
-  some_no net packet (Cons f fs) = negation net packet f || some_no net packet fs
+  pub some_negation_holds : Lookup → Values → Formulas TypedAtom → Bool
+  some_negation_holds net packet Nil = false
+  some_negation_holds net packet (Cons f fs) = negation_holds net packet f || some_negation_holds net packet fs

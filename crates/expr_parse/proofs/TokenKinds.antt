@@ -1,7 +1,7 @@
--- Tokens, from what they are without their places.
+-- Tokens, from what they are without their offsets.
 use Rattle.std.proofs.Common.{◌≡◌, ℕ, List, [], ◌∷◌, ◌++◌, refl, ap, ◌∙◌}
 use Rattle.expr_parse.specs.Token.{Token, Tokens}
-use Rattle.expr_parse.specs.Rules.{kinds}
+use Rattle.expr_parse.specs.GrammarRules.{kinds}
 
 pub kinds_append : (front back : Tokens) → kinds (front ++ back) ≡ kinds front ++ kinds back
 kinds_append [] back = refl

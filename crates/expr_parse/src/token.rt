@@ -1,13 +1,13 @@
 use expr_core::{Const, Rel};
 
-/// A token where it stands in the text, whose bytes it borrows.
+/// A token of a text, from which it borrows the bytes of a name.
 #[derive(Clone, Copy, Debug)]
-pub(crate) enum Lexeme<'a> {
+pub(crate) enum Token<'a> {
     /// A name.
     Name(&'a [u8]),
     /// A number, a MAC or an address.
     Number(Const),
-    /// What stands between double quotes: the name of a port or of a multicast group.
+    /// The text between double quotes: the name of a port or of a multicast group.
     Text(&'a [u8]),
     /// A name after `$`.
     AddrSet(&'a [u8]),
@@ -41,20 +41,20 @@ pub(crate) enum Lexeme<'a> {
     Dots,
 }
 
-/// A token and its place.
+/// A token, and where it begins.
 #[derive(Clone, Copy, Debug)]
-pub(crate) struct Placed<'a> {
+pub(crate) struct TokenAt<'a> {
     /// Where it begins, in bytes from the beginning of the text.
-    pub(crate) place: u32,
+    pub(crate) offset: u32,
     /// The token.
-    pub(crate) lexeme: Lexeme<'a>,
+    pub(crate) token: Token<'a>,
 }
 
 /// The token that a text begins with.
 #[derive(Clone, Copy, Debug)]
-pub(crate) struct Found<'a> {
+pub(crate) struct FrontToken<'a> {
     /// The token.
-    pub(crate) lexeme: Lexeme<'a>,
+    pub(crate) token: Token<'a>,
     /// How many bytes spell it.
     pub(crate) len: usize,
 }

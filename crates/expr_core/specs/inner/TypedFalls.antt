@@ -1,8 +1,8 @@
 -- What a match is made of is smaller.
 use Rattle.std.specs.Prelude.{◌≤◌, max}
 use Rattle.std.proofs.Common.{arith}
-use Rattle.expr_core.specs.Formula.{formula_size}
-use Rattle.expr_core.specs.Sizes.{most_le}
+use Rattle.expr_core.specs.inner.FormulaCode.{formula_size}
+use Rattle.expr_core.specs.inner.Sizes.{most_le}
 use Rattle.expr_core.specs.Typed.{typed_formula}
 use Rattle.expr_core.specs.declared.typed.TypedNode.{TypedNode}
 use Rattle.expr_core.specs.declared.typed.TypedNode.TheVariants.{Atom, Not, And, Or}

@@ -5,7 +5,7 @@ use Rattle.pkt_core.specs.Packet.{Values}
 use Rattle.expr_core.specs.Formula.{Formula}
 use Rattle.expr_core.specs.Lookup.{Lookup}
 use Rattle.expr_core.specs.declared.typed.TypedAtom.{TypedAtom}
-use Rattle.expr_eval.specs.Meaning.{Test, has, has_not, atom_yes, atom_no, yes, negation}
+use Rattle.expr_eval.specs.MatchMeaning.{Test, has, has_not, atom_holds, atom_negation_holds, holds, negation_holds}
 
 abbrev pub meant_test : Bool → Values → Test → Bool
 meant_test true packet t = has packet t
@@ -16,9 +16,9 @@ meant_tests true packet ts = list_any (has packet) ts
 meant_tests false packet ts = list_all (has_not packet) ts
 
 abbrev pub meant_atom : Bool → Lookup → Values → TypedAtom → Bool
-meant_atom true net packet a = atom_yes net packet a
-meant_atom false net packet a = atom_no net packet a
+meant_atom true net packet a = atom_holds net packet a
+meant_atom false net packet a = atom_negation_holds net packet a
 
 abbrev pub meant : Bool → Lookup → Values → Formula TypedAtom → Bool
-meant true net packet f = yes net packet f
-meant false net packet f = negation net packet f
+meant true net packet f = holds net packet f
+meant false net packet f = negation_holds net packet f

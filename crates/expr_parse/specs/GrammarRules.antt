@@ -18,7 +18,7 @@ use Rattle.expr_parse.specs.Token.Token.{Name, Number, Text, AddrSet, Group, Rel
 use Rattle.expr_parse.specs.Tokens.{tokens_of}
 use Rattle.expr_parse.specs.Grammar.{level_limit}
 
--- tokens without their places
+-- what the tokens are, without their offsets
 abbrev pub kinds : Tokens → List Token
 kinds ts = map (λ t. t.1) ts
 
@@ -45,9 +45,9 @@ AreBits (Range m n) = (m ≤ 255) × (n ≤ 255)
 
 -- Part = name | name "[" decimal "]" | name "[" decimal ".." decimal "]"
 pub record IsPart (ts : Tokens) (p : Part) : Type 0 where
-  pub behind : Tokens
-  pub whole : ts ≡ (p.place, Name p.name) ∷ behind
-  pub bits : kinds behind ≡ bits_tokens p.bits
+  pub after : Tokens
+  pub whole : ts ≡ (p.offset, Name p.name) ∷ after
+  pub bits : kinds after ≡ bits_tokens p.bits
   pub numbers : AreBits p.bits
 
 -- Item = Const | Const "/" Const | string | $name | @name
@@ -73,7 +73,7 @@ IsRight ts (right_of.Set (i ∷ is)) = ts ≡ OpenBrace ∷ (items_tokens i is +
 abbrev pub IsAtom : Tokens → Atom → Type 0
 IsAtom ts (Truth b) = kinds ts ≡ decimal (truth_number b) ∷ []
 IsAtom ts (Bare p) = IsPart ts p
-IsAtom ts (Compare p r s) = (front : Tokens) × (place : ℕ) × (back : Tokens) × (ts ≡ front ++ (place, Relation r) ∷ back) × IsPart front p × IsRight (kinds back) s
+IsAtom ts (Compare p r s) = (front : Tokens) × (offset : ℕ) × (back : Tokens) × (ts ≡ front ++ (offset, Relation r) ∷ back) × IsPart front p × IsRight (kinds back) s
 
 mutual
   -- Match = Unit | Unit "&&" Unit { "&&" Unit } | Unit "||" Unit { "||" Unit }, where so many levels may be opened
@@ -85,7 +85,7 @@ mutual
   -- Unit { sign Unit }
   pub data AreUnits : ℕ → Token → Tokens → List (Formula Atom) → Type 0 where
     last : {n : ℕ} {sign : Token} {ts : Tokens} (f : Formula Atom) → IsUnit n ts f → AreUnits n sign ts (f ∷ [])
-    more : {n : ℕ} {sign : Token} {ts : Tokens} {f : Formula Atom} {fs : List (Formula Atom)} (front : Tokens) (place : ℕ) (back : Tokens) → ts ≡ front ++ (place, sign) ∷ back → IsUnit n front f → AreUnits n sign back fs → AreUnits n sign ts (f ∷ fs)
+    more : {n : ℕ} {sign : Token} {ts : Tokens} {f : Formula Atom} {fs : List (Formula Atom)} (front : Tokens) (offset : ℕ) (back : Tokens) → ts ≡ front ++ (offset, sign) ∷ back → IsUnit n front f → AreUnits n sign back fs → AreUnits n sign ts (f ∷ fs)
 
   -- Unit = Not | Part Rel Right
   pub data IsUnit : ℕ → Tokens → Formula Atom → Type 0 where
@@ -96,7 +96,7 @@ mutual
   pub data IsOperand : ℕ → Tokens → Formula Atom → Type 0 where
     truth : {n : ℕ} {ts : Tokens} (b : Bool) → IsAtom ts (Truth b) → IsOperand n ts (Leaf (Truth b))
     bare : {n : ℕ} {ts : Tokens} (p : Part) → IsAtom ts (Bare p) → IsOperand n ts (Leaf (Bare p))
-    negation : {n : ℕ} {ts : Tokens} {f : Formula Atom} (place : ℕ) (behind : Tokens) → ts ≡ (place, Not) ∷ behind → IsOperand n behind f → IsOperand (suc n) ts (Negation f)
+    negation : {n : ℕ} {ts : Tokens} {f : Formula Atom} (offset : ℕ) (after : Tokens) → ts ≡ (offset, Not) ∷ after → IsOperand n after f → IsOperand (suc n) ts (Negation f)
     enclosed : {n : ℕ} {ts : Tokens} {f : Formula Atom} (opening closing : ℕ) (inner : Tokens) → ts ≡ (opening, Open) ∷ (inner ++ (closing, Close) ∷ []) → IsMatch n inner f → IsOperand (suc n) ts f
 
 -- The text is this match: its tokens reach its end, and they are the match, with at most 64 levels open.

@@ -1,0 +1,9 @@
+-- What private contracts and proofs cite. No clause of a public call does, so a reader need not believe it.
+pub mod EqualLaws
+pub mod EqualMatches
+pub mod EqualParts
+pub mod Exact
+pub mod ExprFalls
+pub mod FormulaCode
+pub mod Sizes
+pub mod TypedFalls

@@ -1,0 +1,5 @@
+-- What private contracts and proofs cite. No clause of a public call does, so a reader need not believe it.
+pub mod Borrowed
+pub mod Class
+pub mod Fronts
+pub mod Gives

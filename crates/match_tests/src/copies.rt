@@ -1,0 +1,53 @@
+// That matches can be copied, and that two are equal whatever the offsets of their parts.
+use expr_check::{Role, check};
+use expr_core::{Atom, Expr, ExprNode};
+use expr_parse::parse_match;
+use nv_base::Kept;
+use std::alloc::Global;
+use std::test::Fail;
+
+// The match that the text is. No text here is as long as a match may not be.
+fn parsed(alloc: Global, text: &str) -> Result<Expr, Fail> {
+    if text.len() > 100 {
+        return Err(Fail::new("too long"));
+    }
+    Ok(parse_match(alloc, text.as_bytes())?)
+}
+
+#[test]
+fn copies_are_equal(rt: HostRuntime) -> Result<(), Fail> {
+    let alloc = rt.alloc();
+    for text in [
+        "inport == @g",
+        "tcp.dst != {1, 2} && !(arp || ip4.src == $s)",
+        "eth.dst[40] || ip4.dst[28..31] == 0xe || inport == \"p\" || ip4.src == 10.0.0.0/8",
+    ] {
+        let expr = parsed(alloc, text)?;
+        assert!(rt; expr.copy(alloc)? == expr, "{text}");
+        let typed = check(alloc, &expr, Role::Row)?;
+        assert!(rt; typed.copy(alloc)? == typed, "{text}");
+    }
+    Ok(())
+}
+
+#[test]
+fn an_atom_is_copied_at_its_offset(rt: HostRuntime) -> Result<(), Fail> {
+    let expr = parsed(rt.alloc(), "   tcp")?;
+    if let ExprNode::Atom(Atom::Bare(part)) = &expr.node {
+        assert!(rt; part.copy(rt.alloc())?.offset == 3);
+    } else {
+        return Err(Fail::new("not a part"));
+    }
+    Ok(())
+}
+
+#[test]
+fn offsets_do_not_count(rt: HostRuntime) -> Result<(), Fail> {
+    let first = parsed(rt.alloc(), "ip4 && arp")?;
+    let later = parsed(rt.alloc(), "  ip4&&( arp )")?;
+    assert!(rt; first == later);
+    for another in ["ip6 && arp", "ip4 || arp", "ip4 && arp && 1", "!ip4", "ip4"] {
+        assert!(rt; parsed(rt.alloc(), another)? != first, "{another}");
+    }
+    Ok(())
+}

@@ -45,7 +45,7 @@ pub fn field_names_are_read()
 {}
 
 /// There are 36 fields, and each has the place of its number in the list of all of them.
-pub fn fields_stand_at_their_numbers()
+pub fn fields_are_at_their_numbers()
     ensures order { map field_number all_fields ≡ range_with_len 1 36 }
     ensures each { (field : Field) → slice_get all_fields (field_number field - 1) ≡ Some field }
 {}

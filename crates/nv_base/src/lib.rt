@@ -21,7 +21,7 @@ pub use ip4::{Ip4, put_ip4, read_ip4};
 pub use items::Items;
 pub use kept::Kept;
 pub use laws::{
-    field_names_are_read, fields_stand_at_their_numbers, hexadecimals_are_read,
+    field_names_are_read, fields_are_at_their_numbers, hexadecimals_are_read,
     written_addresses_are_read, written_decimals_are_read, written_hexadecimals_are_read,
     written_macs_are_read, written_prefixes_are_read,
 };

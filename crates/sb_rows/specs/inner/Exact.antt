@@ -1,5 +1,5 @@
 -- Matches, actions and rows that are equal by `==` are one value.
-use Rattle.std.proofs.Common.{◌≡◌, Bool, true, false, refl, ap, ◌&&◌}
+use Rattle.std.proofs.Common.{◌≡◌, Bool, true, refl, ap}
 use Rattle.std.proofs.lemmas.Bool.{eqb-true, false≢true, and_parts}
 use denote.Enum.Bare.{sameb, same_true}
 use Rattle.nv_base.specs.inner.Exact as tells

@@ -4,4 +4,6 @@
 #[cfg(test)]
 mod base;
 #[cfg(test)]
+mod io;
+#[cfg(test)]
 mod packets;

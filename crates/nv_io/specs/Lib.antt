@@ -1,4 +1,5 @@
 pub mod Counts
 pub mod Edge
 pub mod Feed
+pub mod State
 pub mod Store

@@ -1,6 +1,6 @@
 -- What clauses see of a sink in memory.
 use Rattle.std.specs.Prelude.{◌≡◌, ℕ, ◌+◌, ◌-◌, ◌⊎◌, List, ◌++◌, length, take, Contains, min, Result, Ok, Err}
-use Rattle.nv_io.specs.Counts.{next_count, last_count}
+use Rattle.nv_io.specs.Counts.{next_count, count_after}
 use Rattle.nv_io.specs.declared.sink.SinkFailed.{SinkFailed}
 
 -- a sink: the bytes put, the most bytes in all, the most bytes of one put, the numbers of the puts that fail, the counts of puts and faults
@@ -20,10 +20,6 @@ NextPutFails store = Contains store.fail (next_count store.puts) ⊎ (length sto
 pub record Tally : Type 0 where
   pub total : ℕ
   pub puts : ℕ
-
--- a count after n more, which stands still at the last value
-abbrev pub count_after : ℕ → ℕ → ℕ
-count_after count n = min (count + n) last_count
 
 -- One put: the sink before, the bytes offered, the answer, and the sink after.
 abbrev pub IsPut : Store → List ℕ → Result ℕ SinkFailed → Store → Type 0

@@ -14,6 +14,3 @@ pub use mem_source::{CleanSource, MemSource};
 pub use sink::{Sink, SinkFailed};
 pub use source::{Source, SourceFailed};
 pub use std_stream::{StdSink, StdSource};
-
-#[cfg(test)]
-mod tests;

@@ -1,8 +1,8 @@
 ghost use Rattle.std.specs.Prelude.{◌≡◌, ℕ, ◌-◌, ◌<◌, ◌≤◌, ◌↔◌, List, [], ◌++◌, length, take, min, IfOk, OnOk, OnErr, IsOk, IsErr, IsTrue, ◌+◌};
-ghost use Rattle.nv_io.specs.Counts.{Rose, next_count};
-ghost use Rattle.nv_io.specs.Store.{NextPutFails, IsPut, IsCountedPut, count_after};
+ghost use Rattle.nv_io.specs.Counts.{Rose, next_count, count_after};
+ghost use Rattle.nv_io.specs.Store.{NextPutFails, IsPut, IsCountedPut};
 
-use crate::counts::one_more;
+use crate::counts::{one_more, some_more};
 use crate::sink::{Sink, SinkFailed};
 use nv_base::OutOfMemory;
 use std::alloc::Global;
@@ -110,14 +110,10 @@ impl MemSink {
 }
 
 impl Sink for MemSink {
-    ghost use Rattle.std.specs.Prelude.{Some};
+    ghost use Rattle.std.specs.Prelude.{Some, length};
     ghost use Rattle.nv_io.specs.Store.{IsPut};
 
-    ghost taken = { λ s. Some s.kept };
-
-    ghost faults = { λ s. s.faults };
-
-    ghost puts = { λ s. s.puts };
+    ghost state = { λ s. record { taken = Some s.kept; amount = length s.kept; puts = s.puts; faults = s.faults } };
 
     ghost put_gives = { IsPut };
 
@@ -128,10 +124,12 @@ impl Sink for MemSink {
         ensures some { IfOk result (λ n. 0 < n) }
         ensures within { IfOk result (λ n. n ≤ length bytes.now) }
         ensures kept { IfOk result (λ n. self.new.kept ≡ self.old.kept ++ take n bytes.now) }
+        ensures amount { IfOk result (λ n. length self.new.kept ≡ count_after (length self.old.kept) n) }
         ensures quiet { OnOk result (self.new.faults ≡ self.old.faults) }
 
         ensures fault { OnErr result (Rose self.old.faults self.new.faults) }
         ensures none_taken { OnErr result (self.new.kept ≡ self.old.kept) }
+        ensures none_more { OnErr result (length self.new.kept ≡ length self.old.kept) }
 
         ensures counted { self.new.puts ≡ next_count self.old.puts }
 
@@ -183,7 +181,7 @@ impl NullSink {
         NullSink { total: 0, puts: 0 }
     }
 
-    /// How many bytes were put. The count stands still at the last value.
+    /// How many bytes were put. The count stays at the last value.
     pub fn len(&self) -> u64
         ensures { result ≡ self.now.total }
     {
@@ -209,11 +207,7 @@ impl Sink for NullSink {
     ghost use Rattle.std.specs.Prelude.{None};
     ghost use Rattle.nv_io.specs.Store.{IsCountedPut};
 
-    ghost taken = { λ _. None };
-
-    ghost faults = { λ _. 0 };
-
-    ghost puts = { λ s. s.puts };
+    ghost state = { λ s. record { taken = None; amount = s.total; puts = s.puts; faults = 0 } };
 
     ghost put_gives = { IsCountedPut };
 
@@ -223,6 +217,7 @@ impl Sink for NullSink {
 
         ensures some { IfOk result (λ n. 0 < n) }
         ensures within { IfOk result (λ n. n ≤ length bytes.now) }
+        ensures amount { IfOk result (λ n. self.new.total ≡ count_after self.old.total n) }
 
         ensures counted { self.new.puts ≡ next_count self.old.puts }
 
@@ -235,7 +230,7 @@ impl Sink for NullSink {
         } }
     {
         self.puts = one_more(self.puts);
-        self.total = self.total.saturating_add(bytes.len() as u64);
+        self.total = some_more(self.total, bytes.len());
         Ok(bytes.len())
     }
 }

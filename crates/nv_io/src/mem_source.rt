@@ -1,5 +1,5 @@
 ghost use Rattle.std.specs.Prelude.{◌≡◌, ℕ, ◌<◌, ◌≤◌, ◌↔◌, List, [], ◌++◌, length, take, drop, min, IfOk, OnOk, OnErr, IsOk, IsErr};
-ghost use Rattle.nv_io.specs.Counts.{Rose, next_count};
+ghost use Rattle.nv_io.specs.Counts.{Rose, next_count, count_after};
 ghost use Rattle.nv_io.specs.Feed.{NextTakeFails, IsTake, IsCleanTake};
 
 use crate::counts::one_more;
@@ -26,6 +26,7 @@ impl Model for MemSource {
 
     ghost view = { λ s. record {
       left = drop s.position s.bytes.items;
+      given = s.position;
       piece = s.piece;
       fail = s.fail.items;
       takes = s.takes;
@@ -41,6 +42,7 @@ impl MemSource {
         requires { 0 < piece }
         ensures { result ≡ record {
           left = bytes.items;
+          given = 0;
           piece = piece;
           fail = fail.items;
           takes = 0;
@@ -83,11 +85,7 @@ impl Source for MemSource {
     ghost use Rattle.std.specs.Prelude.{Some};
     ghost use Rattle.nv_io.specs.Feed.{IsTake};
 
-    ghost left = { λ s. Some s.left };
-
-    ghost faults = { λ s. s.faults };
-
-    ghost takes = { λ s. s.takes };
+    ghost state = { λ s. record { left = Some s.left; given = s.given; takes = s.takes; faults = s.faults } };
 
     ghost take_gives = { IsTake };
 
@@ -97,11 +95,13 @@ impl Source for MemSource {
 
         ensures within { IfOk result (λ n. n ≤ length into.new) }
         ensures given { IfOk result (λ n. self.old.left ≡ take n into.new ++ self.new.left) }
+        ensures amount { IfOk result (λ n. self.new.given ≡ count_after self.old.given n) }
         ensures end { IfOk result (λ n. n ≡ 0 → self.new.left ≡ []) }
         ensures quiet { OnOk result (self.new.faults ≡ self.old.faults) }
 
         ensures fault { OnErr result (Rose self.old.faults self.new.faults) }
         ensures none_lost { OnErr result (self.new.left ≡ self.old.left) }
+        ensures none_given { OnErr result (self.new.given ≡ self.old.given) }
 
         ensures counted { self.new.takes ≡ next_count self.old.takes }
 
@@ -112,6 +112,7 @@ impl Source for MemSource {
         ensures copied { IfOk result (λ n. into.new ≡ take n self.old.left ++ drop n into.old) }
         ensures ok { IfOk result (λ n. self.new ≡ record self.old {
           left = drop n self.old.left;
+          given = count_after self.old.given n;
           takes = next_count self.old.takes;
         }) }
         ensures err { OnErr result (self.new ≡ record self.old {
@@ -148,6 +149,7 @@ impl Model for CleanSource {
 
     ghost view = { λ s. record {
       left = drop s.position s.bytes.items;
+      given = s.position;
       piece = s.piece;
       takes = s.takes;
     } };
@@ -159,7 +161,7 @@ impl CleanSource {
     /// A source of these bytes that was not called yet.
     pub fn new(bytes: Vec<u8>, piece: usize) -> Self
         requires { 0 < piece }
-        ensures { result ≡ record { left = bytes.items; piece = piece; takes = 0 } }
+        ensures { result ≡ record { left = bytes.items; given = 0; piece = piece; takes = 0 } }
     {
         CleanSource {
             bytes,
@@ -188,11 +190,7 @@ impl Source for CleanSource {
     ghost use Rattle.std.specs.Prelude.{Some};
     ghost use Rattle.nv_io.specs.Feed.{IsCleanTake};
 
-    ghost left = { λ s. Some s.left };
-
-    ghost faults = { λ _. 0 };
-
-    ghost takes = { λ s. s.takes };
+    ghost state = { λ s. record { left = Some s.left; given = s.given; takes = s.takes; faults = 0 } };
 
     ghost take_gives = { IsCleanTake };
 
@@ -202,6 +200,7 @@ impl Source for CleanSource {
 
         ensures within { IfOk result (λ n. n ≤ length into.new) }
         ensures given { IfOk result (λ n. self.old.left ≡ take n into.new ++ self.new.left) }
+        ensures amount { IfOk result (λ n. self.new.given ≡ count_after self.old.given n) }
         ensures end { IfOk result (λ n. n ≡ 0 → self.new.left ≡ []) }
         ensures counted { self.new.takes ≡ next_count self.old.takes }
 
@@ -212,6 +211,7 @@ impl Source for CleanSource {
         ensures copied { IfOk result (λ n. into.new ≡ take n self.old.left ++ drop n into.old) }
         ensures ok { IfOk result (λ n. self.new ≡ record self.old {
           left = drop n self.old.left;
+          given = count_after self.old.given n;
           takes = next_count self.old.takes;
         }) }
     {

@@ -1,6 +1,7 @@
-ghost use Rattle.std.specs.Prelude.{◌≡◌, ℕ, ◌<◌, ◌≤◌, List, Option, Result, length, take, IfOk, OnOk, OnErr};
+ghost use Rattle.std.specs.Prelude.{◌≡◌, ℕ, ◌<◌, ◌≤◌, List, Result, length, take, IfOk, OnOk, OnErr};
 ghost use Rattle.std.specs.Io.KnownBytes.{Appends};
-ghost use Rattle.nv_io.specs.Counts.{Rose, next_count};
+ghost use Rattle.nv_io.specs.Counts.{Rose, next_count, count_after};
+ghost use Rattle.nv_io.specs.State.{SinkState};
 ghost use Rattle.nv_io.specs.declared.sink.SinkFailed.{SinkFailed};
 
 use thiserror::Error;
@@ -12,14 +13,8 @@ pub struct SinkFailed;
 
 /// Where bytes go.
 pub trait Sink {
-    /// The bytes put so far, where the sink tells them.
-    ghost taken: { Self → Option (List ℕ) };
-
-    /// How many puts failed so far.
-    ghost faults: { Self → ℕ };
-
-    /// How many puts there were so far.
-    ghost puts: { Self → ℕ };
+    /// What the sink tells: the bytes that it took, and how many bytes, puts and faults there were.
+    ghost state: { Self → SinkState };
 
     /// What a put may do: the sink before, the bytes offered, the answer, and the sink after.
     ghost put_gives: { Self → List ℕ → Result ℕ SinkFailed → Self → Type 0 };
@@ -31,11 +26,13 @@ pub trait Sink {
 
         ensures some { IfOk result (λ n. 0 < n) }
         ensures within { IfOk result (λ n. n ≤ length bytes.now) }
-        ensures kept { IfOk result (λ n. Appends (taken self.old) (taken self.new) (take n bytes.now)) }
-        ensures quiet { OnOk result (faults self.new ≡ faults self.old) }
+        ensures kept { IfOk result (λ n. Appends (state self.old).taken (state self.new).taken (take n bytes.now)) }
+        ensures amount { IfOk result (λ n. (state self.new).amount ≡ count_after (state self.old).amount n) }
+        ensures quiet { OnOk result ((state self.new).faults ≡ (state self.old).faults) }
 
-        ensures fault { OnErr result (Rose (faults self.old) (faults self.new)) }
-        ensures none_taken { OnErr result (taken self.new ≡ taken self.old) }
+        ensures fault { OnErr result (Rose (state self.old).faults (state self.new).faults) }
+        ensures none_taken { OnErr result ((state self.new).taken ≡ (state self.old).taken) }
+        ensures none_more { OnErr result ((state self.new).amount ≡ (state self.old).amount) }
 
-        ensures counted { puts self.new ≡ next_count (puts self.old) };
+        ensures counted { (state self.new).puts ≡ next_count (state self.old).puts };
 }

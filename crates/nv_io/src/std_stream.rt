@@ -1,19 +1,20 @@
 ghost use Rattle.std.specs.Prelude.{◌≡◌, ℕ, ◌<◌, ◌≤◌, [], length, take, IfOk, OnOk, OnErr};
 ghost use Rattle.std.specs.Io.KnownBytes.{Appends, Consumes, IsAtEnd, Keeps};
-ghost use Rattle.nv_io.specs.Counts.{Rose, next_count};
+ghost use Rattle.nv_io.specs.Counts.{Rose, next_count, count_after};
 ghost use Rattle.nv_io.specs.Edge.{IsEdgeTake, IsEdgePut};
 
-use crate::counts::one_more;
+use crate::counts::{one_more, some_more};
 use crate::sink::{Sink, SinkFailed};
 use crate::source::{Source, SourceFailed};
 use std::io::{Read, Write};
 use std::marker::Model;
 
-/// A standard reader as a source. Each `Err` of the reader is a fault. It tells no bytes, and gives
-/// what the reader gave.
+/// A standard reader as a source. Each `Err` of the reader is a fault. It tells how many bytes it gave
+/// and not which, and gives what the reader gave.
 #[derive(Debug, Drop)]
 pub struct StdSource<R> {
     inner: R,
+    given: u64,
     takes: u64,
     faults: u64,
 }
@@ -23,19 +24,27 @@ impl<R> Model for StdSource<R> {
 
     ghost Value = { Edge R };
 
-    ghost view = { λ s. record { inner = s.inner; calls = s.takes; faults = s.faults } };
+    ghost view = { λ s. record { inner = s.inner; amount = s.given; calls = s.takes; faults = s.faults } };
 }
 
 impl<R> StdSource<R> {
     /// A source over this reader that was not called yet.
     pub fn new(inner: R) -> Self
-        ensures { result ≡ record { inner = inner; calls = 0; faults = 0 } }
+        ensures { result ≡ record { inner = inner; amount = 0; calls = 0; faults = 0 } }
     {
         StdSource {
             inner,
+            given: 0,
             takes: 0,
             faults: 0,
         }
+    }
+
+    /// How many bytes were given. The count stays at the last value.
+    pub fn given(&self) -> u64
+        ensures { result ≡ self.now.amount }
+    {
+        self.given
     }
 
     /// How many takes there were.
@@ -64,11 +73,7 @@ impl<R: Read + Drop> Source for StdSource<R> {
     ghost use Rattle.std.specs.Prelude.{None};
     ghost use Rattle.nv_io.specs.Edge.{IsEdgeTake};
 
-    ghost left = { λ _. None };
-
-    ghost faults = { λ s. s.faults };
-
-    ghost takes = { λ s. s.calls };
+    ghost state = { λ s. record { left = None; given = s.amount; takes = s.calls; faults = s.faults } };
 
     ghost take_gives = { IsEdgeTake R.remaining };
 
@@ -77,9 +82,11 @@ impl<R: Read + Drop> Source for StdSource<R> {
         ensures step { IsEdgeTake R.remaining self.old into.new result self.new }
 
         ensures within { IfOk result (λ n. n ≤ length into.new) }
+        ensures amount { IfOk result (λ n. self.new.amount ≡ count_after self.old.amount n) }
         ensures quiet { OnOk result (self.new.faults ≡ self.old.faults) }
 
         ensures fault { OnErr result (Rose self.old.faults self.new.faults) }
+        ensures none_given { OnErr result (self.new.amount ≡ self.old.amount) }
 
         ensures counted { self.new.calls ≡ next_count self.old.calls }
 
@@ -93,7 +100,10 @@ impl<R: Read + Drop> Source for StdSource<R> {
     {
         self.takes = one_more(self.takes);
         match self.inner.read(into) {
-            Ok(count) => Ok(count),
+            Ok(count) => {
+                self.given = some_more(self.given, count);
+                Ok(count)
+            }
             Err(_) => {
                 self.faults = one_more(self.faults);
                 Err(SourceFailed)
@@ -103,10 +113,11 @@ impl<R: Read + Drop> Source for StdSource<R> {
 }
 
 /// A standard writer as a sink. Each `Err` of the writer is a fault, and so is a write that takes
-/// nothing. It tells no bytes, and takes what the writer took.
+/// nothing. It tells how many bytes it took and not which, and takes what the writer took.
 #[derive(Debug, Drop)]
 pub struct StdSink<W> {
     inner: W,
+    amount: u64,
     puts: u64,
     faults: u64,
 }
@@ -116,19 +127,27 @@ impl<W> Model for StdSink<W> {
 
     ghost Value = { Edge W };
 
-    ghost view = { λ s. record { inner = s.inner; calls = s.puts; faults = s.faults } };
+    ghost view = { λ s. record { inner = s.inner; amount = s.amount; calls = s.puts; faults = s.faults } };
 }
 
 impl<W> StdSink<W> {
     /// A sink over this writer that was not called yet.
     pub fn new(inner: W) -> Self
-        ensures { result ≡ record { inner = inner; calls = 0; faults = 0 } }
+        ensures { result ≡ record { inner = inner; amount = 0; calls = 0; faults = 0 } }
     {
         StdSink {
             inner,
+            amount: 0,
             puts: 0,
             faults: 0,
         }
+    }
+
+    /// How many bytes were taken. The count stays at the last value.
+    pub fn amount(&self) -> u64
+        ensures { result ≡ self.now.amount }
+    {
+        self.amount
     }
 
     /// How many puts there were.
@@ -157,11 +176,7 @@ impl<W: Write + Drop> Sink for StdSink<W> {
     ghost use Rattle.std.specs.Prelude.{None};
     ghost use Rattle.nv_io.specs.Edge.{IsEdgePut};
 
-    ghost taken = { λ _. None };
-
-    ghost faults = { λ s. s.faults };
-
-    ghost puts = { λ s. s.calls };
+    ghost state = { λ s. record { taken = None; amount = s.amount; puts = s.calls; faults = s.faults } };
 
     ghost put_gives = { IsEdgePut W.contents };
 
@@ -171,9 +186,11 @@ impl<W: Write + Drop> Sink for StdSink<W> {
 
         ensures some { IfOk result (λ n. 0 < n) }
         ensures within { IfOk result (λ n. n ≤ length bytes.now) }
+        ensures amount { IfOk result (λ n. self.new.amount ≡ count_after self.old.amount n) }
         ensures quiet { OnOk result (self.new.faults ≡ self.old.faults) }
 
         ensures fault { OnErr result (Rose self.old.faults self.new.faults) }
+        ensures none_more { OnErr result (self.new.amount ≡ self.old.amount) }
 
         ensures counted { self.new.calls ≡ next_count self.old.calls }
 
@@ -186,7 +203,10 @@ impl<W: Write + Drop> Sink for StdSink<W> {
     {
         self.puts = one_more(self.puts);
         match self.inner.write(bytes) {
-            Ok(count) if count > 0 => Ok(count),
+            Ok(count) if count > 0 => {
+                self.amount = some_more(self.amount, count);
+                Ok(count)
+            }
             _ => {
                 self.faults = one_more(self.faults);
                 Err(SinkFailed)

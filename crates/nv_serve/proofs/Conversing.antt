@@ -1,195 +1,240 @@
--- How a take more, and what is fed of it, goes on with a conversation.
+-- How a take more, and what is run of its piece, goes on with a conversation.
 use Rattle.std.proofs.Common.{◌≡◌, ℕ, ◌+◌, ◌-◌, ◌<◌, ◌≤◌, Bool, ◌||◌, List, [], ◌++◌, Option, Some, None, Result, Ok, Err, length, take, drop, refl, sym, ap, ◌∙◌, subst, append_assoc, arith}
-use Rattle.std.specs.Io.KnownBytes.{Consumes, Appends, IsAtEnd}
+use Rattle.std.specs.Io.KnownBytes.{IsAtEnd}
 use Rattle.std.proofs.lemmas.List.{append-nil, length-append, take-append-drop, take-take}
 use Rattle.std.proofs.Math.Seq.{take-append-add}
 use Rattle.nv_io.specs.Counts.{Rose}
+use Rattle.nv_io.specs.State.{SourceState, SinkState}
 use Rattle.nv_io.specs.declared.sink.SinkFailed.{SinkFailed}
 use Rattle.nv_io.specs.declared.source.SourceFailed.{SourceFailed}
 use Rattle.nv_serve.specs.declared.stop.Stop.{Stop}
 use Rattle.nv_serve.specs.declared.stop.Stop.TheVariants as stops
 use Rattle.nv_serve.specs.Network.{Tables}
 use Rattle.nv_serve.specs.Reply.{reply}
-use Rattle.nv_serve.specs.Output.{output, whole_output, input_limit}
-use Rattle.nv_serve.specs.Outside.{no_call, and_take, and_puts, Wrote, IsPrefix, StopsWithin}
-use Rattle.nv_serve.specs.Standing.{Stands}
-use Rattle.nv_serve.specs.Feeding.{Fed, Stopped}
-use Rattle.nv_serve.specs.Ending.{Went, Finished, ReadFaulted, TooLong, StopEnds}
-use Rattle.nv_serve.proofs.Writing.{nothing_appended, appended_more}
-use Rattle.nv_serve.proofs.Standing.{written_end, refused_end}
+use Rattle.nv_serve.specs.Output.{output, complete_output, input_limit}
+use Rattle.nv_serve.specs.Calls.{IsPrefix, Gave, Took, Moved, told_left, Point, start_at, IsReady, piece_limit, Calls, no_call, and_take, and_puts, LastTakeGivesNothing, LastTakeFails, LastPutFails}
+use Rattle.nv_serve.specs.inner.Pieces.{IsDue, BeginsOutput}
+use Rattle.nv_serve.specs.inner.StateAfter.{IsStateAfter}
+use Rattle.nv_serve.specs.inner.Writing.{Wrote, PutFailed, StopsWithin}
+use Rattle.nv_serve.specs.inner.Endings.{Finished, StopEnds, StopCalls}
+use Rattle.nv_serve.proofs.Writing.{gave_nothing, gave_more, gave_still, took_nothing, took_more}
+use Rattle.nv_serve.proofs.StateAfter.{written_end, refused_end}
 
--- nothing given
-pub nothing_given : (told : Option (List ℕ)) → Consumes told told []
-nothing_given None = tt
-nothing_given (Some bytes) = refl
+-- at the end none is left
+none_left : (told : Option (List ℕ)) → IsAtEnd told → told_left told ≡ []
+none_left None at_end = refl
+none_left (Some bytes) at_end = at_end
 
--- bytes given after others
-given_more : (first second third : Option (List ℕ)) (a b : List ℕ) → Consumes first second a → Consumes second third b → Consumes first third (a ++ b)
-given_more None second third a b h k = tt
-given_more (Some x) (Some y) (Some z) a b h k = h ∙ ap (λ v. a ++ v) k ∙ sym (append_assoc a b z)
-given_more (Some x) (Some y) None a b h k = absurd k
-given_more (Some x) None third a b h k = absurd h
+module _ {S K : Type 0} (takes : S → List ℕ → Result ℕ SourceFailed → S → Type 0) (source_state : S → SourceState) (puts : K → List ℕ → Result ℕ SinkFailed → K → Type 0) (sink_state : K → SinkState) where
+  -- a point of the run
+  abbrev at_point : S → K → List ℕ → List ℕ → Point S K
+  at_point s k given written = record { source = s; sink = k; given = given; written = written }
 
-module _ {S K : Type 0} (takes : S → List ℕ → Result ℕ SourceFailed → S → Type 0) (left : S → Option (List ℕ)) (source_faults : S → ℕ) (puts : K → List ℕ → Result ℕ SinkFailed → K → Type 0) (taken : K → Option (List ℕ)) (sink_faults : K → ℕ) where
+  -- how a run from here to there ends
+  abbrev pub FinishedAt : S → K → S → K → Bool → Type 0
+  FinishedAt s k t l refused =
+      Moved source_state sink_state (s, k) (t, l) (λ given written.
+      Finished (source_state s, sink_state k) (source_state t, sink_state l) given written refused × LastTakeGivesNothing takes puts (start_at s k) (at_point t l given written))
+
+  abbrev pub StopsAt : S → K → S → K → Stop → Type 0
+  StopsAt s k t l stop =
+      Moved source_state sink_state (s, k) (t, l) (λ given written.
+      StopEnds (source_state s, sink_state k) (source_state t, sink_state l) given written stop × StopCalls takes puts (start_at s k) (at_point t l given written) stop)
+
   -- what was given so far was run, and each reply that is due was put
   pub record Conversed (s : S) (k : K) (t : S) (l : K) (network : Tables) (line : List ℕ) (refused : Bool) (room : ℕ) : Type 0 where
     pub given : List ℕ
-    pub went : Went takes left source_faults puts taken sink_faults s k t l given (whole_output given)
-    pub stands : Stands network line refused given
+    pub calls : Calls takes puts (start_at s k) (at_point t l given (complete_output given))
+    pub gave : Gave (source_state s) (source_state t) given
+    pub took : Took (sink_state k) (sink_state l) (complete_output given)
+    pub source_quiet : (source_state t).faults ≡ (source_state s).faults
+    pub sink_quiet : (sink_state l).faults ≡ (sink_state k).faults
+    pub stands : IsStateAfter network line refused given
     pub limited : length given + room ≡ input_limit
     pub numbered : network.next ≤ 1 + length given
 
-  pub conversed_first : (s : S) (k : K) (network : Tables) (line : List ℕ) (refused : Bool) → Stands network line refused [] → network.next ≡ 1 → Conversed s k s k network line refused input_limit
+  pub conversed_first : (s : S) (k : K) (network : Tables) (line : List ℕ) (refused : Bool) → IsStateAfter network line refused [] → network.next ≡ 1 → Conversed s k s k network line refused input_limit
   conversed_first s k network line refused stands first = record {
     given = [];
-    went = record { calls = no_call; gave = nothing_given (left s); wrote = nothing_appended (taken k); source_quiet = refl; sink_quiet = refl };
+    calls = no_call;
+    gave = gave_nothing (source_state s);
+    took = took_nothing (sink_state k);
+    source_quiet = refl;
+    sink_quiet = refl;
     stands = stands;
     limited = refl;
     numbered = omega (arith, first);
   }
 
   module _ (s : S) (k : K) (t : S) (l : K) (network : Tables) (line : List ℕ) (refused : Bool) (room : ℕ) (so_far : Conversed s k t l network line refused room) where
-    pub read_faulted : (u : S) (into : List ℕ) → takes t into (Err (record {})) u → left u ≡ left t → Rose (source_faults t) (source_faults u) → ReadFaulted takes left source_faults puts taken sink_faults s k u l
-    read_faulted u into failed kept rose = record {
-      given = so_far.given;
-      before = t;
-      went = so_far.went;
-      into = into;
-      failed = failed;
-      kept = kept;
-      rose = rw (sym so_far.went.source_quiet) rose;
-      within = omega (arith, so_far.limited);
-    }
+    -- a take may be made
+    ready : (into : List ℕ) → length into ≤ piece_limit → IsReady (at_point t l so_far.given (complete_output so_far.given)) (length into)
+    ready into small = record { small = small; answered = refl }
 
-    module _ (u : S) (into : List ℕ) (n : ℕ) (step : takes t into (Ok n) u) (gave : Consumes (left t) (left u) (take n into)) (quiet : source_faults u ≡ source_faults t) where
-      pub gave_more : Consumes (left s) (left u) (so_far.given ++ take n into)
-      gave_more = given_more _ _ _ _ _ so_far.went.gave gave
+    pub read_faulted : (u : S) (into : List ℕ) → length into ≤ piece_limit → takes t into (Err (record {})) u → (source_state u).left ≡ (source_state t).left → (source_state u).given ≡ (source_state t).given → Rose (source_state t).faults (source_state u).faults → StopsAt s k u l stops.ReadFault
+    read_faulted u into small failed kept amount rose = (
+      so_far.given,
+      complete_output so_far.given,
+      gave_still (source_state s) (source_state t) (source_state u) so_far.given kept amount so_far.gave,
+      so_far.took,
+      (
+        record { rose = rw (sym so_far.source_quiet) rose; quiet = so_far.sink_quiet; within = omega (arith, so_far.limited); whole = refl },
+        record { last = at_point t l so_far.given (complete_output so_far.given); calls = so_far.calls; into = into; ready = ready into small; failed = failed; same = refl },
+      ),
+    )
 
-      -- a piece more was given, and this was put
-      went_more : (m : K) (text : List ℕ) → Wrote puts taken sink_faults l m text → Went takes left source_faults puts taken sink_faults s k u m (so_far.given ++ take n into) (whole_output so_far.given ++ text)
-      went_more m text wrote = record {
-        calls = and_puts (and_take into so_far.went.calls step) wrote.puts;
-        gave = gave_more;
-        wrote = appended_more _ _ _ _ _ so_far.went.wrote wrote.kept;
-        source_quiet = quiet ∙ so_far.went.source_quiet;
-        sink_quiet = wrote.quiet ∙ so_far.went.sink_quiet;
+    -- a piece was run, and its replies were put
+    abbrev Fed : K → K → List ℕ → Tables → List ℕ → Bool → Type 0
+    Fed before after bytes network' line' refused' = IsStateAfter network' line' refused' (so_far.given ++ bytes) × ((text : List ℕ) × IsDue so_far.given bytes text × Wrote puts sink_state before after text)
+
+    -- the program stopped within it
+    abbrev Stopped : K → K → List ℕ → Stop → Type 0
+    Stopped before after bytes stop = (text : List ℕ) × BeginsOutput so_far.given bytes text × StopsWithin (Wrote puts sink_state before after) (PutFailed puts sink_state before after) text stop
+
+    module _ (u : S) (into : List ℕ) (n : ℕ) (step : takes t into (Ok n) u) (gave : Gave (source_state t) (source_state u) (take n into)) (quiet : (source_state u).faults ≡ (source_state t).faults) (small : length into ≤ piece_limit) where
+      gave_in_all : Gave (source_state s) (source_state u) (so_far.given ++ take n into)
+      gave_in_all = gave_more _ _ _ so_far.given (take n into) so_far.gave gave
+
+      -- the calls with this take
+      taken_calls : Calls takes puts (start_at s k) (at_point u l (so_far.given ++ take n into) (complete_output so_far.given))
+      taken_calls = and_take into so_far.calls (ready into small) step
+
+      -- all of the piece was run
+      pub conversed_more : (m : K) (network' : Tables) (line' : List ℕ) (refused' : Bool) → n ≤ room → length (take n into) ≡ n → network'.next ≤ network.next + n → Fed l m (take n into) network' line' refused' → Conversed s k u m network' line' refused' (room - n)
+      conversed_more m network' line' refused' fits long next (stands, (text, due, wrote)) = record {
+        given = so_far.given ++ take n into;
+        calls = subst (λ w. Calls takes puts (start_at s k) (at_point u m (so_far.given ++ take n into) w)) (sym due) (and_puts text taken_calls wrote.puts);
+        gave = gave_in_all;
+        took = subst (λ w. Took (sink_state k) (sink_state m) w) (sym due) (took_more _ _ _ (complete_output so_far.given) text so_far.took wrote.took);
+        source_quiet = quiet ∙ so_far.source_quiet;
+        sink_quiet = wrote.quiet ∙ so_far.sink_quiet;
+        stands = stands;
+        limited = omega (arith, so_far.limited, length-append so_far.given (take n into), long);
+        numbered = omega (arith, so_far.numbered, next, length-append so_far.given (take n into), long);
       }
 
-      -- all of the piece was fed
-      pub conversed_more : (m : K) (network' : Tables) (line' : List ℕ) (refused' : Bool) → n ≤ room → length (take n into) ≡ n → network'.next ≤ network.next + n → Fed puts taken sink_faults l m so_far.given (take n into) [] network' line' refused' → Conversed s k u m network' line' refused' (room - n)
-      conversed_more m network' line' refused' fits long next fed =
-          let all : fed.done ≡ take n into = sym (fed.whole ∙ append-nil fed.done) in
-          record {
-            given = so_far.given ++ take n into;
-            went = subst (λ w. Went takes left source_faults puts taken sink_faults s k u m (so_far.given ++ take n into) w) (sym fed.due ∙ ap (λ b. whole_output (so_far.given ++ b)) all) (went_more m fed.text fed.wrote);
-            stands = rw (sym all) fed.stands;
-            limited = omega (arith, so_far.limited, length-append so_far.given (take n into), long);
-            numbered = omega (arith, so_far.numbered, next, length-append so_far.given (take n into), long);
-          }
-
       -- a part of a text that is due begins the output
-      begins_within : (bytes rest : List ℕ) → take n into ≡ bytes ++ rest → (text part : List ℕ) → IsPrefix part text → IsPrefix (whole_output so_far.given ++ text) (output (so_far.given ++ bytes ++ rest)) → IsPrefix (whole_output so_far.given ++ part) (output (so_far.given ++ take n into))
-      begins_within bytes rest cut text part (behind, part_of) (more, whole) = (
-        behind ++ more,
-        ap output (ap (λ b. so_far.given ++ b) cut ∙ sym (append_assoc so_far.given bytes rest)) ∙ whole
-            ∙ ap (λ t. (whole_output so_far.given ++ t) ++ more) part_of
-            ∙ ap (λ t. t ++ more) (sym (append_assoc (whole_output so_far.given) part behind))
-            ∙ append_assoc (whole_output so_far.given ++ part) behind more,
+      begins_within : (bytes rest after : List ℕ) → take n into ≡ bytes ++ rest → (text part : List ℕ) → IsPrefix part text → IsPrefix (complete_output so_far.given ++ text) (output (so_far.given ++ bytes ++ (rest ++ after))) → IsPrefix (complete_output so_far.given ++ part) (output ((so_far.given ++ take n into) ++ after))
+      begins_within bytes rest after cut text part (after_it, part_of) (more, whole) = (
+        after_it ++ more,
+        ap output (append_assoc so_far.given (take n into) after ∙ ap (λ b. so_far.given ++ (b ++ after)) cut ∙ ap (λ b. so_far.given ++ b) (append_assoc bytes rest after)) ∙ sym (ap output (append_assoc so_far.given bytes (rest ++ after))) ∙ whole
+            ∙ ap (λ t. (complete_output so_far.given ++ t) ++ more) part_of
+            ∙ ap (λ t. t ++ more) (sym (append_assoc (complete_output so_far.given) part after_it))
+            ∙ append_assoc (complete_output so_far.given ++ part) after_it more,
       )
 
       -- what is within the limit of a piece
-      pub shorter : room ≤ n → take room (take n into) ≡ take room into
+      shorter : room ≤ n → take room (take n into) ≡ take room into
       shorter fits = take-take room n into fits
 
       pub parted : room ≤ n → take n into ≡ take room into ++ drop room (take n into)
       parted fits = sym (take-append-drop room (take n into)) ∙ ap (λ front. front ++ drop room (take n into)) (shorter fits)
 
-      -- stopped within a piece
-      pub stopped_within : (m : K) (bytes rest : List ℕ) (stop : Stop) → take n into ≡ bytes ++ rest → Stopped puts taken sink_faults l m so_far.given bytes stop → StopEnds takes left source_faults puts taken sink_faults s k u m stop
-      stopped_within m bytes rest stops.WriteFault cut stopped =
-          let failed = stopped.stops.2 in
-          record {
-            given = so_far.given ++ take n into;
-            gave = gave_more;
-            before = failed.before;
-            calls = and_puts (and_take into so_far.went.calls step) failed.puts;
-            offered = failed.offered;
-            failed = failed.failed;
-            part = whole_output so_far.given ++ stopped.stops.0;
-            begins = begins_within bytes rest cut stopped.text stopped.stops.0 stopped.stops.1 (stopped.due rest);
-            wrote = appended_more _ _ _ _ _ so_far.went.wrote failed.kept;
-            rose = rw (sym so_far.went.sink_quiet) failed.rose;
-          }
-      stopped_within m bytes rest stops.OutOfMemory cut stopped = record {
-        given = so_far.given ++ take n into;
-        part = whole_output so_far.given ++ stopped.stops.0;
-        begins = begins_within bytes rest cut stopped.text stopped.stops.0 stopped.stops.1 (stopped.due rest);
-        went = went_more m stopped.stops.0 stopped.stops.2;
-      }
-      stopped_within m bytes rest stops.ReadFault cut stopped = absurd stopped.stops
-      stopped_within m bytes rest stops.InputTooLong cut stopped = absurd stopped.stops
+      -- a put failed after a part, or memory ran out
+      put_failed : (m : K) (given part : List ℕ) → Calls takes puts (start_at s k) (at_point u l given (complete_output so_far.given)) → Gave (source_state s) (source_state u) given
+          → IsPrefix (complete_output so_far.given ++ part) (output (given ++ told_left (source_state u).left)) → PutFailed puts sink_state l m part → StopsAt s k u m stops.WriteFault
+      put_failed m given part calls gave begins failed = (
+        given,
+        complete_output so_far.given ++ part,
+        gave,
+        took_more _ _ _ (complete_output so_far.given) part so_far.took failed.took,
+        (
+          record { rose = rw (sym so_far.sink_quiet) failed.rose; begins = begins },
+          record { last = at_point u failed.before given (complete_output so_far.given ++ part); calls = and_puts part calls failed.puts; offered = failed.offered; failed = failed.failed; same = refl },
+        ),
+      )
 
-      -- the piece ends beyond the limit
-      pub too_long : (m : K) (network' : Tables) (line' : List ℕ) (refused' : Bool) → room < n → length (take n into) ≡ n → Fed puts taken sink_faults l m so_far.given (take room into) [] network' line' refused' → TooLong takes left source_faults puts taken sink_faults s k u m
-      too_long m network' line' refused' beyond long fed =
-          let all : fed.done ≡ take room (take n into) = sym (fed.whole ∙ append-nil fed.done) ∙ sym (shorter (omega arith)) in
-          let cut : take input_limit (so_far.given ++ take n into) ≡ so_far.given ++ take room (take n into) =
-          ap (λ i. take i (so_far.given ++ take n into)) (sym so_far.limited) ∙ take-append-add so_far.given (take n into) room in
-          record {
-            given = so_far.given ++ take n into;
-            beyond = omega (arith, so_far.limited, length-append so_far.given (take n into), long);
-            went = subst (λ w. Went takes left source_faults puts taken sink_faults s k u m (so_far.given ++ take n into) w) (sym fed.due ∙ ap (λ b. whole_output (so_far.given ++ b)) all ∙ ap whole_output (sym cut)) (went_more m fed.text fed.wrote);
-          }
+      no_memory : (m : K) (given part : List ℕ) → Calls takes puts (start_at s k) (at_point u l given (complete_output so_far.given)) → Gave (source_state s) (source_state u) given
+          → IsPrefix (complete_output so_far.given ++ part) (output (given ++ told_left (source_state u).left)) → Wrote puts sink_state l m part → StopsAt s k u m stops.OutOfMemory
+      no_memory m given part calls gave begins wrote = (
+        given,
+        complete_output so_far.given ++ part,
+        gave,
+        took_more _ _ _ (complete_output so_far.given) part so_far.took wrote.took,
+        (
+          record { quiet = record { source = quiet ∙ so_far.source_quiet; sink = wrote.quiet ∙ so_far.sink_quiet }; begins = begins },
+          and_puts part calls wrote.puts,
+        ),
+      )
+
+      -- stopped within a piece
+      pub stopped_within : (m : K) (bytes rest : List ℕ) (stop : Stop) → take n into ≡ bytes ++ rest → Stopped l m bytes stop → StopsAt s k u m stop
+      stopped_within m bytes rest stops.WriteFault cut (text, due, (part, begins, failed)) =
+          put_failed m _ part taken_calls gave_in_all (begins_within bytes rest _ cut text part begins (due (rest ++ told_left (source_state u).left))) failed
+      stopped_within m bytes rest stops.OutOfMemory cut (text, due, (part, begins, wrote)) =
+          no_memory m _ part taken_calls gave_in_all (begins_within bytes rest _ cut text part begins (due (rest ++ told_left (source_state u).left))) wrote
+      stopped_within m bytes rest stops.ReadFault cut (text, due, none) = absurd none
+      stopped_within m bytes rest stops.InputTooLong cut (text, due, none) = absurd none
+
+      -- the piece ends after the limit
+      pub too_long : (m : K) (network' : Tables) (line' : List ℕ) (refused' : Bool) → room < n → length (take n into) ≡ n → Fed l m (take room into) network' line' refused' → StopsAt s k u m stops.InputTooLong
+      too_long m network' line' refused' over long (stands, (text, due, wrote)) =
+          let cut : take input_limit (so_far.given ++ take n into) ≡ so_far.given ++ take room into =
+          ap (λ i. take i (so_far.given ++ take n into)) (sym so_far.limited) ∙ take-append-add so_far.given (take n into) room ∙ ap (λ b. so_far.given ++ b) (shorter (omega arith)) in (
+            so_far.given ++ take n into,
+            complete_output so_far.given ++ text,
+            gave_in_all,
+            took_more _ _ _ (complete_output so_far.given) text so_far.took wrote.took,
+            (
+              record {
+                quiet = record { source = quiet ∙ so_far.source_quiet; sink = wrote.quiet ∙ so_far.sink_quiet };
+                over = omega (arith, so_far.limited, length-append so_far.given (take n into), long);
+                whole = sym due ∙ ap complete_output (sym cut);
+              },
+              and_puts text taken_calls wrote.puts,
+            ),
+          )
 
       -- a take that gave nothing
-      gave_none : n ≡ 0 → Consumes (left s) (left u) so_far.given
-      gave_none none = subst (λ g. Consumes (left s) (left u) g) (ap (λ i. so_far.given ++ take i into) none ∙ append-nil so_far.given) gave_more
+      none_more : n ≡ 0 → so_far.given ++ take n into ≡ so_far.given
+      none_more none = ap (λ i. so_far.given ++ take i into) none ∙ append-nil so_far.given
+
+      gave_none : n ≡ 0 → Gave (source_state s) (source_state u) so_far.given
+      gave_none none = subst (λ g. Gave (source_state s) (source_state u) g) (none_more none) gave_in_all
+
+      calls_none : n ≡ 0 → Calls takes puts (start_at s k) (at_point u l so_far.given (complete_output so_far.given))
+      calls_none none = subst (λ g. Calls takes puts (start_at s k) (at_point u l g (complete_output so_far.given))) (none_more none) taken_calls
 
       -- the source is at its end
-      pub finished : (m : K) → n ≡ 0 → IsAtEnd (left u) → Wrote puts taken sink_faults l m (reply network line).text → Finished takes left source_faults puts taken sink_faults s k u m (refused || (reply network line).refused)
-      finished m none at_end wrote = record {
-        given = so_far.given;
-        went = record {
-          calls = and_puts (and_take into so_far.went.calls step) wrote.puts;
-          gave = gave_none none;
-          wrote = subst (λ w. Appends (taken k) (taken m) w) (sym (written_end network line refused so_far.given so_far.stands)) (appended_more _ _ _ _ _ so_far.went.wrote wrote.kept);
-          source_quiet = quiet ∙ so_far.went.source_quiet;
-          sink_quiet = wrote.quiet ∙ so_far.went.sink_quiet;
-        };
-        at_end = at_end;
-        within = omega (arith, so_far.limited);
-        refused_is = sym (refused_end network line refused so_far.given so_far.stands);
-      }
+      pub finished : (m : K) → n ≡ 0 → IsAtEnd (source_state u).left → Wrote puts sink_state l m (reply network line).text → FinishedAt s k u m (refused || (reply network line).refused)
+      finished m none at_end wrote = (
+        so_far.given,
+        complete_output so_far.given ++ (reply network line).text,
+        gave_none none,
+        took_more _ _ _ (complete_output so_far.given) (reply network line).text so_far.took wrote.took,
+        (
+          record {
+            quiet = record { source = quiet ∙ so_far.source_quiet; sink = wrote.quiet ∙ so_far.sink_quiet };
+            at_end = at_end;
+            within = omega (arith, so_far.limited);
+            whole = sym (written_end network line refused so_far.given so_far.stands);
+            refused_is = sym (refused_end network line refused so_far.given so_far.stands);
+          },
+          record {
+            last = at_point t l so_far.given (complete_output so_far.given);
+            calls = so_far.calls;
+            into = into;
+            ready = ready into small;
+            ended = subst (λ i. takes t into (Ok i) u) none step;
+            text = (reply network line).text;
+            puts = wrote.puts;
+            given = refl;
+            written = refl;
+          },
+        ),
+      )
 
       -- a part of the last reply begins the output
-      begins_at_end : (part : List ℕ) → IsPrefix part (reply network line).text → IsPrefix (whole_output so_far.given ++ part) (output so_far.given)
-      begins_at_end part (behind, part_of) =
-          (behind, written_end network line refused so_far.given so_far.stands ∙ ap (λ t. whole_output so_far.given ++ t) part_of ∙ sym (append_assoc (whole_output so_far.given) part behind))
+      begins_at_end : IsAtEnd (source_state u).left → (part : List ℕ) → IsPrefix part (reply network line).text → IsPrefix (complete_output so_far.given ++ part) (output (so_far.given ++ told_left (source_state u).left))
+      begins_at_end at_end part (after_it, part_of) = (
+        after_it,
+        ap output (ap (λ b. so_far.given ++ b) (none_left (source_state u).left at_end) ∙ append-nil so_far.given)
+            ∙ written_end network line refused so_far.given so_far.stands ∙ ap (λ t. complete_output so_far.given ++ t) part_of
+            ∙ sym (append_assoc (complete_output so_far.given) part after_it),
+      )
 
-      pub stopped_at_end : (m : K) (stop : Stop) → n ≡ 0 → StopsWithin puts taken sink_faults l m (reply network line).text stop → StopEnds takes left source_faults puts taken sink_faults s k u m stop
-      stopped_at_end m stops.WriteFault none (part, begins, failed) = record {
-        given = so_far.given;
-        gave = gave_none none;
-        before = failed.before;
-        calls = and_puts (and_take into so_far.went.calls step) failed.puts;
-        offered = failed.offered;
-        failed = failed.failed;
-        part = whole_output so_far.given ++ part;
-        begins = begins_at_end part begins;
-        wrote = appended_more _ _ _ _ _ so_far.went.wrote failed.kept;
-        rose = rw (sym so_far.went.sink_quiet) failed.rose;
-      }
-      stopped_at_end m stops.OutOfMemory none (part, begins, wrote) = record {
-        given = so_far.given;
-        part = whole_output so_far.given ++ part;
-        begins = begins_at_end part begins;
-        went = record {
-          calls = and_puts (and_take into so_far.went.calls step) wrote.puts;
-          gave = gave_none none;
-          wrote = appended_more _ _ _ _ _ so_far.went.wrote wrote.kept;
-          source_quiet = quiet ∙ so_far.went.source_quiet;
-          sink_quiet = wrote.quiet ∙ so_far.went.sink_quiet;
-        };
-      }
-      stopped_at_end m stops.ReadFault none stops = absurd stops
-      stopped_at_end m stops.InputTooLong none stops = absurd stops
+      pub stopped_at_end : (m : K) (stop : Stop) → n ≡ 0 → IsAtEnd (source_state u).left → StopsWithin (Wrote puts sink_state l m) (PutFailed puts sink_state l m) (reply network line).text stop → StopsAt s k u m stop
+      stopped_at_end m stops.WriteFault none at_end (part, begins, failed) = put_failed m so_far.given part (calls_none none) (gave_none none) (begins_at_end at_end part begins) failed
+      stopped_at_end m stops.OutOfMemory none at_end (part, begins, wrote) = no_memory m so_far.given part (calls_none none) (gave_none none) (begins_at_end at_end part begins) wrote
+      stopped_at_end m stops.ReadFault none at_end stops = absurd stops
+      stopped_at_end m stops.InputTooLong none at_end stops = absurd stops

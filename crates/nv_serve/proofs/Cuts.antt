@@ -8,24 +8,24 @@ use Rattle.std.proofs.lemmas.List.Splits.{slice_split_none}
 use Rattle.std.proofs.Math.Seq.{drop-cons}
 use Rattle.memchr.specs.Find.{Nowhere, NoneBefore, Passes, is_byte}
 use Rattle.nv_serve.specs.Output.{is_newline}
-use Rattle.nv_serve.specs.Standing.{EndsNoLine, CutsLine}
+use Rattle.nv_serve.specs.inner.StateAfter.{EndsNoLine, CutsLine}
 
 -- bytes among which is no newline
 pub ends_none : (bytes : List ℕ) → Nowhere (Passes (is_byte 10) bytes) 0 (length bytes) → EndsNoLine bytes
 ends_none bytes nowhere = slice_split_none is_newline bytes (All-from_get_or (λ x. is_newline x ≡ false) bytes 0 (λ i below. false_from_ne_true _ (nowhere i zero-le below)))
 
--- the first newline, and the rest behind it
-pub cuts : (bytes line behind rest : List ℕ) (at : ℕ) → NoneBefore (Passes (is_byte 10) bytes) 0 (length bytes) at → Passes (is_byte 10) bytes at → line ≡ take at bytes → behind ≡ drop at bytes → rest ≡ drop 1 behind → CutsLine bytes line rest
-cuts bytes line behind rest at none here line_is behind_is rest_is =
+-- the first newline, and the rest after it
+pub cuts : (bytes line after rest : List ℕ) (at : ℕ) → NoneBefore (Passes (is_byte 10) bytes) 0 (length bytes) at → Passes (is_byte 10) bytes at → line ≡ take at bytes → after ≡ drop at bytes → rest ≡ drop 1 after → CutsLine bytes line rest
+cuts bytes line after rest at none here line_is after_is rest_is =
     let inside : at < length bytes = none.high in
     let is_newline_at : get_or bytes at 0 ≡ 10 = grind (arith, nat_tests, here) in
-    let behind_cons : drop at bytes ≡ 10 ∷ drop (suc at) bytes = drop-cons bytes at 0 inside ∙ ap (λ x. x ∷ drop (suc at) bytes) is_newline_at in
+    let after_cons : drop at bytes ≡ 10 ∷ drop (suc at) bytes = drop-cons bytes at 0 inside ∙ ap (λ x. x ∷ drop (suc at) bytes) is_newline_at in
     let front_nowhere : Nowhere (Passes (is_byte 10) (take at bytes)) 0 (length (take at bytes)) =
     λ i low below passes. let short : length (take at bytes) ≡ at = length-take-le at bytes (omega arith) in
     none.before i zero-le (omega (arith, short)) (sym (ap (λ x. eqb x 10) (get_or-take at bytes i 0 (omega (arith, short)))) ∙ passes) in
     record {
       whole =
           sym (take-append-drop at bytes) ∙ ap (λ x. x ++ drop at bytes) (sym line_is)
-          ∙ ap (λ x. line ++ x) (behind_cons ∙ ap (λ x. 10 ∷ x) (sym (rest_is ∙ ap (drop 1) (behind_is ∙ behind_cons))));
+          ∙ ap (λ x. line ++ x) (after_cons ∙ ap (λ x. 10 ∷ x) (sym (rest_is ∙ ap (drop 1) (after_is ∙ after_cons))));
       ends_no_line = rw line_is (ends_none (take at bytes) front_nowhere);
     }

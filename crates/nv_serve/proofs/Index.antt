@@ -11,7 +11,7 @@ use Rattle.std.proofs.lemmas.Slice.Eq.{bytes_eq-Decides}
 use Rattle.nv_base.specs.declared.object.ObjId.{ObjId}
 use Rattle.nv_serve.specs.declared.port.Port.{Port}
 use Rattle.nv_serve.specs.Network.{Switch, switch_named, port_named, addressed_ports}
-use Rattle.nv_serve.specs.Numbered.{port_place, port_numbers, switch_numbers, AreOnSwitches}
+use Rattle.nv_serve.specs.inner.Numbered.{port_place, port_numbers, switch_numbers, AreOnSwitches}
 
 -- a text is not two others that differ
 differ : (a b q : List ℕ) → bytes_eq a b ≡ false → bytes_eq a q ≡ true → bytes_eq b q ≡ false
@@ -87,9 +87,9 @@ pub place_is : (ports : List Port) (name : List ℕ) (place : ℕ) → port_plac
 place_is [] name place h = cc
 place_is (port ∷ ports) name place h = step (λ q. place_is ports name q) (bytes_eq port.name name) refl h
   where
-    behind : ((q : ℕ) → port_place ports name ≡ Some q → At ports name q) → (o : Option ℕ) → bytes_eq port.name name ≡ false → port_place ports name ≡ o → option_map suc o ≡ Some place → At (port ∷ ports) name place
-    behind more None other is e = absurd (none-some place e)
-    behind more (Some q) other is e =
+    following : ((q : ℕ) → port_place ports name ≡ Some q → At ports name q) → (o : Option ℕ) → bytes_eq port.name name ≡ false → port_place ports name ≡ o → option_map suc o ≡ Some place → At (port ∷ ports) name place
+    following more None other is e = absurd (none-some place e)
+    following more (Some q) other is e =
         let inner = more q is in
         rw (← same_Some (suc q) place e) (record {
           inside = omega (arith, inner.inside);
@@ -99,7 +99,7 @@ place_is (port ∷ ports) name place h = step (λ q. place_is ports name q) (byt
 
     step : ((q : ℕ) → port_place ports name ≡ Some q → At ports name q) → (b : Bool) → bytes_eq port.name name ≡ b → cond b (Some 0) (option_map suc (port_place ports name)) ≡ Some place → At (port ∷ ports) name place
     step more true is e = rw (← same_Some 0 place e) (record { inside = omega arith; is = λ d. rw is refl; addressed = λ d mac. rw is refl })
-    step more false is e = behind more (port_place ports name) is refl e
+    step more false is e = following more (port_place ports name) is refl e
 
 -- an address changes no place
 pub place_addressed : (ports : List Port) (name : List ℕ) (mac : ℕ) (other : List ℕ) → port_place (addressed_ports name mac ports) other ≡ port_place ports other
@@ -142,13 +142,13 @@ pub no_place : (ports : List Port) (name : List ℕ) → port_place ports name �
 no_place [] name h = refl
 no_place (port ∷ ports) name h = step (no_place ports name) (bytes_eq port.name name) refl h
   where
-    behind : (port_place ports name ≡ None → port_named ports name ≡ None) → (o : Option ℕ) → port_place ports name ≡ o → option_map suc o ≡ None → port_named ports name ≡ None
-    behind more None is e = more is
-    behind more (Some q) is e = cc
+    following : (port_place ports name ≡ None → port_named ports name ≡ None) → (o : Option ℕ) → port_place ports name ≡ o → option_map suc o ≡ None → port_named ports name ≡ None
+    following more None is e = more is
+    following more (Some q) is e = cc
 
     step : (port_place ports name ≡ None → port_named ports name ≡ None) → (b : Bool) → bytes_eq port.name name ≡ b → cond b (Some 0) (option_map suc (port_place ports name)) ≡ None → port_named (port ∷ ports) name ≡ None
     step more true is e = cc
-    step more false is e = rw is (behind more (port_place ports name) refl e)
+    step more false is e = rw is (following more (port_place ports name) refl e)
 
 -- the port of a name is on one of the switches
 pub port_on : (numbers : List ℕ) (ports : List Port) (name : List ℕ) (port : Port) → AreOnSwitches numbers ports → port_named ports name ≡ Some port → Contains numbers port.switch.0

@@ -1,13 +1,11 @@
-pub mod Blanks
+pub mod Separators
 pub mod Cuts
 pub mod Index
 pub mod Writing
 pub mod Splits
-pub mod Standing
-pub mod Feeding
+pub mod StateAfter
+pub mod Pieces
 pub mod Conversing
-pub mod Completeness
-pub mod Words
 pub mod Numbers
 pub mod Search
 pub mod Selected
@@ -16,6 +14,7 @@ pub mod Pipelines
 pub mod Refinement
 pub mod Reached
 pub mod Traced
+pub mod Endings
 pub mod Built
 pub mod SwitchRows
 pub mod PortRows

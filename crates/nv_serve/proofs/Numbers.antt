@@ -6,9 +6,9 @@ use Rattle.std.proofs.lemmas.List.{map-append, take-append-drop}
 use Rattle.std.proofs.lemmas.List.Elements.{Contains-append_left}
 use Rattle.nv_serve.specs.declared.port.Port.{Port}
 use Rattle.nv_serve.specs.Network.{Switch}
-use Rattle.nv_serve.specs.Numbered.{IsRising, AreNumbers, AreOnSwitches, IsNumbered, switch_numbers, port_numbers}
+use Rattle.nv_serve.specs.inner.Numbered.{IsRising, AreNumbers, AreOnSwitches, IsNumbered, switch_numbers, port_numbers}
 
--- every element of two lists, one behind the other
+-- every element of two lists, one after the other
 pub every_append : {X : Type 0} (P : X → Type 0) (xs ys : List X) → AllByRecursion P xs → AllByRecursion P ys → AllByRecursion P (xs ++ ys)
 every_append P [] ys a b = b
 every_append P (x ∷ xs) ys a b = (a.0, every_append P xs ys a.1 b)

@@ -6,9 +6,9 @@ use Rattle.nv_serve.specs.declared.line.Line.{Line}
 use Rattle.nv_serve.specs.declared.line.Line.TheVariants.{Nothing, AddSwitch, AddPort, SetAddress, ListFlows, Frame, Refused}
 use Rattle.nv_serve.specs.Line.{said}
 use Rattle.nv_serve.specs.Network.{Tables, empty_network, switch_named, port_named, with_switch, with_port, with_address}
-use Rattle.nv_serve.specs.Numbered.{IsNumbered, AreNumbers, switch_numbers}
+use Rattle.nv_serve.specs.inner.Numbered.{IsNumbered, AreNumbers, switch_numbers}
 use Rattle.nv_serve.specs.Reply.{reply, reply_to, where_named, where_new, accept, network_after}
-use Rattle.nv_serve.specs.Walk.{IsRefined}
+use Rattle.nv_serve.specs.inner.Refined.{IsRefined}
 use Rattle.nv_serve.proofs.Index.{switch_there, numbers_addressed, on_switches_addressed}
 use Rattle.nv_serve.proofs.Numbers.{switch_numbered, port_numbered}
 use Rattle.nv_serve.proofs.Refinement.{refinement}
@@ -19,8 +19,8 @@ Holds tables = IsNumbered tables.switches tables.ports tables.next
 
 -- a new object, if there is none of the name
 new_holds : {X : Type 0} (tables : Tables) (name : List ℕ) (there : Option X) (after : Tables) → Holds tables → Holds after → Holds (where_new tables name there after).after
-new_holds tables name None after before behind = behind
-new_holds tables name (Some object) after before behind = before
+new_holds tables name None after before following = following
+new_holds tables name (Some object) after before following = before
 
 port_holds : (tables : Tables) (number : ObjId) (name : List ℕ) → Contains (switch_numbers tables.switches) number.0 → Holds tables → Holds (with_port tables number name)
 port_holds tables number name on before = port_numbered tables.switches tables.ports tables.next _ refl on before
@@ -40,8 +40,8 @@ add_port_holds tables switch name (Some number) is before =
     new_holds tables name (port_named tables.ports name) (with_port tables number name) before (port_holds tables number name (switch_there tables.switches switch number is) before)
 
 named_holds : {X : Type 0} (tables : Tables) (name : List ℕ) (there : Option X) (lines : X → List ℕ) (after : Tables) → Holds tables → Holds after → Holds (where_named tables name there (λ object. accept (lines object) after)).after
-named_holds tables name None lines after before behind = before
-named_holds tables name (Some object) lines after before behind = behind
+named_holds tables name None lines after before following = before
+named_holds tables name (Some object) lines after before following = following
 
 -- what a line leaves is numbered
 said_holds : (tables : Tables) (line : Line) → Holds tables → Holds (reply_to tables line).after

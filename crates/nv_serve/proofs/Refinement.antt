@@ -1,4 +1,4 @@
--- A switch's rows do with a frame for one station what the switch means.
+-- A switch's rows do with a frame for a unicast MAC what the switch means.
 use Rattle.std.proofs.Common.{◌≡◌, ℕ, Bool, true, false, not, cond, List, [], ◌∷◌, ◌++◌, map, eqb, ap, refl, ◌∙◌, subst}
 use Rattle.std.specs.Prelude.{◌&&◌, Option, Some, None}
 use Rattle.std.specs.List.{Contains}
@@ -11,13 +11,13 @@ use Rattle.sb_rows.specs.Match.{is_multicast}
 use Rattle.sb_rows.specs.declared.stage.Pipeline.TheVariants.{Ingress, Egress}
 use Rattle.tr_stage.specs.declared.outcome.Cause.TheVariants.{SamePort}
 use Rattle.tr_stage.specs.declared.outcome.Hit.{Hit}
-use Rattle.tr_stage.specs.Pipe.{Passage, pipe, bound_for}
+use Rattle.tr_stage.specs.Machine.{PipelineRun, run_pipeline, bound_for}
 use Rattle.nv_serve.specs.declared.event.Event.{Event}
 use Rattle.nv_serve.specs.declared.event.Event.TheVariants as events
 use Rattle.nv_serve.specs.declared.port.Port.{Port}
 use Rattle.nv_serve.specs.Network.{Switch, Tables}
-use Rattle.nv_serve.specs.Numbered.{IsNumbered, switch_numbers}
-use Rattle.nv_serve.specs.Meaning.{frame_for, port_to, sent_on, meaning}
+use Rattle.nv_serve.specs.inner.Numbered.{IsNumbered, switch_numbers}
+use Rattle.nv_serve.specs.SwitchMeaning.{frame_for, port_to, sent_on, meaning}
 use Rattle.nv_serve.specs.FullBuild.{full_build}
 use Rattle.nv_serve.specs.Walk.{arriving, with_hits, delivered, leaving, arrived, machine, is_hit, without_hits}
 use Rattle.nv_serve.proofs.Selected.{Contains-from_map}
@@ -31,8 +31,8 @@ no_hits : (hits : List Hit) → without_hits (map events.Hit hits) ≡ []
 no_hits [] = refl
 no_hits (hit ∷ hits) = no_hits hits
 
--- of a way's events, those that are no hits are those behind its hits
-pub without_hits-with_hits : (way : Passage) (more : List Event) → without_hits (with_hits way more) ≡ without_hits more
+-- of a way's events, those that are no hits are those after its hits
+pub without_hits-with_hits : (way : PipelineRun) (more : List Event) → without_hits (with_hits way more) ≡ without_hits more
 without_hits-with_hits way more =
     filter-append (λ event. not (is_hit event)) (map events.Hit way.hits) more
     ∙ ap (λ front. front ++ without_hits more) (no_hits way.hits)
@@ -60,7 +60,7 @@ module _ (tables : Tables) (arrival : Port) (mac : ℕ) (numbered : IsNumbered t
     left : (out : ObjId) → without_hits (leaving rows switch.0 (bound_for out.0 (arriving arrival.id mac))) ≡ events.Output out (frame_for mac) ∷ []
     left out =
         let packet = bound_for out.0 (arriving arrival.id mac) in
-        without_hits-with_hits (pipe rows switch.0 Egress packet) (delivered switch.0 (pipe rows switch.0 Egress packet).ending)
+        without_hits-with_hits (run_pipeline rows switch.0 Egress packet) (delivered switch.0 (run_pipeline rows switch.0 Egress packet).ending)
         ∙ ap (λ ending. without_hits (delivered switch.0 ending)) (egress-one tables switch among packet to_one)
         ∙ ap (λ sent. events.Output out sent ∷ []) (sent_headers arrival.id out.0 mac)
 
@@ -71,8 +71,8 @@ module _ (tables : Tables) (arrival : Port) (mac : ℕ) (numbered : IsNumbered t
     back_or_out port false is = left port.id
 
     -- the hits of ingress left out
-    on_switch : without_hits (machine rows switch.0 arrival.id mac) ≡ without_hits (arrived rows switch.0 (pipe rows switch.0 Ingress (arriving arrival.id mac)).ending)
-    on_switch = without_hits-with_hits (pipe rows switch.0 Ingress (arriving arrival.id mac)) (arrived rows switch.0 (pipe rows switch.0 Ingress (arriving arrival.id mac)).ending)
+    on_switch : without_hits (machine rows switch.0 arrival.id mac) ≡ without_hits (arrived rows switch.0 (run_pipeline rows switch.0 Ingress (arriving arrival.id mac)).ending)
+    on_switch = without_hits-with_hits (run_pipeline rows switch.0 Ingress (arriving arrival.id mac)) (arrived rows switch.0 (run_pipeline rows switch.0 Ingress (arriving arrival.id mac)).ending)
 
     -- a frame for an address that no port has is dropped, and another goes back or out
     by_port : (found : Option Port) → port_to tables.ports switch.0 mac ≡ found → without_hits (machine rows switch.0 arrival.id mac) ≡ sent_on (record arrival { switch = switch.0 }) mac found ∷ []
@@ -84,7 +84,7 @@ module _ (tables : Tables) (arrival : Port) (mac : ℕ) (numbered : IsNumbered t
         ∙ ap (λ ending. without_hits (arrived rows switch.0 ending)) (ingress-port tables switch among (arriving arrival.id mac) refl mac refl to_one numbered.of_ports.rise port found)
         ∙ back_or_out port (eqb port.id.0 arrival.id.0) refl
 
--- A frame for one station that arrives at a port: what the rows of the full build do with it is what the switch means.
+-- A frame for a unicast MAC that arrives at a port: what the rows of the full build do with it is what the switch means.
 pub refinement : (tables : Tables) (arrival : Port) (mac : ℕ) → IsNumbered tables.switches tables.ports tables.next → Contains tables.ports arrival → is_multicast mac ≡ false
     → without_hits (machine (full_build tables) arrival.switch arrival.id mac) ≡ meaning tables.ports arrival mac
 refinement tables arrival mac numbered there to_one =

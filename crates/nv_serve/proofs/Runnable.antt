@@ -13,11 +13,11 @@ use Rattle.sb_rows.specs.declared.stage.Stage.{Stage}
 use Rattle.sb_rows.specs.declared.stage.Stage.TheVariants.{LsInCheckPortSec, LsInPreAcl, LsInPreStateful, LsInAclEval, LsInLb, LsInStateful, LsInArpRsp, LsInL2Lkup, LsInL2Unknown, LsOutPreAcl, LsOutPreStateful, LsOutAclEval, LsOutStateful, LsOutCheckPortSec}
 use Rattle.sb_rows.specs.Row.{put_rows}
 use Rattle.sb_rows.proofs.Select.{Contains-put_rows_new}
-use Rattle.tr_stage.specs.Pipe.{IsRunnable, TakesEach, is_of_switch, is_last, cause_at}
+use Rattle.tr_stage.specs.Machine.{IsRunnable, TakesEach, is_of_switch, is_last, cause_at}
 use Rattle.nv_serve.specs.declared.full_build.FixedRow.{FixedRow}
 use Rattle.nv_serve.specs.declared.port.Port.{Port}
 use Rattle.nv_serve.specs.Network.{Switch, Tables}
-use Rattle.nv_serve.specs.Numbered.{IsNumbered, switch_numbers}
+use Rattle.nv_serve.specs.inner.Numbered.{IsNumbered, switch_numbers}
 use Rattle.nv_serve.specs.FullBuild.{fixed_rows, row_on, switch_rows, lookup_row, lookup_rows, port_rows, full_build}
 use Rattle.nv_serve.proofs.Built.{every_put_rows, every_flat_map}
 use Rattle.nv_serve.proofs.Numbers.{every_append}

@@ -4,7 +4,7 @@ use Rattle.std.specs.List.{find, AllWithin}
 use Rattle.std.specs.List.Sorted.{IsNonDecreasingBy}
 use Rattle.std.proofs.lemmas.Bool.Decides.{nat_tests}
 use Rattle.std.proofs.lemmas.List.Sorted.{IsNonDecreasingBy-from_all_adjacent}
-use Rattle.nv_serve.specs.Numbered.{IsRising}
+use Rattle.nv_serve.specs.inner.Numbered.{IsRising}
 
 -- the first element that passes
 pub find_first : {X : Type 0} (p : X → Bool) (xs : List X) (i : ℕ) (d : X) → ((k : ℕ) → k < i → p (get_or xs k d) ≡ false) → i < length xs → p (get_or xs i d) ≡ true → find p xs ≡ Some (get_or xs i d)
@@ -50,4 +50,4 @@ module _ {X : Type 0} (key : X → ℕ) where
           where
             by : (b : Bool) → ltb k i ≡ b → eqb (key (get_or xs k d)) n ≡ false
             by true less = let low = below k d (omega arith) (grind (arith, nat_tests)) in grind (arith, nat_tests)
-            by false at_or_behind = later k d (grind (arith, nat_tests)) inside
+            by false at_or_following = later k d (grind (arith, nat_tests)) inside

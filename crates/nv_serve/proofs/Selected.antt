@@ -41,7 +41,7 @@ one_later x xs y (k, within, is) = (suc k, omega arith, is)
 pub one_of_none : {X : Type 0} (y : X) → Contains [] y → ⊥
 one_of_none y (k, within, is) = absurd (omega arith)
 
--- an element that stands first, by an equation
+-- an element that is first, by an equation
 pub one_first : {X : Type 0} (x : X) (xs : List X) (y : X) → x ≡ y → Contains (x ∷ xs) y
 one_first x xs y is = (0, omega arith, is)
 
@@ -181,7 +181,7 @@ full_build-in_order tables = put_rows-in_order (flat_map switch_rows tables.swit
 
 -- ---- which row a packet meets
 
--- Of rows in order, a packet meets the one that takes it, where each other row of the table that takes it stands
+-- Of rows in order, a packet meets the one that takes it, where each other row of the table that takes it is
 -- after that one.
 pub first_of_takers : (dp : ObjId) (stage : Stage) (packet : Values) (r : Row) (rows : List Row) → IsInRowOrder rows → Contains rows r
     → r.dp ≡ dp → r.stage ≡ stage → holds r.matching packet ≡ true
@@ -256,7 +256,7 @@ table-gives tables dp stage row there in_it = by (full_build-gives tables row th
         }
 
 module _ (tables : Tables) (switch : Switch) (among : Contains tables.switches switch) (stage : Stage) (packet : Values) where
-  -- The fixed row of a stage that takes each packet and stands after the stage's other fixed rows is met, where none
+  -- The fixed row of a stage that takes each packet and is after the stage's other fixed rows is met, where none
   -- of those takes the packet, and no lookup row does.
   pub stage_law : (others : List FixedRow) (fixed : FixedRow) → fixed_at stage ≡ others ++ fixed ∷ [] → fixed.stage ≡ stage → fixed.matching ≡ Any
       → AllByRecursion (λ other. holds other.matching packet ≡ false) others

@@ -1,4 +1,4 @@
--- The parts of one list behind another.
+-- The parts of one list after another.
 use Rattle.std.proofs.Common.{◌≡◌, ◌-◌, Bool, true, false, List, [], ◌∷◌, ◌++◌, length, take, refl, sym, ap, ◌∙◌, cond, arith}
 use Rattle.std.specs.List.{slice_split, onto_first}
 use Rattle.std.proofs.Math.Seq.{take-append_seam}
@@ -33,8 +33,8 @@ module _ {X : Type 0} (p : X → Bool) where
   joined_empty : (more : List (List X)) → HasFirst more → joined ([] ∷ []) more ≡ more
   joined_empty more h = rw h.is refl
 
-  joined_behind : (parts more : List (List X)) → HasFirst parts → joined ([] ∷ parts) more ≡ [] ∷ joined parts more
-  joined_behind parts more h = rw h.is refl
+  joined_following : (parts more : List (List X)) → HasFirst parts → joined ([] ∷ parts) more ≡ [] ∷ joined parts more
+  joined_following parts more h = rw h.is refl
 
   joined_onto : (x : X) (parts more : List (List X)) → HasFirst parts → HasFirst more → joined (onto_first x parts) more ≡ onto_first x (joined parts more)
   joined_onto x [] more h k = rw k.is (absurd (empty h.is))
@@ -45,10 +45,10 @@ module _ {X : Type 0} (p : X → Bool) where
   joined_onto x (part ∷ another ∷ parts) more h k = refl
 
   joined_cond : (b : Bool) (x : X) (parts more : List (List X)) → HasFirst parts → HasFirst more → joined (cond b ([] ∷ parts) (onto_first x parts)) more ≡ cond b ([] ∷ joined parts more) (onto_first x (joined parts more))
-  joined_cond true x parts more h k = joined_behind parts more h
+  joined_cond true x parts more h k = joined_following parts more h
   joined_cond false x parts more h k = joined_onto x parts more h k
 
-  -- the parts of two lists, one behind the other
+  -- the parts of two lists, one after the other
   pub split-append : (xs ys : List X) → slice_split p (xs ++ ys) ≡ joined (slice_split p xs) (slice_split p ys)
   split-append [] ys = sym (joined_empty _ (split_has_first ys))
   split-append (x ∷ xs) ys =

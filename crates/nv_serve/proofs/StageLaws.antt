@@ -1,4 +1,4 @@
--- What a packet for one station meets at each stage of a switch.
+-- What a packet for a unicast MAC meets at each stage of a switch.
 use Rattle.std.proofs.Common.{◌≡◌, ℕ, ◌<◌, Bool, true, false, cond, List, [], ◌∷◌, eqb, sym, ap, refl, ◌∙◌, subst, ◌⊎◌, inl, inr, arith}
 use Rattle.std.specs.Prelude.{Option, Some, None}
 use Rattle.std.specs.declared.cmp.Ordering.TheVariants.{Equal, Greater}
@@ -22,8 +22,8 @@ use Rattle.sb_rows.specs.Match.{is_multicast, holds, select}
 use Rattle.nv_serve.specs.declared.full_build.FixedRow.{FixedRow}
 use Rattle.nv_serve.specs.declared.port.Port.{Port}
 use Rattle.nv_serve.specs.Network.{Switch, Tables}
-use Rattle.nv_serve.specs.Numbered.{IsRising, port_numbers}
-use Rattle.nv_serve.specs.Meaning.{is_its_address, leads_to, port_to}
+use Rattle.nv_serve.specs.inner.Numbered.{IsRising, port_numbers}
+use Rattle.nv_serve.specs.SwitchMeaning.{is_its_address, leads_to, port_to}
 use Rattle.nv_serve.specs.FullBuild.{row_on, lookup_row, full_build}
 use Rattle.nv_serve.proofs.Selected.{one_of, one_of_none, one_first, one_later, fixed_at, IsFixedAt, IsLookupAt, table-gives, full_build-in_order, full_build-lookup, first_of_takers, stage_law}
 
@@ -86,12 +86,12 @@ module _ (tables : Tables) (switch : Switch) (among : Contains tables.switches s
   unfolding stage_place
   at-LsInArpRsp = single_law LsInArpRsp Next refl refl
 
-  -- each packet that comes to the last stage is dropped
+  -- each packet that reaches the last stage is dropped
   pub at-LsInL2Unknown : select switch.0 LsInL2Unknown packet (full_build tables) ≡ Some (row_on switch.0 (last_row LsInL2Unknown Drop))
   unfolding stage_place
   at-LsInL2Unknown = single_law LsInL2Unknown Drop refl refl
 
-  -- a packet whose sender is one station is let in
+  -- a packet whose sender has a unicast MAC is let in
   pub at-LsInCheckPortSec : is_multicast (value packet EthSrc) ≡ false → select switch.0 LsInCheckPortSec packet (full_build tables) ≡ Some (row_on switch.0 (next_row LsInCheckPortSec))
   unfolding stage_place
   at-LsInCheckPortSec from_one = second_law LsInCheckPortSec (record { stage = LsInCheckPortSec; priority = 100; matching = SrcMcast; actions = Drop }) Next refl refl from_one
@@ -114,7 +114,7 @@ module _ (tables : Tables) (switch : Switch) (among : Contains tables.switches s
   unfolding stage_place
   at-LsOutStateful = single_law LsOutStateful Next refl refl
 
-  -- a packet for one station is let out
+  -- a packet for a unicast MAC is let out
   pub at-LsOutCheckPortSec : is_multicast (value packet EthDst) ≡ false → select switch.0 LsOutCheckPortSec packet (full_build tables) ≡ Some (row_on switch.0 (last_row LsOutCheckPortSec Output))
   unfolding stage_place
   at-LsOutCheckPortSec to_one = second_law LsOutCheckPortSec (record { stage = LsOutCheckPortSec; priority = 100; matching = DstMcast; actions = Output }) Output refl refl to_one
@@ -195,12 +195,12 @@ cmp_itself n = grind (arith, nat_tests)
 cmp_above : (a b : ℕ) → b < a → nat_cmp a b ≡ Greater
 cmp_above a b above = grind (arith, nat_tests)
 
--- a lookup row of the table with a higher number stands after another
+-- a lookup row of the table with a higher number is after another
 later_lookup : (a b : Port) (m n : ℕ) → a.switch ≡ b.switch → b.id.0 < a.id.0 → is_gt (row_cmp (lookup_row a m) (lookup_row b n)) ≡ true
 unfolding row_cmp
 later_lookup a b m n same above = rw (same, cmp_itself b.switch.0, cmp_itself (stage_place LsInL2Lkup), cmp_itself 50, cmp_above a.id.0 b.id.0 above) refl
 
--- the last fixed row stands after each lookup row of the table
+-- the last fixed row is after each lookup row of the table
 last_after : (port : Port) (mac : ℕ) → is_gt (row_cmp (row_on port.switch (next_row LsInL2Lkup)) (lookup_row port mac)) ≡ true
 unfolding row_cmp
 last_after port mac = rw (cmp_itself port.switch.0, cmp_itself (stage_place LsInL2Lkup)) refl

@@ -4,10 +4,6 @@ use Rattle.std.specs.Prelude.{◌||◌, ◌==◌, codes}
 use Rattle.std.specs.List.{Contains}
 use Rattle.std.specs.Str.{bytes_eq}
 use Rattle.std.proofs.lemmas.Option.{none-some, same_Some}
-use Rattle.nv_io.specs.declared.sink.SinkFailed.{SinkFailed}
-use Rattle.nv_io.specs.declared.source.SourceFailed.{SourceFailed}
-use Rattle.nv_serve.specs.declared.status.Status.{Status}
-use Rattle.nv_serve.specs.declared.status.Status.TheVariants.{Done, SomeRefused, Usage, ReadFault, WriteFault, InputTooLong, OutOfMemory}
 use Rattle.nv_serve.specs.declared.line.Line.{Line}
 use Rattle.nv_serve.specs.declared.line.Line.TheVariants.{Nothing, AddSwitch, AddPort, SetAddress, ListFlows, Frame, Refused}
 use Rattle.nv_serve.specs.declared.refusal.Refusal.TheVariants.{UnknownCommand, BadName}
@@ -15,19 +11,16 @@ use Rattle.nv_serve.specs.declared.port.Port.{Port}
 use Rattle.nv_base.specs.Mac.{mac_of}
 use Rattle.nv_base.specs.Name.{is_object_name}
 use Rattle.sb_rows.specs.Match.{is_multicast}
-use Rattle.nv_serve.specs.Address.{station, station_of}
+use Rattle.nv_serve.specs.Address.{unicast, unicast_of}
 use Rattle.nv_serve.specs.Line.{words_of, is_comment, are_unquoted, said, said_by, command_of, command_of_one, command_of_two, named, addressed}
 use Rattle.nv_serve.specs.Network.{Tables, empty_network, port_named}
 use Rattle.nv_serve.specs.Reply.{reply, reply_to, network_after}
 use Rattle.nv_serve.specs.Walk.{machine}
 use Rattle.nv_serve.specs.FullBuild.{full_build}
-use Rattle.nv_serve.specs.Output.{output, lines_of}
-use Rattle.nv_serve.specs.Outside.{Moved}
-use Rattle.nv_serve.specs.Run.{IsFinished, Ends}
 use Rattle.nv_serve.specs.Traced.{TellsMeaning, FramesAreMeant}
 use Rattle.nv_serve.proofs.Reached.{each_refined}
 
--- a frame is for one station
+-- a frame is for a unicast MAC
 abbrev IsForOne : Line → Type 0
 IsForOne Nothing = Unit {0}
 IsForOne (AddSwitch name) = Unit {0}
@@ -48,9 +41,9 @@ for_addressed : (word : ℕ) (read : Option ℕ) (line : ℕ → Line) → ((mac
 for_addressed word None line each = tt
 for_addressed word (Some mac) line each = each mac refl
 
-station_one : (read : Option ℕ) (mac : ℕ) → station read ≡ Some mac → is_multicast mac ≡ false
-station_one None mac is = absurd (none-some mac is)
-station_one (Some own) mac is = by (is_multicast own) refl is
+unicast_one : (read : Option ℕ) (mac : ℕ) → unicast read ≡ Some mac → is_multicast mac ≡ false
+unicast_one None mac is = absurd (none-some mac is)
+unicast_one (Some own) mac is = by (is_multicast own) refl is
   where
     single : (zero_too : Bool) → cond zero_too None (Some own) ≡ Some mac → own ≡ mac
     single true e = absurd (none-some mac e)
@@ -61,24 +54,24 @@ station_one (Some own) mac is = by (is_multicast own) refl is
     by false one e = subst (λ m. is_multicast m ≡ false) (single (own == 0) e) one
 
 -- a command of two arguments that is no other
-for_frame : (command first second : List ℕ) → IsForOne (cond (bytes_eq command (codes "frame")) (named 2 first (λ port. addressed 3 (station_of second) (Frame port))) (Refused UnknownCommand))
+for_frame : (command first second : List ℕ) → IsForOne (cond (bytes_eq command (codes "frame")) (named 2 first (λ port. addressed 3 (unicast_of second) (Frame port))) (Refused UnknownCommand))
 for_frame command first second =
-    either (bytes_eq command (codes "frame")) (named 2 first (λ port. addressed 3 (station_of second) (Frame port))) (Refused UnknownCommand)
-    (for_named 2 first (λ port. addressed 3 (station_of second) (Frame port)) (λ port. for_addressed 3 (station_of second) (Frame port) (λ mac is. station_one (mac_of second) mac is))) tt
+    either (bytes_eq command (codes "frame")) (named 2 first (λ port. addressed 3 (unicast_of second) (Frame port))) (Refused UnknownCommand)
+    (for_named 2 first (λ port. addressed 3 (unicast_of second) (Frame port)) (λ port. for_addressed 3 (unicast_of second) (Frame port) (λ mac is. unicast_one (mac_of second) mac is))) tt
 
-for_address : (command first second : List ℕ) → IsForOne (cond (bytes_eq command (codes "lsp-set-addresses")) (named 2 first (λ port. addressed 3 (station_of second) (SetAddress port)))
-    (cond (bytes_eq command (codes "frame")) (named 2 first (λ port. addressed 3 (station_of second) (Frame port))) (Refused UnknownCommand)))
+for_address : (command first second : List ℕ) → IsForOne (cond (bytes_eq command (codes "lsp-set-addresses")) (named 2 first (λ port. addressed 3 (unicast_of second) (SetAddress port)))
+    (cond (bytes_eq command (codes "frame")) (named 2 first (λ port. addressed 3 (unicast_of second) (Frame port))) (Refused UnknownCommand)))
 for_address command first second =
-    either (bytes_eq command (codes "lsp-set-addresses")) (named 2 first (λ port. addressed 3 (station_of second) (SetAddress port)))
-    (cond (bytes_eq command (codes "frame")) (named 2 first (λ port. addressed 3 (station_of second) (Frame port))) (Refused UnknownCommand))
-    (for_named 2 first (λ port. addressed 3 (station_of second) (SetAddress port)) (λ port. for_addressed 3 (station_of second) (SetAddress port) (λ mac is. tt)))
+    either (bytes_eq command (codes "lsp-set-addresses")) (named 2 first (λ port. addressed 3 (unicast_of second) (SetAddress port)))
+    (cond (bytes_eq command (codes "frame")) (named 2 first (λ port. addressed 3 (unicast_of second) (Frame port))) (Refused UnknownCommand))
+    (for_named 2 first (λ port. addressed 3 (unicast_of second) (SetAddress port)) (λ port. for_addressed 3 (unicast_of second) (SetAddress port) (λ mac is. tt)))
     (for_frame command first second)
 
 for_two : (command first second : List ℕ) → IsForOne (command_of_two command first second)
 for_two command first second =
     either (bytes_eq command (codes "lsp-add")) (named 2 first (λ switch. named 3 second (AddPort switch)))
-    (cond (bytes_eq command (codes "lsp-set-addresses")) (named 2 first (λ port. addressed 3 (station_of second) (SetAddress port)))
-    (cond (bytes_eq command (codes "frame")) (named 2 first (λ port. addressed 3 (station_of second) (Frame port))) (Refused UnknownCommand)))
+    (cond (bytes_eq command (codes "lsp-set-addresses")) (named 2 first (λ port. addressed 3 (unicast_of second) (SetAddress port)))
+    (cond (bytes_eq command (codes "frame")) (named 2 first (λ port. addressed 3 (unicast_of second) (Frame port))) (Refused UnknownCommand)))
     (for_named 2 first (λ switch. named 3 second (AddPort switch)) (λ switch. for_named 3 second (AddPort switch) (λ name. tt)))
     (for_address command first second)
 
@@ -114,22 +107,9 @@ tells tables line name mac arrival is there rest = rw is (rest (subst IsForOne i
 
 -- each frame is answered by what the switch does with it
 pub frames_meant : (lines : List (List ℕ)) → FramesAreMeant lines
-frames_meant lines before line behind all name mac is arrival there =
+frames_meant lines before line following all name mac is arrival there =
     let tables = network_after empty_network before in
     tells tables line name mac arrival is there (λ one. record {
-      events = machine (full_build tables) arrival.switch arrival.id mac;
       told = rw there refl;
       meant = each_refined before arrival mac (named_there tables.ports name arrival there) one;
     })
-
-module _ {S K : Type 0} (takes : S → List ℕ → Result ℕ SourceFailed → S → Type 0) (left : S → Option (List ℕ)) (source_faults : S → ℕ) (puts : K → List ℕ → Result ℕ SinkFailed → K → Type 0) (taken : K → Option (List ℕ)) (sink_faults : K → ℕ) (count : ℕ) (s : S) (k : K) (t : S) (l : K) where
-  -- so each frame of an input that was read to its end
-  pub frames_answered : (status : Status) → Ends takes left source_faults puts taken sink_faults count s k t l status → IsFinished status
-      → Moved left taken s k t l (λ given written. (written ≡ output given) × FramesAreMeant (lines_of given))
-  frames_answered Done (few, ends) finished = (ends.given, output ends.given, ends.went.gave, ends.went.wrote, (refl, frames_meant (lines_of ends.given)))
-  frames_answered SomeRefused (few, ends) finished = (ends.given, output ends.given, ends.went.gave, ends.went.wrote, (refl, frames_meant (lines_of ends.given)))
-  frames_answered Usage ends finished = absurd finished
-  frames_answered ReadFault ends finished = absurd finished
-  frames_answered WriteFault ends finished = absurd finished
-  frames_answered InputTooLong ends finished = absurd finished
-  frames_answered OutOfMemory ends finished = absurd finished

@@ -3,18 +3,18 @@ use Rattle.std.specs.Prelude.{ℕ, Bool, not, ◌||◌, ◌==◌, if◌then◌el
 use Rattle.std.specs.List.{slice_split, starts_with, list_all, list_any}
 use Rattle.std.specs.Str.{bytes_eq}
 use Rattle.nv_base.specs.Name.{is_quote, is_object_name}
-use Rattle.nv_serve.specs.Address.{station_of}
+use Rattle.nv_serve.specs.Address.{unicast_of}
 use Rattle.nv_serve.specs.declared.line.Line.{Line}
 use Rattle.nv_serve.specs.declared.line.Line.TheVariants.{Nothing, AddSwitch, AddPort, SetAddress, ListFlows, Frame, Refused}
 use Rattle.nv_serve.specs.declared.refusal.Refusal.TheVariants.{UnknownCommand, BadName, BadMac}
 
 -- a space, a tab or a carriage return
-abbrev pub is_blank : ℕ → Bool
-is_blank byte = (byte == 32) || (byte == 9) || (byte == 13)
+abbrev pub is_separator : ℕ → Bool
+is_separator byte = (byte == 32) || (byte == 9) || (byte == 13)
 
--- the words of a line: what stands between its blanks
+-- the words of a line: the texts between its separators that are not empty
 abbrev pub words_of : List ℕ → List (List ℕ)
-words_of line = filter (λ word. not (length word == 0)) (slice_split is_blank line)
+words_of line = filter (λ word. not (length word == 0)) (slice_split is_separator line)
 
 -- a word that begins a comment
 abbrev pub is_comment : List ℕ → Bool
@@ -24,7 +24,7 @@ is_comment word = starts_with nat_eq word (codes "#")
 abbrev pub named : ℕ → List ℕ → (List ℕ → Line) → Line
 named word name line = if is_object_name name then line name else Refused (BadName word)
 
--- a MAC of one station, or the refusal of the word of that number
+-- a unicast MAC, or the refusal of the word of that number
 abbrev pub addressed : ℕ → Option ℕ → (ℕ → Line) → Line
 addressed word None line = Refused (BadMac word)
 addressed word (Some mac) line = line mac
@@ -41,8 +41,8 @@ command_of_one command first = if bytes_eq command (codes "ls-add") then named 2
 abbrev pub command_of_two : List ℕ → List ℕ → List ℕ → Line
 command_of_two command first second =
     if bytes_eq command (codes "lsp-add") then named 2 first (λ switch. named 3 second (AddPort switch))
-    else (if bytes_eq command (codes "lsp-set-addresses") then named 2 first (λ port. addressed 3 (station_of second) (SetAddress port))
-    else (if bytes_eq command (codes "frame") then named 2 first (λ port. addressed 3 (station_of second) (Frame port))
+    else (if bytes_eq command (codes "lsp-set-addresses") then named 2 first (λ port. addressed 3 (unicast_of second) (SetAddress port))
+    else (if bytes_eq command (codes "frame") then named 2 first (λ port. addressed 3 (unicast_of second) (Frame port))
     else Refused UnknownCommand))
 
 -- The commands are `lflow-list`, `ls-add NAME`, `lsp-add SWITCH PORT`, `lsp-set-addresses PORT MAC` and `frame PORT MAC`.

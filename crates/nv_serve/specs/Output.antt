@@ -7,30 +7,30 @@ use Rattle.nv_serve.specs.Reply.{replies, some_refused}
 abbrev pub is_newline : ℕ → Bool
 is_newline byte = byte == 10
 
--- The lines of an input: what stands between its newlines. The last may have no newline; where nothing stands
--- behind the last newline, that is a line without words, which gets no reply.
+-- The lines of an input: the texts between its newlines. The last has no newline; where the input ends with one,
+-- the last is a line without words, which gets no reply.
 abbrev pub lines_of : List ℕ → List (List ℕ)
 lines_of input = slice_split is_newline input
 
--- the lines that end with a newline: all but the last
-abbrev pub whole_lines : List ℕ → List (List ℕ)
-whole_lines input = take (length (lines_of input) - 1) (lines_of input)
+-- the complete lines: all but the last, which has no newline
+abbrev pub complete_lines : List ℕ → List (List ℕ)
+complete_lines input = take (length (lines_of input) - 1) (lines_of input)
 
 -- what is written for an input that is read to its end
 abbrev pub output : List ℕ → List ℕ
 output input = replies empty_network (lines_of input)
 
--- the line of a program that has words behind its name
+-- the line of a program that has arguments
 abbrev pub usage_line : List ℕ
 usage_line = codes "usage: ovn_nd\n"
 
--- what is due for an input, by how many words the program has
+-- what is due for an input, by the count of arguments, the program's name among them
 abbrev pub output_for : ℕ → List ℕ → List ℕ
 output_for count given = if nat_lt 1 count then usage_line else output given
 
--- what is written for the lines that have come whole
-abbrev pub whole_output : List ℕ → List ℕ
-whole_output input = replies empty_network (whole_lines input)
+-- what is written for the complete lines alone
+abbrev pub complete_output : List ℕ → List ℕ
+complete_output input = replies empty_network (complete_lines input)
 
 -- whether a line of the input is refused
 abbrev pub is_refused : List ℕ → Bool

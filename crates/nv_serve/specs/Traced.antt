@@ -1,26 +1,25 @@
 -- What the replies to frames tell.
 use Rattle.std.specs.Prelude.{◌≡◌, ℕ, List, ◌∷◌, ◌++◌, Some}
 use Rattle.std.specs.List.{flat_map}
-use Rattle.nv_serve.specs.declared.event.Event.{Event}
 use Rattle.nv_serve.specs.declared.line.Line.TheVariants.{Frame}
 use Rattle.nv_serve.specs.declared.port.Port.{Port}
+use Rattle.nv_serve.specs.FullBuild.{full_build}
 use Rattle.nv_serve.specs.Line.{said}
 use Rattle.nv_serve.specs.Network.{Tables, empty_network, port_named}
 use Rattle.nv_serve.specs.Events.{event_line}
-use Rattle.nv_serve.specs.Meaning.{meaning}
-use Rattle.nv_serve.specs.Walk.{without_hits}
+use Rattle.nv_serve.specs.SwitchMeaning.{meaning}
+use Rattle.nv_serve.specs.Walk.{machine, without_hits}
 use Rattle.nv_serve.specs.Reply.{ok_line, reply, network_after}
 
--- the text is the lines of events, and `ok`; and the events are, hits left out, what the switch does with the frame
+-- the text is the lines of the machine's events, and `ok`; and the events are, hits left out, what the switch does with the frame
 pub record TellsMeaning (tables : Tables) (arrival : Port) (mac : ℕ) (text : List ℕ) : Type 0 where
-  pub events : List Event
-  pub told : text ≡ flat_map (event_line tables) events ++ ok_line
-  pub meant : without_hits events ≡ meaning tables.ports arrival mac
+  pub told : text ≡ flat_map (event_line tables) (machine (full_build tables) arrival.switch arrival.id mac) ++ ok_line
+  pub meant : without_hits (machine (full_build tables) arrival.switch arrival.id mac) ≡ meaning tables.ports arrival mac
 
 -- each frame of these lines that arrives at a port is answered so, in the network that the lines before it left
 abbrev pub FramesAreMeant : List (List ℕ) → Type 0
 FramesAreMeant lines =
-    (before : List (List ℕ)) (line : List ℕ) (behind : List (List ℕ)) → lines ≡ before ++ line ∷ behind
+    (before : List (List ℕ)) (line : List ℕ) (later : List (List ℕ)) → lines ≡ before ++ line ∷ later
     → (name : List ℕ) (mac : ℕ) → said line ≡ Frame name mac
     → (arrival : Port) → port_named (network_after empty_network before).ports name ≡ Some arrival
     → TellsMeaning (network_after empty_network before) arrival mac (reply (network_after empty_network before) line).text

@@ -1,24 +1,19 @@
--- The walk of a frame for one station through a switch, by the switch's rows.
-use Rattle.std.specs.Prelude.{◌≡◌, ℕ, Bool, true, false, not, ◌&&◌, ◌==◌, if◌then◌else◌, List, [], ◌∷◌, ◌++◌, map, filter}
-use Rattle.std.specs.List.{Contains}
+-- The walk of a frame for a unicast MAC through a switch, by the switch's rows.
+use Rattle.std.specs.Prelude.{ℕ, Bool, true, false, not, ◌&&◌, ◌==◌, if◌then◌else◌, List, [], ◌∷◌, ◌++◌, map, filter}
 use Rattle.nv_base.specs.declared.object.ObjId.{ObjId}
 use Rattle.nv_base.specs.declared.field.Field.TheVariants.{Inport, Outport, FlagsLoopback}
 use Rattle.pkt_core.specs.Packet.{Values, value, with_value, headers}
 use Rattle.sb_rows.specs.declared.row.Row.{Row}
-use Rattle.sb_rows.specs.Match.{is_multicast}
 use Rattle.sb_rows.specs.declared.stage.Pipeline.TheVariants.{Ingress, Egress}
 use Rattle.tr_stage.specs.declared.outcome.Cause.TheVariants.{SamePort}
 use Rattle.tr_stage.specs.declared.outcome.Outcome.TheVariants.{Leave, Deliver, Drop}
-use Rattle.tr_stage.specs.Pipe.{Ending, Passage, pipe}
-use Rattle.tr_stage.specs.Pipe.Ending.{Ended, Stuck}
+use Rattle.tr_stage.specs.Machine.{PipelineEnd, PipelineRun, run_pipeline}
+use Rattle.tr_stage.specs.Machine.PipelineEnd.{Ended, Stuck}
 use Rattle.nv_serve.specs.declared.event.Event.{Event}
 use Rattle.nv_serve.specs.declared.event.Event.TheVariants as events
-use Rattle.nv_serve.specs.Meaning.{frame_for, meaning}
-use Rattle.nv_serve.specs.declared.port.Port.{Port}
-use Rattle.nv_serve.specs.Network.{Tables}
-use Rattle.nv_serve.specs.FullBuild.{full_build}
+use Rattle.nv_serve.specs.SwitchMeaning.{frame_for}
 
--- a frame for this address, as it comes in by a port
+-- a frame for this address, as it arrives at a port
 abbrev pub arriving : ObjId → ℕ → Values
 arriving port mac = with_value (frame_for mac) Inport port.0
 
@@ -27,11 +22,11 @@ abbrev pub is_sent_back : Values → Bool
 is_sent_back packet = (value packet Outport == value packet Inport) && (value packet FlagsLoopback == 0)
 
 -- the hits of a way, and then more events
-abbrev pub with_hits : Passage → List Event → List Event
+abbrev pub with_hits : PipelineRun → List Event → List Event
 with_hits way more = map events.Hit way.hits ++ more
 
 -- what happens at the end of egress: a packet is delivered at its port, or dropped
-abbrev pub delivered : ObjId → Ending → List Event
+abbrev pub delivered : ObjId → PipelineEnd → List Event
 delivered dp Stuck = []
 delivered dp (Ended (Leave packet table)) = []
 delivered dp (Ended (Deliver packet)) = events.Output (record { 0 = value packet Outport }) (headers packet) ∷ []
@@ -39,10 +34,10 @@ delivered dp (Ended (Drop cause)) = events.Drop dp cause ∷ []
 
 -- the way out by the packet's port
 abbrev pub leaving : List Row → ObjId → Values → List Event
-leaving rows dp packet = with_hits (pipe rows dp Egress packet) (delivered dp (pipe rows dp Egress packet).ending)
+leaving rows dp packet = with_hits (run_pipeline rows dp Egress packet) (delivered dp (run_pipeline rows dp Egress packet).ending)
 
 -- what happens at the end of ingress: a packet goes on to egress or is dropped, and none goes back by its own port
-abbrev pub arrived : List Row → ObjId → Ending → List Event
+abbrev pub arrived : List Row → ObjId → PipelineEnd → List Event
 arrived rows dp Stuck = []
 arrived rows dp (Ended (Leave packet table)) = if is_sent_back packet then events.Drop dp SamePort ∷ [] else leaving rows dp packet
 arrived rows dp (Ended (Deliver packet)) = []
@@ -50,7 +45,7 @@ arrived rows dp (Ended (Drop cause)) = events.Drop dp cause ∷ []
 
 -- the events of a frame for this address that arrives at this port of the switch
 abbrev pub machine : List Row → ObjId → ObjId → ℕ → List Event
-machine rows dp port mac = with_hits (pipe rows dp Ingress (arriving port mac)) (arrived rows dp (pipe rows dp Ingress (arriving port mac)).ending)
+machine rows dp port mac = with_hits (run_pipeline rows dp Ingress (arriving port mac)) (arrived rows dp (run_pipeline rows dp Ingress (arriving port mac)).ending)
 
 -- whether an event tells of a row that acted
 abbrev pub is_hit : Event → Bool
@@ -61,9 +56,3 @@ is_hit (events.Drop dp cause) = false
 -- the events, hits left out
 abbrev pub without_hits : List Event → List Event
 without_hits all = filter (λ event. not (is_hit event)) all
-
--- what a switch's rows do with each frame for one station is, hits left out, what the switch does with it
-abbrev pub IsRefined : Tables → Type 0
-IsRefined tables =
-    (arrival : Port) (mac : ℕ) → Contains tables.ports arrival → is_multicast mac ≡ false
-    → without_hits (machine (full_build tables) arrival.switch arrival.id mac) ≡ meaning tables.ports arrival mac

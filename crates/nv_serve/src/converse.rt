@@ -1,6 +1,7 @@
 ghost use Rattle.std.specs.Prelude.{◌≡◌, ◌++◌, ◌+◌, ◌<◌, ◌≤◌, ℕ, List, [], OnOk, IfErr, length};
-ghost use Rattle.nv_serve.specs.Ending.{Finished, StopEnds};
-ghost use Rattle.nv_serve.specs.Standing.{Stands};
+ghost use Rattle.nv_serve.specs.Calls.{Moved, start_at, LastTakeGivesNothing};
+ghost use Rattle.nv_serve.specs.inner.Endings.{Finished, StopEnds, StopCalls};
+ghost use Rattle.nv_serve.specs.inner.StateAfter.{IsStateAfter};
 
 use crate::server::Server;
 use crate::stop::Stop;
@@ -20,12 +21,16 @@ pub fn converse<S: Source, K: Sink>(
     source: &mut S,
     sink: &mut K,
 ) -> Result<(), Stop>
-    requires first { Stands server.old.network server.old.line.items server.old.some_refused [] }
-    requires next { server.old.network.next ≡ 1 }
-    ensures finished { OnOk result (Finished S.take_gives S.left S.faults K.put_gives K.taken K.faults
-        source.old sink.old source.new sink.new server.new.some_refused) }
-    ensures stopped { IfErr result (StopEnds S.take_gives S.left S.faults K.put_gives K.taken K.faults
-        source.old sink.old source.new sink.new) }
+    requires first { IsStateAfter server.old.session server.old.line.items server.old.some_refused [] }
+    requires next { server.old.session.next ≡ 1 }
+    ensures finished { OnOk result (Moved S.state K.state (source.old, sink.old) (source.new, sink.new) (λ given written.
+        Finished (S.state source.old, K.state sink.old) (S.state source.new, K.state sink.new) given written server.new.some_refused
+        × LastTakeGivesNothing S.take_gives K.put_gives (start_at source.old sink.old)
+        (record { source = source.new; sink = sink.new; given = given; written = written }))) }
+    ensures stopped { IfErr result (λ stop. Moved S.state K.state (source.old, sink.old) (source.new, sink.new) (λ given written.
+        StopEnds (S.state source.old, K.state sink.old) (S.state source.new, K.state sink.new) given written stop
+        × StopCalls S.take_gives K.put_gives (start_at source.old sink.old)
+        (record { source = source.new; sink = sink.new; given = given; written = written }) stop)) }
 {
     let mut piece = [0u8; PIECE];
     let mut room = INPUT_LIMIT;

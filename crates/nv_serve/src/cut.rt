@@ -1,5 +1,5 @@
 ghost use Rattle.std.specs.Prelude.{IfNone, IfSome};
-ghost use Rattle.nv_serve.specs.Standing.{EndsNoLine, CutsLine};
+ghost use Rattle.nv_serve.specs.inner.StateAfter.{EndsNoLine, CutsLine};
 
 use memchr::memchr;
 

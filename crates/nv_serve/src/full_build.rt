@@ -1,8 +1,8 @@
 ghost use Rattle.std.specs.Prelude.{◌≡◌, ◌<◌, ◌++◌, ℕ, List, [], All, map, flat_map, IfOk, OnOk};
 ghost use Rattle.std.specs.List.{AllByRecursion};
 ghost use Rattle.sb_rows.specs.Row.{put_rows};
-ghost use Rattle.nv_serve.specs.Numbered.{IsRising, IsNumbered, switch_numbers, port_numbers};
-ghost use Rattle.nv_serve.specs.Session.{AreRowsOf};
+ghost use Rattle.nv_serve.specs.inner.Numbered.{IsRising, IsNumbered, switch_numbers, port_numbers};
+ghost use Rattle.nv_serve.specs.inner.KeptRows.{AreRowsOf};
 ghost use Rattle.nv_serve.specs.FullBuild.{
   fixed_rows as table_of_fixed_rows,
   row_on,
@@ -172,7 +172,7 @@ fn rows_of_switches(alloc: Global, switches: &[(ObjId, Name)]) -> Result<Rows, O
     Ok(rows)
 }
 
-// Puts the fixed rows of a switch behind those of switches with lower numbers.
+// Puts the fixed rows of a switch after those of switches with lower numbers.
 fn put_fixed_rows(
     alloc: Global,
     rows: &mut Rows,
@@ -182,7 +182,7 @@ fn put_fixed_rows(
     requires table { fixed_rows.now ≡ table_of_fixed_rows }
     requires lower { All (λ row. row.dp.0 < dp.0) rows.old }
     ensures put { OnOk result (rows.new ≡ put_rows rows.old (map (row_on dp) table_of_fixed_rows)) }
-    ensures behind { OnOk result (rows.new ≡ rows.old ++ map (row_on dp) table_of_fixed_rows) }
+    ensures following { OnOk result (rows.new ≡ rows.old ++ map (row_on dp) table_of_fixed_rows) }
 {
     for fixed in fixed_rows {
         rows.put(row_on(alloc, dp, fixed)?)?;

@@ -25,6 +25,3 @@ pub use refusal::Refusal;
 pub use serve::run;
 pub use status::Status;
 pub use walk::trace;
-
-#[cfg(test)]
-mod tests;

@@ -1,8 +1,8 @@
 ghost use Rattle.std.specs.Prelude.{◌≡◌, List, ℕ, map, IfOk, IsTrue};
 ghost use Rattle.std.specs.List.{list_any};
 ghost use Rattle.nv_base.specs.Name.{is_quote};
-ghost use Rattle.nv_serve.specs.Address.{station_of};
-ghost use Rattle.nv_serve.specs.Line.{is_blank, words_of, named, addressed, command_of_one, command_of_two, command_of, said_by, said};
+ghost use Rattle.nv_serve.specs.Address.{unicast_of};
+ghost use Rattle.nv_serve.specs.Line.{is_separator, words_of, named, addressed, command_of_one, command_of_two, command_of, said_by, said};
 
 use crate::Refusal;
 use nv_base::{Mac, Name, OutOfMemory, is_object_name, read_mac};
@@ -38,12 +38,12 @@ pub fn read_line(alloc: Global, line: &[u8]) -> Result<Line, OutOfMemory>
     read_words(alloc, &words)
 }
 
-// Whether the line has no words or is a comment, by its first byte that is no blank.
+// Whether the line has no words or is a comment, by its first byte that is no separator.
 fn says_nothing(line: &[u8]) -> bool
     ensures { IsTrue result → said line.now ≡ Line.Nothing }
 {
     for byte in line {
-        if !is_blank(*byte) {
+        if !is_separator(*byte) {
             return *byte == b'#';
         }
     }
@@ -106,18 +106,18 @@ fn command_of_two(
     ensures { IfOk result (λ read. read ≡ command_of_two command.now first.now second.now) }
 {
     if command == b"lsp-add".as_slice() {
-        return add_port(alloc, first, second);
+        return read_lsp_add(alloc, first, second);
     }
     if command == b"lsp-set-addresses".as_slice() {
-        return set_address(alloc, first, second);
+        return read_lsp_set_addresses(alloc, first, second);
     }
     if command == b"frame".as_slice() {
-        return frame(alloc, first, second);
+        return read_frame(alloc, first, second);
     }
     Ok(Line::Refused(Refusal::UnknownCommand))
 }
 
-fn add_port(alloc: Global, switch: &[u8], port: &[u8]) -> Result<Line, OutOfMemory>
+fn read_lsp_add(alloc: Global, switch: &[u8], port: &[u8]) -> Result<Line, OutOfMemory>
     ensures { IfOk result (λ read. read ≡ named 2 switch.now (λ s. named 3 port.now (Line.AddPort s))) }
 {
     if !is_object_name(switch) {
@@ -132,33 +132,33 @@ fn add_port(alloc: Global, switch: &[u8], port: &[u8]) -> Result<Line, OutOfMemo
     ))
 }
 
-fn set_address(alloc: Global, port: &[u8], mac: &[u8]) -> Result<Line, OutOfMemory>
-    ensures { IfOk result (λ read. read ≡ named 2 port.now (λ p. addressed 3 (station_of mac.now) (Line.SetAddress p))) }
+fn read_lsp_set_addresses(alloc: Global, port: &[u8], mac: &[u8]) -> Result<Line, OutOfMemory>
+    ensures { IfOk result (λ read. read ≡ named 2 port.now (λ p. addressed 3 (unicast_of mac.now) (Line.SetAddress p))) }
 {
     if !is_object_name(port) {
         return Ok(Line::Refused(Refusal::BadName(2)));
     }
-    match read_station(mac) {
+    match read_unicast(mac) {
         None => Ok(Line::Refused(Refusal::BadMac(3))),
         Some(mac) => Ok(Line::SetAddress(Name::from_slice(alloc, port)?, mac)),
     }
 }
 
-fn frame(alloc: Global, port: &[u8], mac: &[u8]) -> Result<Line, OutOfMemory>
-    ensures { IfOk result (λ read. read ≡ named 2 port.now (λ p. addressed 3 (station_of mac.now) (Line.Frame p))) }
+fn read_frame(alloc: Global, port: &[u8], mac: &[u8]) -> Result<Line, OutOfMemory>
+    ensures { IfOk result (λ read. read ≡ named 2 port.now (λ p. addressed 3 (unicast_of mac.now) (Line.Frame p))) }
 {
     if !is_object_name(port) {
         return Ok(Line::Refused(Refusal::BadName(2)));
     }
-    match read_station(mac) {
+    match read_unicast(mac) {
         None => Ok(Line::Refused(Refusal::BadMac(3))),
         Some(mac) => Ok(Line::Frame(Name::from_slice(alloc, port)?, mac)),
     }
 }
 
-// The MAC of one station: neither zero nor of a group.
-fn read_station(text: &[u8]) -> Option<Mac>
-    ensures { result ≡ station_of text.now }
+// A unicast MAC: neither zero nor multicast.
+fn read_unicast(text: &[u8]) -> Option<Mac>
+    ensures { result ≡ unicast_of text.now }
 {
     match read_mac(text) {
         Ok(mac) if mac.0 / (1 << 40) % 2 != 1 && mac.0 != 0 => Some(mac),
@@ -170,14 +170,14 @@ fn words_of(alloc: Global, line: &[u8]) -> Result<Vec<&[u8]>, OutOfMemory>
     ensures { IfOk result (λ words. map (λ word. word.now) words.items ≡ words_of line.now) }
 {
     Ok(
-        line.split(|byte| is_blank(*byte))
+        line.split(|byte| is_separator(*byte))
             .filter(|word| !word.is_empty())
             .collect(alloc)?,
     )
 }
 
-fn is_blank(byte: u8) -> bool
-    ensures { result ≡ is_blank byte }
+fn is_separator(byte: u8) -> bool
+    ensures { result ≡ is_separator byte }
 {
     matches!(byte, b' ' | b'\t' | b'\r')
 }

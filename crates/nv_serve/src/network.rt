@@ -10,7 +10,7 @@ ghost use Rattle.nv_serve.specs.Network.{
 };
 ghost use Rattle.nv_serve.specs.declared.port.Port.{Port};
 ghost use Rattle.nv_serve.specs.Events.{switch_numbered, port_numbered};
-ghost use Rattle.nv_serve.specs.Numbered.{IsNumbered, switch_numbers};
+ghost use Rattle.nv_serve.specs.inner.Numbered.{IsNumbered, switch_numbers};
 
 use crate::port::Port;
 use nv_base::{Mac, Name, ObjId, OutOfMemory};
@@ -33,7 +33,7 @@ impl Model for Network {
 
     ghost Value = { Tables };
 
-    ghost use Rattle.nv_serve.specs.Numbered.{IsSwitchIndex, IsPortIndex, IsNumbered};
+    ghost use Rattle.nv_serve.specs.inner.Numbered.{IsSwitchIndex, IsPortIndex, IsNumbered};
 
     ghost view = { λ n. record { switches = n.switches.items; ports = n.ports.items; next = n.next } };
 
@@ -168,7 +168,7 @@ impl Network {
         }
     }
 
-    /// Gives the port of that name an address, in place of the one that it has.
+    /// Gives the port of that name an address, in place of its old one.
     pub fn set_address(&mut self, name: &Name, mac: Mac)
         requires { IsSome (port_named self.old.ports name.now) }
         ensures { self.new ≡ with_address self.old name.now mac }

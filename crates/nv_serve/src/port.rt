@@ -7,6 +7,6 @@ pub struct Port {
     /// The number of its switch.
     pub switch: ObjId,
     pub name: Name,
-    /// The address of the one station behind it, where it was given.
+    /// Its unicast MAC, where one was given.
     pub address: Option<Mac>,
 }

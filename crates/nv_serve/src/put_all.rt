@@ -1,12 +1,13 @@
 ghost use Rattle.std.specs.Prelude.{ℕ, List, OnOk, OnErr};
-ghost use Rattle.nv_serve.specs.Outside.{IsPrefix, Wrote, PutFailed};
+ghost use Rattle.nv_serve.specs.Calls.{IsPrefix};
+ghost use Rattle.nv_serve.specs.inner.Writing.{Wrote, PutFailed};
 
 use nv_io::{Sink, SinkFailed};
 
 // Puts all of the bytes, piece by piece.
 pub fn put_all<K: Sink>(sink: &mut K, bytes: &[u8]) -> Result<(), SinkFailed>
-    ensures ok { OnOk result (Wrote K.put_gives K.taken K.faults sink.old sink.new bytes.now) }
-    ensures err { OnErr result ((part : List ℕ) × IsPrefix part bytes.now × PutFailed K.put_gives K.taken K.faults sink.old sink.new part) }
+    ensures ok { OnOk result (Wrote K.put_gives K.state sink.old sink.new bytes.now) }
+    ensures err { OnErr result ((part : List ℕ) × IsPrefix part bytes.now × PutFailed K.put_gives K.state sink.old sink.new part) }
 {
     let mut rest = bytes;
     while !rest.is_empty() {

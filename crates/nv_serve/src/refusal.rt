@@ -5,7 +5,7 @@ use nv_base::{Name, OutOfMemory, put_dec};
 /// Why a line was refused.
 #[derive(Debug, Drop, PartialEq, Eq)]
 pub enum Refusal {
-    /// The line's first word stands for a command and is none, or the line has not that command's form.
+    /// The line's first word is no command, or the line does not have that command's form.
     UnknownCommand,
     /// The word of this number is no name.
     BadName(u8),

@@ -25,16 +25,16 @@ pub fn run_line(
 {
     match read_line(alloc, line)? {
         Line::Nothing => Ok(false),
-        Line::AddSwitch(name) => add_switch(alloc, session, name, out),
-        Line::AddPort(switch, name) => add_port(alloc, session, switch, name, out),
-        Line::SetAddress(name, mac) => set_address(session, name, mac, out),
-        Line::ListFlows => list_flows(alloc, session, out),
-        Line::Frame(name, mac) => frame(alloc, session, name, mac, out),
+        Line::AddSwitch(name) => run_ls_add(alloc, session, name, out),
+        Line::AddPort(switch, name) => run_lsp_add(alloc, session, switch, name, out),
+        Line::SetAddress(name, mac) => run_lsp_set_addresses(session, name, mac, out),
+        Line::ListFlows => run_lflow_list(alloc, session, out),
+        Line::Frame(name, mac) => run_frame(alloc, session, name, mac, out),
         Line::Refused(refusal) => refuse(&refusal, out),
     }
 }
 
-fn add_switch(
+fn run_ls_add(
     alloc: Global,
     session: &mut Session,
     name: Name,
@@ -52,7 +52,7 @@ fn add_switch(
     accept(out)
 }
 
-fn add_port(
+fn run_lsp_add(
     alloc: Global,
     session: &mut Session,
     switch: Name,
@@ -76,7 +76,7 @@ fn add_port(
     }
 }
 
-fn set_address(
+fn run_lsp_set_addresses(
     session: &mut Session,
     name: Name,
     mac: Mac,
@@ -93,7 +93,7 @@ fn set_address(
     accept(out)
 }
 
-fn frame(
+fn run_frame(
     alloc: Global,
     session: &mut Session,
     name: Name,
@@ -121,7 +121,7 @@ fn accept(out: &mut Vec<u8>) -> Result<bool, OutOfMemory>
     Ok(false)
 }
 
-fn list_flows(alloc: Global, session: &Session, out: &mut Vec<u8>) -> Result<bool, OutOfMemory>
+fn run_lflow_list(alloc: Global, session: &Session, out: &mut Vec<u8>) -> Result<bool, OutOfMemory>
     ensures text { OnOk result (out.new.items ≡ out.old.items ++ flows session.now ++ ok_line) }
     ensures refused { IfOk result (λ refused. refused ≡ false) }
 {

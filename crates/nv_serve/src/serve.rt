@@ -1,10 +1,12 @@
-ghost use Rattle.std.specs.Prelude.{◌≡◌, ◌<◌, ◌≤◌, ◌↔◌, ◌⊎◌, ℕ, List, [], IsTrue, IsSomeAnd, length, take, true};
+ghost use Rattle.std.specs.Prelude.{◌≡◌, ◌<◌, ◌≤◌, ◌↔◌, ◌⊎◌, ◌+◌, ◌++◌, ℕ, List, [], IsTrue, IsSomeAnd, length, take, true};
 ghost use Rattle.std.specs.Io.KnownBytes.{IsAtEnd};
-ghost use Rattle.nv_io.specs.Counts.{Rose};
-ghost use Rattle.nv_serve.specs.Outside.{IsPrefix, Moved};
+ghost use Rattle.nv_io.specs.Counts.{Rose, count_after};
+ghost use Rattle.nv_serve.specs.Calls.{IsPrefix, Moved, told_left, start_at};
+ghost use Rattle.nv_serve.specs.Output.{lines_of, output, output_for, complete_output, usage_line, is_refused, input_limit};
+ghost use Rattle.nv_serve.specs.Run.{IsFinished, NothingFollowsAFault};
 ghost use Rattle.nv_serve.specs.Traced.{FramesAreMeant};
-ghost use Rattle.nv_serve.specs.Output.{lines_of, output, output_for, whole_output, usage_line, is_refused, input_limit};
-ghost use Rattle.nv_serve.specs.Run.{IsFinished, NothingFollowsAFault, RefusesWords, Ends};
+ghost use Rattle.nv_serve.specs.inner.Endings.{Ends, Refuses};
+ghost use Rattle.nv_serve.specs.inner.Writing.{Wrote, PutFailed};
 
 use crate::Status;
 use crate::converse::converse;
@@ -15,70 +17,80 @@ use nv_io::{Sink, Source};
 use std::alloc::Global;
 
 /// Runs the program: reads the input by pieces of at most 4,096 bytes, runs each line once its end is known, and
-/// writes its reply before it reads on. `words` begins with the program's name: where more words stand behind it,
-/// nothing is read, and what is written is the line `usage: ovn_nd`.
+/// writes its reply before it reads on. `arguments` begins with the program's name. Where there are more, nothing is
+/// read, and what is written is the line `usage: ovn_nd`.
 ///
-/// A source or a sink that tells no bytes makes the clauses on content say that there are such bytes.
+/// Of a source or a sink that does not tell its bytes, the clauses on content say how many there are.
 pub fn run<S: Source, K: Sink>(
     alloc: Global,
-    words: &[String],
+    arguments: &[String],
     source: &mut S,
     sink: &mut K,
 ) -> Status
     // The input was read to its end: what was written is the output of all of it.
-    ensures done { IsFinished result → Moved S.left K.taken source.old sink.old source.new sink.new (λ given written.
-        IsAtEnd (S.left source.new) × (written ≡ output given)) }
+    ensures done { IsFinished result → Moved S.state K.state (source.old, sink.old) (source.new, sink.new) (λ given written.
+        IsAtEnd (S.state source.new).left × (written ≡ output given)) }
     // Some line was refused exactly where the status says so.
-    ensures some_refused { IsFinished result → Moved S.left K.taken source.old sink.old source.new sink.new (λ given written.
-        IsAtEnd (S.left source.new) × ((result ≡ Status.SomeRefused) ↔ (is_refused given ≡ true))) }
+    ensures some_refused { IsFinished result → Moved S.state K.state (source.old, sink.old) (source.new, sink.new) (λ given written.
+        IsAtEnd (S.state source.new).left × ((result ≡ Status.SomeRefused) ↔ (is_refused given ≡ true))) }
 
     // What was written at each other status.
-    ensures read_fault { result ≡ Status.ReadFault → Moved S.left K.taken source.old sink.old source.new sink.new (λ given written.
-        written ≡ whole_output given) }
-    ensures write_fault { result ≡ Status.WriteFault → Moved S.left K.taken source.old sink.old source.new sink.new (λ given written.
-        IsPrefix written (output_for (length words.now) given)) }
-    ensures input_too_long { result ≡ Status.InputTooLong → Moved S.left K.taken source.old sink.old source.new sink.new (λ given written.
-        (input_limit < length given) × (written ≡ whole_output (take input_limit given))) }
-    ensures out_of_memory { result ≡ Status.OutOfMemory → Moved S.left K.taken source.old sink.old source.new sink.new (λ given written.
-        IsPrefix written (output given)) }
+    ensures read_fault { result ≡ Status.ReadFault → Moved S.state K.state (source.old, sink.old) (source.new, sink.new) (λ given written.
+        written ≡ complete_output given) }
+    ensures write_fault { result ≡ Status.WriteFault → Moved S.state K.state (source.old, sink.old) (source.new, sink.new) (λ given written.
+        IsPrefix written (output_for (length arguments.now) (given ++ told_left (S.state source.new).left))) }
+    ensures input_too_long { result ≡ Status.InputTooLong → Moved S.state K.state (source.old, sink.old) (source.new, sink.new) (λ given written.
+        (input_limit < length given) × (written ≡ complete_output (take input_limit given))) }
+    ensures out_of_memory { result ≡ Status.OutOfMemory → Moved S.state K.state (source.old, sink.old) (source.new, sink.new) (λ given written.
+        IsPrefix written (output (given ++ told_left (S.state source.new).left))) }
 
-    ensures usage { result ≡ Status.Usage → Moved S.left K.taken source.old sink.old source.new sink.new (λ given written.
+    ensures usage { result ≡ Status.Usage → Moved S.state K.state (source.old, sink.old) (source.new, sink.new) (λ given written.
         (given ≡ []) × (written ≡ usage_line)) }
 
-    // The cause of each status. That of InputTooLong is in both directions.
-    ensures read_fault_cause { result ≡ Status.ReadFault → Rose (S.faults source.old) (S.faults source.new) }
-    ensures write_fault_cause { result ≡ Status.WriteFault → Rose (K.faults sink.old) (K.faults sink.new) }
+    // The cause of each status.
+    ensures read_fault_cause { result ≡ Status.ReadFault → Rose (S.state source.old).faults (S.state source.new).faults }
+    ensures write_fault_cause { result ≡ Status.WriteFault → Rose (K.state sink.old).faults (K.state sink.new).faults }
+    ensures input_too_long_cause { result ≡ Status.InputTooLong
+        → count_after (S.state source.old).given (input_limit + 1) ≤ (S.state source.new).given }
     ensures within_the_limit { IsFinished result ⊎ (result ≡ Status.ReadFault)
-        → Moved S.left K.taken source.old sink.old source.new sink.new (λ given written. length given ≤ input_limit) }
-    ensures usage_cause { result ≡ Status.Usage → 1 < length words.now }
+        → Moved S.state K.state (source.old, sink.old) (source.new, sink.new) (λ given written. length given ≤ input_limit) }
+    ensures usage_cause { result ≡ Status.Usage → 1 < length arguments.now }
 
-    // Words behind the program's name are refused before anything is read.
-    ensures usage_comes { 1 < length words.now → (Rose (K.faults sink.old) (K.faults sink.new) → ⊥) → result ≡ Status.Usage }
-    ensures usage_reads_nothing { 1 < length words.now → source.new ≡ source.old }
+    // Arguments are refused before anything is read.
+    ensures usage_comes { 1 < length arguments.now → (result ≡ Status.Usage) ⊎ (result ≡ Status.WriteFault) }
+    ensures usage_reads_nothing { 1 < length arguments.now → source.new ≡ source.old }
 
     // Each frame of the input is answered by events that are, hits left out, what the switch does with it.
-    ensures refinement { IsFinished result → Moved S.left K.taken source.old sink.old source.new sink.new (λ given written.
+    ensures refinement { IsFinished result → Moved S.state K.state (source.old, sink.old) (source.new, sink.new) (λ given written.
         (written ≡ output given) × FramesAreMeant (lines_of given)) }
 
-    ensures nothing_follows_a_fault { NothingFollowsAFault S.take_gives K.put_gives source.old sink.old source.new sink.new result }
+    // The calls: pieces of at most 4,096 bytes are taken, each complete line is answered before the next take, an input is
+    // at its end where a take gives nothing, and a call that fails is the last.
+    ensures nothing_follows_a_fault { Moved S.state K.state (source.old, sink.old) (source.new, sink.new) (λ given written.
+        NothingFollowsAFault S.take_gives K.put_gives (start_at source.old sink.old)
+        (record { source = source.new; sink = sink.new; given = given; written = written }) result) }
 
-    // Completeness: with no word too many, no fault and no more input than may be, only memory keeps the run from its end.
-    ensures complete { length words.now ≤ 1
-        → (Rose (S.faults source.old) (S.faults source.new) → ⊥)
-        → (Rose (K.faults sink.old) (K.faults sink.new) → ⊥)
-        → IsSomeAnd (S.left source.old) (λ input. length input ≤ input_limit)
+    // Completeness: with no argument, no fault and no more input than may be, only memory keeps the run from its end.
+    ensures complete { length arguments.now ≤ 1
+        → (Rose (S.state source.old).faults (S.state source.new).faults → ⊥)
+        → (Rose (K.state sink.old).faults (K.state sink.new).faults → ⊥)
+        → IsSomeAnd (S.state source.old).left (λ input. length input ≤ input_limit)
+        ⊎ ((S.state source.new).given < count_after (S.state source.old).given (input_limit + 1))
         → IsFinished result ⊎ (result ≡ Status.OutOfMemory) }
 {
-    serve(alloc, words.len(), source, sink)
+    serve(alloc, arguments.len(), source, sink)
 }
 
-// All that a run with so many words promises, as one fact for each status.
-#[tactic(auto, using(crate::proofs::Words::refused))]
+// All that a run with so many arguments promises, as one fact for each status.
 fn serve<S: Source, K: Sink>(alloc: Global, count: usize, source: &mut S, sink: &mut K) -> Status
-    ensures { Ends S.take_gives S.left S.faults K.put_gives K.taken K.faults count source.old sink.old source.new sink.new result }
+    ensures ends { Moved S.state K.state (source.old, sink.old) (source.new, sink.new) (λ given written.
+        Ends count (S.state source.old, K.state sink.old) (S.state source.new, K.state sink.new) (given, written) result
+        × NothingFollowsAFault S.take_gives K.put_gives (start_at source.old sink.old)
+        (record { source = source.new; sink = sink.new; given = given; written = written }) result) }
+    ensures arguments { 1 < count → (source.new ≡ source.old) × ((result ≡ Status.Usage) ⊎ (result ≡ Status.WriteFault)) }
 {
     if count > 1 {
-        return refuse_words(sink);
+        return refuse_arguments(sink);
     }
     let mut server = Server::new(alloc);
     match converse(alloc, &mut server, source, sink) {
@@ -92,8 +104,8 @@ fn serve<S: Source, K: Sink>(alloc: Global, count: usize, source: &mut S, sink: 
 }
 
 // Puts the line that tells how the program is called.
-fn refuse_words<K: Sink>(sink: &mut K) -> Status
-    ensures { RefusesWords K.put_gives K.taken K.faults sink.old sink.new result }
+fn refuse_arguments<K: Sink>(sink: &mut K) -> Status
+    ensures { Refuses (Wrote K.put_gives K.state sink.old sink.new) (PutFailed K.put_gives K.state sink.old sink.new) result }
 {
     match put_all(sink, b"usage: ovn_nd\n") {
         Ok(()) => Status::Usage,

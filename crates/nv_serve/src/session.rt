@@ -9,9 +9,10 @@ ghost use Rattle.nv_serve.specs.Network.{
   with_port,
   with_address,
 };
-ghost use Rattle.nv_serve.specs.Numbered.{switch_numbers};
-ghost use Rattle.nv_serve.specs.Session.{AreRowsOf};
-ghost use Rattle.nv_serve.specs.Walk.{machine, IsRefined};
+ghost use Rattle.nv_serve.specs.inner.Numbered.{switch_numbers};
+ghost use Rattle.nv_serve.specs.inner.KeptRows.{AreRowsOf};
+ghost use Rattle.nv_serve.specs.Walk.{machine};
+ghost use Rattle.nv_serve.specs.inner.Refined.{IsRefined};
 
 use crate::Event;
 use crate::full_build::full_build;
@@ -34,7 +35,7 @@ impl Model for Session {
 
     ghost Value = { Tables };
 
-    ghost use Rattle.nv_serve.specs.Session.{AreKept};
+    ghost use Rattle.nv_serve.specs.inner.KeptRows.{AreKept};
 
     ghost view = { λ s. s.network };
 

@@ -8,7 +8,7 @@ pub enum Status {
     Done,
     /// The input was read to its end, and some line was refused.
     SomeRefused,
-    /// The program's words were refused.
+    /// There were arguments, which the program takes none of.
     Usage,
     /// The input could not be read.
     ReadFault,
@@ -21,7 +21,7 @@ pub enum Status {
 }
 
 impl Status {
-    /// The exit status of the process: 0 to 6, in the order of the variants (this profile's own).
+    /// The exit status of the process: 0 to 6, in the order of the variants (not from OVN).
     pub fn code(&self) -> u8
         ensures { result ≡ exit_status self.now }
     {

@@ -2,8 +2,8 @@ ghost use Rattle.std.specs.Prelude.{◌≡◌, ◌++◌, if◌then◌else◌, Li
 ghost use Rattle.nv_base.specs.declared.field.Field.TheVariants.{Outport};
 ghost use Rattle.pkt_core.specs.Packet.{value};
 ghost use Rattle.tr_stage.specs.declared.outcome.Cause.TheVariants.{SamePort};
-ghost use Rattle.tr_stage.specs.Pipe.{pipe, IsRunnable};
-ghost use Rattle.tr_stage.specs.Pipe.Ending.{Ended};
+ghost use Rattle.tr_stage.specs.Machine.{run_pipeline, IsRunnable};
+ghost use Rattle.tr_stage.specs.Machine.PipelineEnd.{Ended};
 ghost use Rattle.nv_serve.specs.declared.event.Event.TheVariants as variants;
 ghost use Rattle.nv_serve.specs.Walk.{arriving, is_sent_back, leaving, machine};
 
@@ -76,7 +76,7 @@ fn leave(
     Ok(())
 }
 
-// Runs a packet through one pipeline, and puts its hits behind the events.
+// Runs a packet through one pipeline, and puts its hits after the events.
 fn run(
     alloc: Global,
     rows: &Rows,
@@ -86,8 +86,8 @@ fn run(
     events: &mut Vec<Event>,
 ) -> Result<Outcome, OutOfMemory>
     requires { IsRunnable rows.now dp }
-    ensures hits { OnOk result (events.new.items ≡ events.old.items ++ map variants.Hit (pipe rows.now dp pipeline packet.now).hits) }
-    ensures outcome { IfOk result (λ outcome. (pipe rows.now dp pipeline packet.now).ending ≡ Ended outcome) }
+    ensures hits { OnOk result (events.new.items ≡ events.old.items ++ map variants.Hit (run_pipeline rows.now dp pipeline packet.now).hits) }
+    ensures outcome { IfOk result (λ outcome. (run_pipeline rows.now dp pipeline packet.now).ending ≡ Ended outcome) }
 {
     let mut hits = Vec::new(alloc);
     let outcome = run_pipeline(rows, dp, pipeline, packet, &mut hits)?;
@@ -104,7 +104,7 @@ fn put_hits(hits: &[Hit], events: &mut Vec<Event>) -> Result<(), OutOfMemory>
     Ok(())
 }
 
-// A frame for this address, as it comes in by a port.
+// A frame for this address, as it arrives at a port.
 fn arriving(port: ObjId, mac: Mac) -> Packet
     ensures { result ≡ arriving port mac }
 {

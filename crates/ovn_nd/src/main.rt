@@ -9,20 +9,20 @@ use std::process::ExitCode;
 use std::rt::Env;
 
 fn main(rt: HostRuntime) -> ExitCode {
-    let words = match words(&rt) {
-        Ok(words) => words,
+    let arguments = match arguments(&rt) {
+        Ok(arguments) => arguments,
         Err(error) if error.kind() == ErrorKind::OutOfMemory => {
             return ExitCode::from(Status::OutOfMemory.code());
         }
-        // A word is not UTF-8.
+        // An argument is not UTF-8.
         Err(_) => return ExitCode::from(Status::Usage.code()),
     };
     let mut source = StdSource::new(rt.stdin());
     let mut sink = StdSink::new(rt.stdout());
-    ExitCode::from(run(rt.alloc(), &words, &mut source, &mut sink).code())
+    ExitCode::from(run(rt.alloc(), &arguments, &mut source, &mut sink).code())
 }
 
-// The program's words, its name first.
-fn words(rt: &(impl Env + AllocGlobal)) -> io::Result<Vec<String>> {
+// The program's arguments, its name first.
+fn arguments(rt: &(impl Env + AllocGlobal)) -> io::Result<Vec<String>> {
     Ok(env::args(rt)?.collect(rt.alloc())?)
 }

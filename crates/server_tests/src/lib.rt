@@ -6,4 +6,6 @@ mod fixture;
 #[cfg(test)]
 mod rows;
 #[cfg(test)]
+mod serve;
+#[cfg(test)]
 mod stages;

@@ -32,6 +32,6 @@ returns-else-place-len c =
       | else-place-len-via-then-place-len+else-index-number w ↦
           missed key c.args.number.0 items place.result ends.0 ends.1 rising (λ d inside same. w.if-index-number.false (ap key (w.index.ensures ∙ get_or_default items place.result w.index.result.now d inside) ∙ same))
       | else-place-len-via-else-place-len w ↦
-          missed key c.args.number.0 items place.result ends.0 ends.1 rising (λ d inside same. let behind : length items ≤ place.result = rw (← c.self.inside.switches.ok.0, ← c.len.ensures) w.if-place-len.false in absurd (omega (arith, behind, inside)))
+          missed key c.args.number.0 items place.result ends.0 ends.1 rising (λ d inside same. let following : length items ≤ place.result = rw (← c.self.inside.switches.ok.0, ← c.len.ensures) w.if-place-len.false in absurd (omega (arith, following, inside)))
     ] in
     sym none ∙ ap (λ tables. switch_numbered tables.switches c.args.number) c.self.view_is

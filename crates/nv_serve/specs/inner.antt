@@ -1,0 +1,8 @@
+-- What private contracts and proofs cite. No clause of a public call does, so a reader need not believe it.
+pub mod Endings
+pub mod KeptRows
+pub mod Numbered
+pub mod Pieces
+pub mod Refined
+pub mod StateAfter
+pub mod Writing

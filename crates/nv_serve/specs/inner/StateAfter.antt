@@ -1,0 +1,21 @@
+-- The state of the program after a part of its input.
+use Rattle.std.specs.Prelude.{◌≡◌, ℕ, Bool, List, [], ◌∷◌, ◌++◌}
+use Rattle.std.specs.List.{slice_split}
+use Rattle.nv_serve.specs.Network.{Tables, empty_network}
+use Rattle.nv_serve.specs.Reply.{network_after, some_refused}
+use Rattle.nv_serve.specs.Output.{is_newline, lines_of, complete_lines}
+
+-- the network, the line that has no end yet, and whether a line was refused, after these bytes
+pub record IsStateAfter (network : Tables) (line : List ℕ) (refused : Bool) (before : List ℕ) : Type 0 where
+  pub line_is : lines_of before ≡ complete_lines before ++ line ∷ []
+  pub network_is : network ≡ network_after empty_network (complete_lines before)
+  pub refused_is : refused ≡ some_refused empty_network (complete_lines before)
+
+-- bytes that end no line
+abbrev pub EndsNoLine : List ℕ → Type 0
+EndsNoLine bytes = slice_split is_newline bytes ≡ bytes ∷ []
+
+-- a line that is cut off, and the bytes after its newline
+pub record CutsLine (bytes line rest : List ℕ) : Type 0 where
+  pub whole : bytes ≡ line ++ 10 ∷ rest
+  pub ends_no_line : EndsNoLine line

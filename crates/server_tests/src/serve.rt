@@ -1,0 +1,160 @@
+use nv_base::OutOfMemory;
+use nv_io::{CleanSource, MemSink, MemSource, NullSink, Sink, StdSource};
+use nv_serve::{Line, Refusal, Status, read_line, run};
+use std::alloc::Global;
+use std::io::{self, ErrorKind, Read};
+use std::test::Fail;
+
+// What `ls-add sw0` and `lflow-list` are answered.
+const ADDED_AND_LISTED: &str = "ok
+Datapath: sw0  Pipeline: ingress
+  table=0 (ls_in_check_port_sec), priority=100, hint=0, match=(eth.src[40]), action=(drop;)
+  table=0 (ls_in_check_port_sec), priority=0, hint=0, match=(1), action=(next;)
+  table=1 (ls_in_pre_acl), priority=0, hint=0, match=(1), action=(next;)
+  table=2 (ls_in_pre_stateful), priority=0, hint=0, match=(1), action=(next;)
+  table=3 (ls_in_acl_eval), priority=0, hint=0, match=(1), action=(next;)
+  table=4 (ls_in_lb), priority=0, hint=0, match=(1), action=(next;)
+  table=5 (ls_in_stateful), priority=0, hint=0, match=(1), action=(next;)
+  table=6 (ls_in_arp_rsp), priority=0, hint=0, match=(1), action=(next;)
+  table=7 (ls_in_l2_lkup), priority=100, hint=0, match=(eth.mcast), action=(outport = \"_MC_flood\"; output;)
+  table=7 (ls_in_l2_lkup), priority=0, hint=0, match=(1), action=(next;)
+  table=8 (ls_in_l2_unknown), priority=0, hint=0, match=(1), action=(drop;)
+Datapath: sw0  Pipeline: egress
+  table=0 (ls_out_pre_acl), priority=0, hint=0, match=(1), action=(next;)
+  table=1 (ls_out_pre_stateful), priority=0, hint=0, match=(1), action=(next;)
+  table=2 (ls_out_acl_eval), priority=0, hint=0, match=(1), action=(next;)
+  table=3 (ls_out_stateful), priority=0, hint=0, match=(1), action=(next;)
+  table=4 (ls_out_check_port_sec), priority=100, hint=0, match=(eth.mcast), action=(output;)
+  table=4 (ls_out_check_port_sec), priority=0, hint=0, match=(1), action=(output;)
+ok
+";
+
+// Room for the output of any script here.
+const ROOM: usize = 8192;
+
+// How the run of three new switches ends, whose names are given by one take each.
+fn adds_three<K: Sink>(
+    alloc: Global,
+    failing_takes: &[u64],
+    sink: &mut K,
+) -> Result<(Status, u64), OutOfMemory> {
+    let script = Vec::from_slice(alloc, b"ls-add a\nls-add b\nls-add c\n")?;
+    let mut source = MemSource::new(script, 9, Vec::from_slice(alloc, failing_takes)?);
+    let status = run(alloc, &[], &mut source, sink);
+    Ok((status, source.takes()))
+}
+
+// A reader whose second read fails, and whose other reads give a command each.
+#[derive(Drop)]
+struct FailsOnce {
+    reads: u64,
+}
+
+impl Read for FailsOnce {
+    fn read(&mut self, buf: &mut [u8]) -> io::Result<usize> {
+        self.reads = self.reads.saturating_add(1);
+        let command = b"ls-add a\n";
+        if self.reads == 2 || buf.len() < command.len() {
+            return Err(io::Error::from(ErrorKind::BrokenPipe));
+        }
+        buf[..command.len()].copy_from_slice(command);
+        Ok(command.len())
+    }
+}
+
+#[test]
+fn no_input_is_no_output(rt: HostRuntime) -> Result<(), Fail> {
+    let mut arguments = Vec::new(rt.alloc());
+    arguments.push(String::from_str(rt.alloc(), "ovn_nd")?)?;
+    let mut source = CleanSource::new(Vec::new(rt.alloc()), 9);
+    let mut sink = NullSink::new();
+    let status = run(rt.alloc(), &arguments, &mut source, &mut sink);
+    assert_eq!(rt; status, Status::Done);
+    assert_eq!(rt; (sink.len(), sink.puts()), (0, 0));
+    Ok(())
+}
+
+#[test]
+fn arguments_are_refused(rt: HostRuntime) -> Result<(), Fail> {
+    let mut arguments = Vec::new(rt.alloc());
+    for argument in ["ovn_nd", "--hops", "0"] {
+        arguments.push(String::from_str(rt.alloc(), argument)?)?;
+    }
+    let script = Vec::from_slice(rt.alloc(), b"ls-add a\n")?;
+    let mut source = MemSource::new(script, 9, Vec::new(rt.alloc()));
+    let mut sink = MemSink::new(rt.alloc(), ROOM, 9, Vec::new(rt.alloc()))?;
+    let status = run(rt.alloc(), &arguments, &mut source, &mut sink);
+    assert_eq!(rt; (status, source.takes()), (Status::Usage, 0));
+    assert_eq!(rt; sink.as_slice(), b"usage: ovn_nd\n".as_slice());
+
+    // There is room for six bytes: the put after them is the last.
+    let mut sink = MemSink::new(rt.alloc(), 6, 9, Vec::new(rt.alloc()))?;
+    let status = run(rt.alloc(), &arguments, &mut source, &mut sink);
+    assert_eq!(rt; (status, source.takes()), (Status::WriteFault, 0));
+    assert_eq!(rt; sink.as_slice(), b"usage:".as_slice());
+    Ok(())
+}
+
+#[test]
+fn a_fault_ends_the_run(rt: HostRuntime) -> Result<(), Fail> {
+    // The third take fails: the first two lines are answered, and there is no fourth take.
+    let mut sink = MemSink::new(rt.alloc(), ROOM, 9, Vec::new(rt.alloc()))?;
+    let ended = adds_three(rt.alloc(), &[3], &mut sink)?;
+    assert_eq!(rt; ended, (Status::ReadFault, 3));
+    assert_eq!(rt; sink.as_slice(), b"ok\nok\n".as_slice());
+
+    // The first put fails: there is no second, and no second take.
+    let failing_puts = Vec::from_slice(rt.alloc(), &[1])?;
+    let mut sink = MemSink::new(rt.alloc(), ROOM, 9, failing_puts)?;
+    let ended = adds_three(rt.alloc(), &[], &mut sink)?;
+    assert_eq!(rt; ended, (Status::WriteFault, 1));
+    assert_eq!(rt; (sink.as_slice().len(), sink.puts()), (0, 1));
+
+    // There is room for four bytes: the put after them is the last.
+    let mut sink = MemSink::new(rt.alloc(), 4, 9, Vec::new(rt.alloc()))?;
+    let ended = adds_three(rt.alloc(), &[], &mut sink)?;
+    assert_eq!(rt; ended, (Status::WriteFault, 2));
+    assert_eq!(rt; sink.as_slice(), b"ok\no".as_slice());
+    assert_eq!(rt; sink.puts(), 3);
+    Ok(())
+}
+
+#[test]
+fn nothing_is_read_after_a_failed_read(rt: HostRuntime) -> Result<(), Fail> {
+    let mut source = StdSource::new(FailsOnce { reads: 0 });
+    let mut sink = MemSink::new(rt.alloc(), ROOM, 9, Vec::new(rt.alloc()))?;
+    let status = run(rt.alloc(), &[], &mut source, &mut sink);
+    assert_eq!(rt; status, Status::ReadFault);
+    assert_eq!(rt; (source.takes(), source.faults()), (2, 1));
+    assert_eq!(rt; source.into_inner().reads, 2);
+    assert_eq!(rt; sink.as_slice(), b"ok\n".as_slice());
+    Ok(())
+}
+
+#[test]
+fn without_memory_the_output_is_cut_off(rt: HostRuntime) {
+    let Ok(mut sink) = MemSink::new(rt.alloc(), ROOM, 64, Vec::new(rt.alloc())) else {
+        // The sink itself got no memory, so nothing ran.
+        return;
+    };
+    let mut source = StdSource::new(b"ls-add sw0\nlflow-list".as_slice());
+    let status = run(rt.alloc(), &[], &mut source, &mut sink);
+    let written = sink.as_slice();
+    if status == Status::Done {
+        assert_eq!(rt; written, ADDED_AND_LISTED.as_bytes());
+    } else {
+        assert_eq!(rt; status, Status::OutOfMemory);
+        assert!(rt; ADDED_AND_LISTED.as_bytes().starts_with(written));
+    }
+}
+
+#[test]
+fn a_line_is_read(rt: HostRuntime) -> Result<(), Fail> {
+    let line = read_line(rt.alloc(), b"ls-add -sw0")?;
+    assert_eq!(rt; line, Line::Refused(Refusal::BadName(2)));
+    let mut told = Vec::new(rt.alloc());
+    Refusal::BadMac(3).put_line(&mut told)?;
+    assert_eq!(rt; told.as_slice(), b"refused E06 BadMac 3\n".as_slice());
+    assert_eq!(rt; Status::OutOfMemory.code(), 6);
+    Ok(())
+}

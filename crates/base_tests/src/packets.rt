@@ -174,3 +174,14 @@ fn an_arp_request_is_replied_to(rt: HostRuntime) {
     );
     assert!(rt; !arp_packet().is_answerable());
 }
+
+#[test]
+fn packets_are_compared_by_their_numbers(rt: HostRuntime) {
+    let packet = udp_packet();
+    assert!(rt; packet.copy(rt.alloc()) == Ok(packet));
+    let mut other = packet;
+    other.set(Field::UdpDst, 8);
+    assert!(rt; packet != other && packet < other);
+    other.set(Field::Inport, 1);
+    assert!(rt; other < packet);
+}

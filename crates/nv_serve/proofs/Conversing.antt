@@ -12,7 +12,7 @@ use Rattle.nv_serve.specs.declared.stop.Stop.TheVariants as stops
 use Rattle.nv_serve.specs.Network.{Tables}
 use Rattle.nv_serve.specs.Reply.{reply}
 use Rattle.nv_serve.specs.Output.{output, complete_output, input_limit}
-use Rattle.nv_serve.specs.Calls.{IsPrefix, Gave, Took, Moved, told_left, Point, start_at, IsReady, piece_limit, Calls, no_call, and_take, and_puts, LastTakeGivesNothing, LastTakeFails, LastPutFails}
+use Rattle.nv_serve.specs.Calls.{IsPrefix, Gave, Took, Moved, told_left, Point, start_at, IsReady, piece_limit, Calls, no_call, and_take, and_puts, LastTakeGivesNothing}
 use Rattle.nv_serve.specs.inner.Pieces.{IsDue, BeginsOutput}
 use Rattle.nv_serve.specs.inner.StateAfter.{IsStateAfter}
 use Rattle.nv_serve.specs.inner.Writing.{Wrote, PutFailed, StopsWithin}

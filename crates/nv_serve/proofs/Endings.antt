@@ -1,5 +1,5 @@
 -- What the end of a run says, clause by clause.
-use Rattle.std.proofs.Common.{◌≡◌, ℕ, ◌+◌, ◌<◌, ◌≤◌, ◌⊎◌, inl, inr, true, false, List, [], ◌++◌, Option, Some, None, Result, length, take, refl, sym, ap, subst, ◌∙◌, arith, IsSomeAnd}
+use Rattle.std.proofs.Common.{◌≡◌, ℕ, ◌+◌, ◌<◌, ◌≤◌, ◌⊎◌, inl, inr, true, List, [], ◌++◌, Option, Some, None, Result, length, take, refl, sym, ap, subst, arith, IsSomeAnd}
 use Rattle.std.specs.Prelude.{◌↔◌, if◌then◌else◌}
 use Rattle.std.specs.Io.KnownBytes.{Consumes, IsAtEnd}
 use Rattle.std.proofs.lemmas.Bool.{lt-ltb, le-ltb}
@@ -11,11 +11,13 @@ use Rattle.nv_io.specs.declared.source.SourceFailed.{SourceFailed}
 use Rattle.nv_serve.specs.declared.status.Status.{Status}
 use Rattle.nv_serve.specs.declared.status.Status.TheVariants.{Done, SomeRefused, Usage, ReadFault, WriteFault, InputTooLong, OutOfMemory}
 use Rattle.nv_serve.specs.Output.{output, output_for, complete_output, usage_line, is_refused, lines_of, input_limit}
-use Rattle.nv_serve.specs.Calls.{IsPrefix, Gave, Took, Moved, told_left, Point, start_at, no_call, and_puts}
+use Rattle.nv_serve.specs.Calls.{IsPrefix, Moved, told_left, start_at, no_call, and_puts}
 use Rattle.nv_serve.specs.Run.{IsFinished, NothingFollowsAFault}
 use Rattle.nv_serve.specs.Traced.{FramesAreMeant}
 use Rattle.nv_serve.specs.inner.Writing.{Wrote, PutFailed}
-use Rattle.nv_serve.specs.inner.Endings.{Finished, WriteFaulted, Ends, Refuses}
+use Rattle.nv_serve.specs.declared.stop.Stop.{Stop}
+use Rattle.nv_serve.specs.declared.stop.Stop.TheVariants as stops
+use Rattle.nv_serve.specs.inner.Endings.{status_of, StopEnds, StopCalls, Ends, Refuses}
 use Rattle.nv_serve.proofs.Writing.{gave_nothing}
 use Rattle.nv_serve.proofs.Traced.{frames_meant}
 
@@ -71,10 +73,25 @@ module _ {S K : Type 0} (takes : S → List ℕ → Result ℕ SourceFailed → 
   refuses s k l OutOfMemory many none = absurd none
 
   module _ (s : S) (k : K) (t : S) (l : K) where
-    -- what is due where a put failed
-    pub faulted_of_few : count ≤ 1 → (given written : List ℕ) → WriteFaulted output (source_state s, sink_state k) (source_state t, sink_state l) given written
-        → WriteFaulted (output_for count) (source_state s, sink_state k) (source_state t, sink_state l) given written
-    faulted_of_few few given written faulted = record { rose = faulted.rose; begins = subst (λ due. IsPrefix written due) (due_of_few count few (given ++ told_left (source_state t).left)) faulted.begins }
+    -- a run that is stopped
+    pub stopped : (stop : Stop) → count ≤ 1
+        → Moved source_state sink_state (s, k) (t, l) (λ given written.
+        StopEnds (source_state s, sink_state k) (source_state t, sink_state l) given written stop
+        × StopCalls takes puts (start_at s k) (record { source = t; sink = l; given = given; written = written }) stop)
+        → EndedAt s k t l (status_of stop)
+    stopped stops.ReadFault few (given, written, gave, took, (ends, calls)) = (given, written, gave, took, ((few, ends), calls))
+    stopped stops.WriteFault few (given, written, gave, took, (ends, calls)) = (
+      given,
+      written,
+      gave,
+      took,
+      (
+        record { rose = ends.rose; begins = subst (λ due. IsPrefix written due) (due_of_few count few (given ++ told_left (source_state t).left)) ends.begins },
+        calls,
+      ),
+    )
+    stopped stops.InputTooLong few (given, written, gave, took, (ends, calls)) = (given, written, gave, took, ((few, ends), calls))
+    stopped stops.OutOfMemory few (given, written, gave, took, (ends, calls)) = (given, written, gave, took, ((few, ends), calls))
 
     -- the input was read to its end
     pub done : (status : Status) → EndedAt s k t l status → IsFinished status → MovedTo s k t l (λ given written. IsAtEnd (source_state t).left × (written ≡ output given))

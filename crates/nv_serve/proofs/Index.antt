@@ -11,7 +11,8 @@ use Rattle.std.proofs.lemmas.Slice.Eq.{bytes_eq-Decides}
 use Rattle.nv_base.specs.declared.object.ObjId.{ObjId}
 use Rattle.nv_serve.specs.declared.port.Port.{Port}
 use Rattle.nv_serve.specs.Network.{Switch, switch_named, port_named, addressed_ports}
-use Rattle.nv_serve.specs.inner.Numbered.{port_place, port_numbers, switch_numbers, AreOnSwitches}
+use Rattle.nv_serve.specs.Sound.{port_numbers, switch_numbers, AreOnSwitches}
+use Rattle.nv_serve.specs.inner.Index.{port_place}
 
 -- a text is not two others that differ
 differ : (a b q : List ℕ) → bytes_eq a b ≡ false → bytes_eq a q ≡ true → bytes_eq b q ≡ false
@@ -19,7 +20,7 @@ differ a b q apart same =
     false_from_ne_true (bytes_eq b q) (λ also. false≢true (sym apart ∙ (bytes_eq-Decides a b).1 ((bytes_eq-Decides a q).0 same ∙ sym ((bytes_eq-Decides b q).0 also))))
 
 -- a choice that gives nothing chose the other side, which gives nothing
-cond_none : {X : Type 0} (b : Bool) (x : X) (o : Option X) → cond b (Some x) o ≡ None → (b ≡ false) × (o ≡ None)
+pub cond_none : {X : Type 0} (b : Bool) (x : X) (o : Option X) → cond b (Some x) o ≡ None → (b ≡ false) × (o ≡ None)
 cond_none true x o h = cc
 cond_none false x o h = (refl, h)
 
@@ -40,7 +41,7 @@ map_cond f true x o = refl
 map_cond f false x o = refl
 
 -- a map that gives nothing had nothing
-map_none : {X Y : Type 0} (f : X → Y) (o : Option X) → option_map f o ≡ None → o ≡ None
+pub map_none : {X Y : Type 0} (f : X → Y) (o : Option X) → option_map f o ≡ None → o ≡ None
 map_none f None h = refl
 map_none f (Some x) h = cc
 

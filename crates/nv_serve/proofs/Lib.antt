@@ -7,6 +7,7 @@ pub mod StateAfter
 pub mod Pieces
 pub mod Conversing
 pub mod Numbers
+pub mod Distinct
 pub mod Search
 pub mod Selected
 pub mod StageLaws
@@ -15,6 +16,8 @@ pub mod Refinement
 pub mod Reached
 pub mod Traced
 pub mod Endings
+pub mod Outputs
+pub mod Refusals
 pub mod Built
 pub mod SwitchRows
 pub mod PortRows

@@ -6,7 +6,7 @@ use Rattle.std.proofs.lemmas.List.{map-append, take-append-drop}
 use Rattle.std.proofs.lemmas.List.Elements.{Contains-append_left}
 use Rattle.nv_serve.specs.declared.port.Port.{Port}
 use Rattle.nv_serve.specs.Network.{Switch}
-use Rattle.nv_serve.specs.inner.Numbered.{IsRising, AreNumbers, AreOnSwitches, IsNumbered, switch_numbers, port_numbers}
+use Rattle.nv_serve.specs.Sound.{IsRising, AreNumbers, AreOnSwitches, IsNumbered, switch_numbers, port_numbers}
 
 -- every element of two lists, one after the other
 pub every_append : {X : Type 0} (P : X → Type 0) (xs ys : List X) → AllByRecursion P xs → AllByRecursion P ys → AllByRecursion P (xs ++ ys)

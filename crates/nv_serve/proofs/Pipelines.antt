@@ -19,7 +19,7 @@ use Rattle.tr_stage.specs.Machine.PipelineEnd.{Ended}
 use Rattle.tr_stage.proofs.Steps.{pipeline_begins, run-next, run-drop, run-output, run-to}
 use Rattle.nv_serve.specs.declared.port.Port.{Port}
 use Rattle.nv_serve.specs.Network.{Switch, Tables}
-use Rattle.nv_serve.specs.inner.Numbered.{IsRising, port_numbers}
+use Rattle.nv_serve.specs.Sound.{IsRising, port_numbers}
 use Rattle.nv_serve.specs.SwitchMeaning.{port_to}
 use Rattle.nv_serve.specs.FullBuild.{row_on, lookup_row, full_build}
 use Rattle.nv_serve.proofs.StageLaws.{last_row, next_row, at-LsInCheckPortSec, at-LsInPreAcl, at-LsInPreStateful, at-LsInAclEval, at-LsInLb, at-LsInStateful, at-LsInArpRsp, at-LsInL2Lkup-port, at-LsInL2Lkup-none, at-LsInL2Unknown, at-LsOutPreAcl, at-LsOutPreStateful, at-LsOutAclEval, at-LsOutStateful, at-LsOutCheckPortSec}

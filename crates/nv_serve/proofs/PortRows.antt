@@ -5,7 +5,7 @@ use Rattle.std.proofs.lemmas.List.Elements.{All-from_recursion, recursion_from_A
 use Rattle.sb_rows.specs.declared.row.Row.{Row}
 use Rattle.sb_rows.specs.Row.{put_rows}
 use Rattle.nv_serve.specs.declared.port.Port.{Port}
-use Rattle.nv_serve.specs.inner.Numbered.{IsRising, port_numbers}
+use Rattle.nv_serve.specs.Sound.{IsRising, port_numbers}
 use Rattle.nv_serve.specs.FullBuild.{lookup_rows, port_rows}
 use Rattle.nv_serve.proofs.Built.{every_put_rows}
 use Rattle.nv_serve.proofs.Numbers.{every_append, every_weaker, rising_taken}

@@ -16,7 +16,7 @@ use Rattle.nv_serve.specs.declared.event.Event.{Event}
 use Rattle.nv_serve.specs.declared.event.Event.TheVariants as events
 use Rattle.nv_serve.specs.declared.port.Port.{Port}
 use Rattle.nv_serve.specs.Network.{Switch, Tables}
-use Rattle.nv_serve.specs.inner.Numbered.{IsNumbered, switch_numbers}
+use Rattle.nv_serve.specs.Sound.{IsNumbered, switch_numbers}
 use Rattle.nv_serve.specs.SwitchMeaning.{frame_for, port_to, sent_on, meaning}
 use Rattle.nv_serve.specs.FullBuild.{full_build}
 use Rattle.nv_serve.specs.Walk.{arriving, with_hits, delivered, leaving, arrived, machine, is_hit, without_hits}

@@ -17,7 +17,7 @@ use Rattle.tr_stage.specs.Machine.{IsRunnable, TakesEach, is_of_switch, is_last,
 use Rattle.nv_serve.specs.declared.full_build.FixedRow.{FixedRow}
 use Rattle.nv_serve.specs.declared.port.Port.{Port}
 use Rattle.nv_serve.specs.Network.{Switch, Tables}
-use Rattle.nv_serve.specs.inner.Numbered.{IsNumbered, switch_numbers}
+use Rattle.nv_serve.specs.Sound.{IsNumbered, switch_numbers}
 use Rattle.nv_serve.specs.FullBuild.{fixed_rows, row_on, switch_rows, lookup_row, lookup_rows, port_rows, full_build}
 use Rattle.nv_serve.proofs.Built.{every_put_rows, every_flat_map}
 use Rattle.nv_serve.proofs.Numbers.{every_append}

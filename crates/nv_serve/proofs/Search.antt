@@ -4,7 +4,7 @@ use Rattle.std.specs.List.{find, AllWithin}
 use Rattle.std.specs.List.Sorted.{IsNonDecreasingBy}
 use Rattle.std.proofs.lemmas.Bool.Decides.{nat_tests}
 use Rattle.std.proofs.lemmas.List.Sorted.{IsNonDecreasingBy-from_all_adjacent}
-use Rattle.nv_serve.specs.inner.Numbered.{IsRising}
+use Rattle.nv_serve.specs.Sound.{IsRising}
 
 -- the first element that passes
 pub find_first : {X : Type 0} (p : X → Bool) (xs : List X) (i : ℕ) (d : X) → ((k : ℕ) → k < i → p (get_or xs k d) ≡ false) → i < length xs → p (get_or xs i d) ≡ true → find p xs ≡ Some (get_or xs i d)

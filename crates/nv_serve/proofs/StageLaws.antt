@@ -22,7 +22,7 @@ use Rattle.sb_rows.specs.Match.{is_multicast, holds, select}
 use Rattle.nv_serve.specs.declared.full_build.FixedRow.{FixedRow}
 use Rattle.nv_serve.specs.declared.port.Port.{Port}
 use Rattle.nv_serve.specs.Network.{Switch, Tables}
-use Rattle.nv_serve.specs.inner.Numbered.{IsRising, port_numbers}
+use Rattle.nv_serve.specs.Sound.{IsRising, port_numbers}
 use Rattle.nv_serve.specs.SwitchMeaning.{is_its_address, leads_to, port_to}
 use Rattle.nv_serve.specs.FullBuild.{row_on, lookup_row, full_build}
 use Rattle.nv_serve.proofs.Selected.{one_of, one_of_none, one_first, one_later, fixed_at, IsFixedAt, IsLookupAt, table-gives, full_build-in_order, full_build-lookup, first_of_takers, stage_law}

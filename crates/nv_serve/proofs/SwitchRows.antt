@@ -18,7 +18,7 @@ use Rattle.sb_rows.specs.Stage.{stage_place}
 use Rattle.sb_rows.proofs.Order.{row_cmp_total}
 use Rattle.nv_serve.specs.declared.full_build.FixedRow.{FixedRow}
 use Rattle.nv_serve.specs.Network.{Switch}
-use Rattle.nv_serve.specs.inner.Numbered.{IsRising, switch_numbers}
+use Rattle.nv_serve.specs.Sound.{IsRising, switch_numbers}
 use Rattle.nv_serve.specs.FullBuild.{fixed_rows, row_on, switch_rows}
 use Rattle.nv_serve.proofs.Built.{every_put_rows, every_flat_map, one_more as one_switch_more}
 use Rattle.nv_serve.proofs.Numbers.{every_append, every_weaker, rising_taken}

@@ -1,5 +1,5 @@
 -- Each frame is answered by what the switch does with it.
-use Rattle.std.proofs.Common.{◌≡◌, ℕ, suc, Bool, true, false, cond, Option, Some, None, Result, List, [], ◌∷◌, refl, subst, arith}
+use Rattle.std.proofs.Common.{◌≡◌, ℕ, suc, Bool, true, false, cond, Option, Some, None, List, [], ◌∷◌, refl, subst, arith}
 use Rattle.std.specs.Prelude.{◌||◌, ◌==◌, codes}
 use Rattle.std.specs.List.{Contains}
 use Rattle.std.specs.Str.{bytes_eq}
@@ -15,8 +15,6 @@ use Rattle.nv_serve.specs.Address.{unicast, unicast_of}
 use Rattle.nv_serve.specs.Line.{words_of, is_comment, are_unquoted, said, said_by, command_of, command_of_one, command_of_two, named, addressed}
 use Rattle.nv_serve.specs.Network.{Tables, empty_network, port_named}
 use Rattle.nv_serve.specs.Reply.{reply, reply_to, network_after}
-use Rattle.nv_serve.specs.Walk.{machine}
-use Rattle.nv_serve.specs.FullBuild.{full_build}
 use Rattle.nv_serve.specs.Traced.{TellsMeaning, FramesAreMeant}
 use Rattle.nv_serve.proofs.Reached.{each_refined}
 

@@ -7,6 +7,7 @@ pub mod Network
 pub mod Output
 pub mod Reply
 pub mod Run
+pub mod Sound
 pub mod Status
 pub mod SwitchMeaning
 pub mod Traced

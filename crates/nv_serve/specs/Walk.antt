@@ -1,9 +1,11 @@
 -- The walk of a frame for a unicast MAC through a switch, by the switch's rows.
-use Rattle.std.specs.Prelude.{ℕ, Bool, true, false, not, ◌&&◌, ◌==◌, if◌then◌else◌, List, [], ◌∷◌, ◌++◌, map, filter}
+use Rattle.std.specs.Prelude.{◌≡◌, ℕ, Bool, true, false, not, ◌&&◌, ◌==◌, if◌then◌else◌, List, [], ◌∷◌, ◌++◌, map, filter}
+use Rattle.std.specs.List.{Contains}
 use Rattle.nv_base.specs.declared.object.ObjId.{ObjId}
 use Rattle.nv_base.specs.declared.field.Field.TheVariants.{Inport, Outport, FlagsLoopback}
 use Rattle.pkt_core.specs.Packet.{Values, value, with_value, headers}
 use Rattle.sb_rows.specs.declared.row.Row.{Row}
+use Rattle.sb_rows.specs.Match.{is_multicast}
 use Rattle.sb_rows.specs.declared.stage.Pipeline.TheVariants.{Ingress, Egress}
 use Rattle.tr_stage.specs.declared.outcome.Cause.TheVariants.{SamePort}
 use Rattle.tr_stage.specs.declared.outcome.Outcome.TheVariants.{Leave, Deliver, Drop}
@@ -11,7 +13,10 @@ use Rattle.tr_stage.specs.Machine.{PipelineEnd, PipelineRun, run_pipeline}
 use Rattle.tr_stage.specs.Machine.PipelineEnd.{Ended, Stuck}
 use Rattle.nv_serve.specs.declared.event.Event.{Event}
 use Rattle.nv_serve.specs.declared.event.Event.TheVariants as events
-use Rattle.nv_serve.specs.SwitchMeaning.{frame_for}
+use Rattle.nv_serve.specs.SwitchMeaning.{frame_for, meaning}
+use Rattle.nv_serve.specs.declared.port.Port.{Port}
+use Rattle.nv_serve.specs.Network.{Tables}
+use Rattle.nv_serve.specs.FullBuild.{full_build}
 
 -- a frame for this address, as it arrives at a port
 abbrev pub arriving : ObjId → ℕ → Values
@@ -56,3 +61,9 @@ is_hit (events.Drop dp cause) = false
 -- the events, hits left out
 abbrev pub without_hits : List Event → List Event
 without_hits all = filter (λ event. not (is_hit event)) all
+
+-- what a switch's rows do with each frame for a unicast MAC is, hits left out, what the switch does with it
+abbrev pub IsRefined : Tables → Type 0
+IsRefined tables =
+    (arrival : Port) (mac : ℕ) → Contains tables.ports arrival → is_multicast mac ≡ false
+    → without_hits (machine (full_build tables) arrival.switch arrival.id mac) ≡ meaning tables.ports arrival mac

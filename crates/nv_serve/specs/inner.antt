@@ -1,8 +1,7 @@
 -- What private contracts and proofs cite. No clause of a public call does, so a reader need not believe it.
 pub mod Endings
+pub mod Index
 pub mod KeptRows
-pub mod Numbered
 pub mod Pieces
-pub mod Refined
 pub mod StateAfter
 pub mod Writing

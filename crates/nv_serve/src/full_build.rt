@@ -1,7 +1,7 @@
 ghost use Rattle.std.specs.Prelude.{◌≡◌, ◌<◌, ◌++◌, ℕ, List, [], All, map, flat_map, IfOk, OnOk};
 ghost use Rattle.std.specs.List.{AllByRecursion};
 ghost use Rattle.sb_rows.specs.Row.{put_rows};
-ghost use Rattle.nv_serve.specs.inner.Numbered.{IsRising, IsNumbered, switch_numbers, port_numbers};
+ghost use Rattle.nv_serve.specs.Sound.{IsRising, IsNumbered, switch_numbers, port_numbers};
 ghost use Rattle.nv_serve.specs.inner.KeptRows.{AreRowsOf};
 ghost use Rattle.nv_serve.specs.FullBuild.{
   fixed_rows as table_of_fixed_rows,

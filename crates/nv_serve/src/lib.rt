@@ -6,6 +6,7 @@ mod cut;
 mod event;
 mod events;
 mod full_build;
+mod laws;
 mod line;
 mod network;
 mod port;
@@ -20,6 +21,9 @@ mod stop;
 mod walk;
 
 pub use event::Event;
+pub use laws::{
+    lines_leave_sound_networks, output_goes_on, refusals_say_so, sound_networks_are_refined,
+};
 pub use line::{Line, read_line};
 pub use refusal::Refusal;
 pub use serve::run;

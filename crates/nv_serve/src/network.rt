@@ -10,7 +10,7 @@ ghost use Rattle.nv_serve.specs.Network.{
 };
 ghost use Rattle.nv_serve.specs.declared.port.Port.{Port};
 ghost use Rattle.nv_serve.specs.Events.{switch_numbered, port_numbered};
-ghost use Rattle.nv_serve.specs.inner.Numbered.{IsNumbered, switch_numbers};
+ghost use Rattle.nv_serve.specs.Sound.{IsNumbered, switch_numbers};
 
 use crate::port::Port;
 use nv_base::{Mac, Name, ObjId, OutOfMemory};
@@ -33,7 +33,8 @@ impl Model for Network {
 
     ghost Value = { Tables };
 
-    ghost use Rattle.nv_serve.specs.inner.Numbered.{IsSwitchIndex, IsPortIndex, IsNumbered};
+    ghost use Rattle.nv_serve.specs.Sound.{IsNumbered};
+    ghost use Rattle.nv_serve.specs.inner.Index.{IsSwitchIndex, IsPortIndex};
 
     ghost view = { λ n. record { switches = n.switches.items; ports = n.ports.items; next = n.next } };
 

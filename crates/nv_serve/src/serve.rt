@@ -12,7 +12,6 @@ use crate::Status;
 use crate::converse::converse;
 use crate::put_all::put_all;
 use crate::server::Server;
-use crate::stop::Stop;
 use nv_io::{Sink, Source};
 use std::alloc::Global;
 
@@ -96,10 +95,7 @@ fn serve<S: Source, K: Sink>(alloc: Global, count: usize, source: &mut S, sink: 
     match converse(alloc, &mut server, source, sink) {
         Ok(()) if server.some_refused => Status::SomeRefused,
         Ok(()) => Status::Done,
-        Err(Stop::ReadFault) => Status::ReadFault,
-        Err(Stop::WriteFault) => Status::WriteFault,
-        Err(Stop::InputTooLong) => Status::InputTooLong,
-        Err(Stop::OutOfMemory) => Status::OutOfMemory,
+        Err(stop) => stop.status(),
     }
 }
 

@@ -9,10 +9,9 @@ ghost use Rattle.nv_serve.specs.Network.{
   with_port,
   with_address,
 };
-ghost use Rattle.nv_serve.specs.inner.Numbered.{switch_numbers};
+ghost use Rattle.nv_serve.specs.Sound.{switch_numbers};
 ghost use Rattle.nv_serve.specs.inner.KeptRows.{AreRowsOf};
-ghost use Rattle.nv_serve.specs.Walk.{machine};
-ghost use Rattle.nv_serve.specs.inner.Refined.{IsRefined};
+ghost use Rattle.nv_serve.specs.Walk.{machine, IsRefined};
 
 use crate::Event;
 use crate::full_build::full_build;

@@ -1,6 +1,8 @@
 ghost use Rattle.std.specs.Prelude.{◌≡◌};
 ghost use Rattle.nv_serve.specs.declared.stop.Stop.TheVariants.{ReadFault, WriteFault, OutOfMemory};
+ghost use Rattle.nv_serve.specs.inner.Endings.{status_of};
 
+use crate::Status;
 use nv_io::{SinkFailed, SourceFailed};
 use std::alloc::AllocError;
 
@@ -15,6 +17,20 @@ pub enum Stop {
     InputTooLong,
     // Memory ran out.
     OutOfMemory,
+}
+
+impl Stop {
+    // The status of a run that is stopped.
+    pub fn status(&self) -> Status
+        ensures { result ≡ status_of self.now }
+    {
+        match self {
+            Stop::ReadFault => Status::ReadFault,
+            Stop::WriteFault => Status::WriteFault,
+            Stop::InputTooLong => Status::InputTooLong,
+            Stop::OutOfMemory => Status::OutOfMemory,
+        }
+    }
 }
 
 impl From<SourceFailed> for Stop {

@@ -1,5 +1,5 @@
 -- A packet: a number for each field.
-use Rattle.std.specs.Prelude.{ℕ, ◌-◌, ◌<◌, ◌^◌, Bool, not, if◌then◌else◌, List, [], ◌∷◌, map, slice_index, slice_set, replicate}
+use Rattle.std.specs.Prelude.{◌≡◌, ℕ, ◌-◌, ◌<◌, ◌^◌, length, Bool, not, if◌then◌else◌, List, [], ◌∷◌, map, slice_index, slice_set, replicate}
 use Rattle.nv_base.specs.declared.field.Field.{Field}
 use Rattle.nv_base.specs.Field.{field_number, field_width, is_header, all_fields}
 
@@ -56,6 +56,7 @@ is_working field = not (is_header field)
 abbrev pub workings : Values → Values
 workings packet = only packet is_working
 
--- each field's number fits the field's width
-abbrev pub Fits : Values → Type 0
-Fits packet = (field : Field) → value packet field < 2 ^ field_width field
+-- a packet: a number for each field, which fits the field's width
+pub record IsPacket (packet : Values) : Type 0 where
+  pub count : length packet ≡ field_count
+  pub fits : (field : Field) → value packet field < 2 ^ field_width field

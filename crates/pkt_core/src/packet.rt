@@ -1,6 +1,6 @@
 ghost use Rattle.std.specs.Prelude.{◌≡◌, ◌≢◌, ◌<◌, ◌^◌};
 ghost use Rattle.nv_base.specs.Field.{field_width};
-ghost use Rattle.pkt_core.specs.Packet.{place, value, with_value, exchanged, zero_packet};
+ghost use Rattle.pkt_core.specs.Packet.{place, value, with_value, exchanged, zero_packet, IsPacket};
 ghost use Rattle.nv_base.specs.declared.field.Field.{Field};
 
 use nv_base::Field;
@@ -10,8 +10,8 @@ use std::marker::Model;
 const FIELD_COUNT: usize = 36;
 
 /// A packet: a number for each field, which fits the field's width. A clause sees the list of the numbers, in the
-/// order of the fields.
-#[derive(Clone, Copy, Debug)]
+/// order of the fields. Packets are ordered by their numbers, in that order.
+#[derive(Clone, Copy, Debug, PartialEq, Eq, PartialOrd, Ord)]
 pub struct Packet {
     pub(crate) numbers: [u64; FIELD_COUNT],
 }
@@ -23,9 +23,9 @@ impl Model for Packet {
 
     ghost view = { λ p. p.numbers };
 
-    ghost use Rattle.pkt_core.specs.Packet.{Fits};
+    ghost use Rattle.pkt_core.specs.Packet.{IsPacket};
 
-    ghost invariant = { λ p. Fits p.numbers };
+    ghost invariant = { λ p. IsPacket p.numbers };
 
     ghost inverse = { λ numbers. record { numbers = numbers } };
 }
@@ -40,10 +40,11 @@ impl Packet {
         }
     }
 
-    /// The number of a field.
+    /// The number of a field. A packet has one for each field, and each fits its field's width.
     pub fn get(&self, field: Field) -> u128
         ensures value { result ≡ value self.now field }
         ensures fits { result < 2 ^ field_width field }
+        ensures packet { IsPacket self.now }
     {
         u128::from(self.numbers[field as usize])
     }

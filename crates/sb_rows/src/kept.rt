@@ -1,9 +1,25 @@
 ghost use Rattle.std.specs.Prelude.{◌≡◌, IfOk};
 ghost use Rattle.sb_rows.specs.inner.Exact as tells;
 
-use crate::{PlainAction, PlainMatch, Row};
+use crate::{Pipeline, PlainAction, PlainMatch, Row, Stage};
 use nv_base::{Kept, OutOfMemory};
 use std::alloc::Global;
+
+impl Kept for Pipeline {
+    ghost exact = { tells.pipeline };
+
+    fn copy(&self, _alloc: Global) -> Result<Self, OutOfMemory> {
+        Ok(*self)
+    }
+}
+
+impl Kept for Stage {
+    ghost exact = { tells.stage };
+
+    fn copy(&self, _alloc: Global) -> Result<Self, OutOfMemory> {
+        Ok(*self)
+    }
+}
 
 impl Kept for PlainMatch {
     ghost exact = { tells.matching };

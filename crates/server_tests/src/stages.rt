@@ -1,7 +1,7 @@
 ghost use Rattle.std.specs.Prelude.{◌<◌, ◌^◌};
 
 use crate::fixture::is_runnable;
-use nv_base::{Field, Mac, Name, ObjId};
+use nv_base::{Field, Kept, Mac, Name, ObjId};
 use pkt_core::Packet;
 use sb_rows::{PlainAction, PlainMatch, Row, Rows, Stage};
 use std::alloc::Global;
@@ -222,4 +222,15 @@ fn dropped_for(outcome: &Outcome) -> Option<Cause> {
         Outcome::Drop(cause) => Some(*cause),
         _ => None,
     }
+}
+
+#[test]
+fn hits_and_outcomes_are_copied(rt: HostRuntime) {
+    let met = hit(Stage::LsInL2Lkup, 50, PORT);
+    assert!(rt; met.copy(rt.alloc()) == Ok(met));
+    let sent = Outcome::Leave(packet(KNOWN, UNKNOWN), 0);
+    assert!(rt; sent.copy(rt.alloc()) == Ok(sent));
+    assert!(rt; sent != Outcome::Leave(packet(UNKNOWN, KNOWN), 0));
+    assert!(rt; sent != Outcome::Deliver(packet(KNOWN, UNKNOWN)));
+    assert!(rt; Cause::Unknown.copy(rt.alloc()) == Ok(Cause::Unknown));
 }

@@ -1,6 +1,7 @@
 //! The stage machine: what the rows of one pipeline do with a packet.
 #![tactic(auto)]
 
+mod kept;
 mod machine;
 mod outcome;
 mod stages;

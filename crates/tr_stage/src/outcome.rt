@@ -41,7 +41,7 @@ impl Cause {
 }
 
 /// What becomes of a packet at the end of a pipeline.
-#[derive(Clone, Copy, Debug)]
+#[derive(Clone, Copy, Debug, PartialEq, Eq)]
 pub enum Outcome {
     /// It leaves ingress for a table of egress, the one of this number.
     Leave(Packet, u8),

@@ -52,6 +52,13 @@ pub record NoMemory (old new : States) (given written : List ℕ) : Type 0 where
   pub quiet : IsQuiet old new
   pub begins : IsPrefix written (output (given ++ told_left new.0.left))
 
+-- the status of a run that is stopped
+abbrev pub status_of : Stop → Status
+status_of stops.ReadFault = ReadFault
+status_of stops.WriteFault = WriteFault
+status_of stops.InputTooLong = InputTooLong
+status_of stops.OutOfMemory = OutOfMemory
+
 -- a run that is stopped
 abbrev pub StopEnds : States → States → List ℕ → List ℕ → Stop → Type 0
 StopEnds old new given written stops.ReadFault = ReadFaulted old new given written

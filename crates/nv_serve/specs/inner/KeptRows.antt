@@ -5,7 +5,7 @@ use Rattle.nv_base.specs.declared.object.ObjId.{ObjId}
 use Rattle.sb_rows.specs.declared.row.Row.{Row}
 use Rattle.tr_stage.specs.Machine.{IsRunnable}
 use Rattle.nv_serve.specs.Network.{Tables}
-use Rattle.nv_serve.specs.inner.Numbered.{IsNumbered, switch_numbers}
+use Rattle.nv_serve.specs.Sound.{IsNumbered, switch_numbers}
 use Rattle.nv_serve.specs.FullBuild.{full_build}
 
 -- packets run through the rows of each switch

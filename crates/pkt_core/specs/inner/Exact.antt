@@ -1,10 +1,14 @@
--- Tuples that are equal by `==` are one tuple.
+-- Packets, and tuples, that are equal by `==` are one value.
 use Rattle.std.proofs.Common.{◌≡◌, Bool}
 use Rattle.std.proofs.lemmas.Bool.{eqb-true, and_parts}
 use Rattle.nv_base.specs.inner.Exact as tells
 use Rattle.nv_base.specs.inner.Exact.{Tells}
+use Rattle.pkt_core.specs.contracts.packet.PacketPartialEq.TheImpl as packet_eq
 use Rattle.pkt_core.specs.contracts.tuple.TuplePartialEq.TheImpl as tuple_eq
 use Rattle.pkt_core.specs.declared.tuple.Tuple.{Tuple}
+
+pub packet : Tells ((packet_eq.ghosts).eq)
+packet = tells.list _ tells.number
 
 -- the derived `==` of tuples
 abbrev pub same_tuple : Tuple → Tuple → Bool

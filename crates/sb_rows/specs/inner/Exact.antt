@@ -1,13 +1,15 @@
--- Matches, actions and rows that are equal by `==` are one value.
+-- Pipelines, stages, matches, actions and rows that are equal by `==` are one value.
 use Rattle.std.proofs.Common.{◌≡◌, Bool, true, refl, ap}
 use Rattle.std.proofs.lemmas.Bool.{eqb-true, false≢true, and_parts}
 use denote.Enum.Bare.{sameb, same_true}
 use Rattle.nv_base.specs.inner.Exact as tells
 use Rattle.nv_base.specs.inner.Exact.{Tells}
+use Rattle.sb_rows.specs.contracts.stage.Pipeline as pipelines
 use Rattle.sb_rows.specs.contracts.stage.Stage as stages
 use Rattle.sb_rows.specs.contracts.row.PlainMatchPartialEq.TheImpl as match_eq
 use Rattle.sb_rows.specs.contracts.row.PlainActionPartialEq.TheImpl as action_eq
 use Rattle.sb_rows.specs.contracts.row.RowPartialEq.TheImpl as row_eq
+use Rattle.sb_rows.specs.declared.stage.Pipeline.{Pipeline}
 use Rattle.sb_rows.specs.declared.stage.Stage.{Stage}
 use Rattle.sb_rows.specs.declared.row.PlainMatch.TheVariants.{Any, SrcMcast, DstMcast, DstIs}
 use Rattle.sb_rows.specs.declared.row.PlainAction.TheVariants.{Next, Drop, Output, Flood, To}
@@ -62,18 +64,21 @@ action (To n) Output e = absurd (false≢true e)
 action (To n) Flood e = absurd (false≢true e)
 action (To a) (To b) e = ap To (tells.list _ tells.number a b e)
 
-stages_one : (a b : Stage) → sameb stages.the_type a b ≡ true → a ≡ b
-stages_one = same_true stages.the_type tt
+pub pipeline : (a b : Pipeline) → sameb pipelines.the_type a b ≡ true → a ≡ b
+pipeline = same_true pipelines.the_type tt
+
+pub stage : (a b : Stage) → sameb stages.the_type a b ≡ true → a ≡ b
+stage = same_true stages.the_type tt
 
 pub row : Tells same_row
 row a b e =
     let dp = and_parts _ _ e in
-    let stage = and_parts _ _ dp.1 in
-    let priority = and_parts _ _ stage.1 in
+    let of_stage = and_parts _ _ dp.1 in
+    let priority = and_parts _ _ of_stage.1 in
     let hint = and_parts _ _ priority.1 in
     let last = and_parts _ _ hint.1 in
     let dps : a.dp.0 ≡ b.dp.0 = eqb-true _ _ dp.0 in
-    let same_stages : a.stage ≡ b.stage = stages_one _ _ stage.0 in
+    let same_stages : a.stage ≡ b.stage = stage _ _ of_stage.0 in
     let priorities : a.priority ≡ b.priority = eqb-true _ _ priority.0 in
     let hints : a.hint.0 ≡ b.hint.0 = eqb-true _ _ hint.0 in
     let same_matches : a.matching ≡ b.matching = matching _ _ last.0 in

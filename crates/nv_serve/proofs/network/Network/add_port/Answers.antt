@@ -1,7 +1,7 @@
 use Rattle.std.proofs.Common.{◌≡◌, ◌∙◌, refl, sym, ap, subst}
 use Rattle.std.specs.List.{Contains}
 use Rattle.nv_serve.specs.Network.{port_named}
-use Rattle.nv_serve.specs.inner.Numbered.{switch_numbers}
+use Rattle.nv_serve.specs.Sound.{switch_numbers}
 use Rattle.nv_serve.proofs.Index.{port_indexed}
 use Rattle.nv_serve.proofs.Numbers.{port_numbered}
 use Rattle.nv_serve.proofs.network.Network.add_port.Goals as goal

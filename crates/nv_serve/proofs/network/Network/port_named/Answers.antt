@@ -1,7 +1,8 @@
 use Rattle.std.proofs.Common.{◌≡◌, ◌∙◌, Some, None, sym, ap}
 use Rattle.std.specs.Option.{option_copied}
 use Rattle.nv_serve.specs.Network.{port_named}
-use Rattle.nv_serve.specs.inner.Numbered.{port_place, switch_numbers}
+use Rattle.nv_serve.specs.Sound.{switch_numbers}
+use Rattle.nv_serve.specs.inner.Index.{port_place}
 use Rattle.nv_serve.proofs.Index.{place_is, no_place, port_on}
 use Rattle.nv_serve.proofs.network.Network.port_named.Goals as goal
 

@@ -2,7 +2,8 @@ use Rattle.std.proofs.Common.{◌≡◌, ◌∙◌, Some, None, set, refl, sym, 
 use Rattle.std.specs.Option.{option_copied}
 use Rattle.std.proofs.lemmas.Bool.{false≢true}
 use Rattle.nv_serve.specs.Network.{port_named}
-use Rattle.nv_serve.specs.inner.Numbered.{AreNumbers, port_place, switch_numbers}
+use Rattle.nv_serve.specs.Sound.{AreNumbers, switch_numbers}
+use Rattle.nv_serve.specs.inner.Index.{port_place}
 use Rattle.nv_serve.proofs.Index.{place_is, no_place, place_addressed, numbers_addressed, on_switches_addressed}
 use Rattle.nv_serve.proofs.network.Network.set_address.Goals as goal
 

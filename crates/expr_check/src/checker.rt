@@ -1,11 +1,12 @@
 ghost use Rattle.std.specs.Prelude.{◌≡◌, false, Ok, Err, IfOk, IfErr};
-ghost use Rattle.expr_check.specs.Check.{alone, comparison, mapped, checked_bare, checked_comparison, checked_atom, checked, is_memory};
+ghost use Rattle.expr_check.specs.Check.{alone, comparison, mapped, checked_bare, checked_comparison, checked_atom, checked, all_checked, is_memory};
+ghost use Rattle.expr_core.specs.Formula.{formulas};
 ghost use Rattle.expr_check.specs.Subject.{subject_of};
 
 use crate::rules::{bits_fit, is_allowed, may_be_compared, may_stand_alone, right_fits, width_of};
 use crate::subject::{Subject, subject_of};
 use crate::{Role, TypeFault};
-use expr_core::{Atom, Bits, Expr, ExprNode, Part, Rel, Right, Typed, TypedAtom, TypedNode};
+use expr_core::{Atom, Bits, Expr, Node, Part, Rel, Right, Tree, Typed, TypedAtom};
 use nv_base::{Items, Kept, OutOfMemory};
 use std::alloc::Global;
 
@@ -85,33 +86,34 @@ fn check_atom(alloc: Global, role: Role, atom: &Atom) -> Result<TypedAtom, TypeF
     }
 }
 
+#[cycle(check)]
+fn check_all(alloc: Global, operands: &[Expr], role: Role) -> Result<Vec<Typed>, TypeFault>
+    ensures typed { IfOk result (λ ts. all_checked role (formulas operands.now) ≡ Ok (formulas ts.items)) }
+    ensures fault { IfErr result (λ f. is_memory f ≡ false → all_checked role (formulas operands.now) ≡ Err f) }
+{
+    let mut checked = Items::new(alloc);
+    for operand in operands {
+        checked.push(check(alloc, operand, role)?)?;
+    }
+    Ok(checked.into_items())
+}
+
 /// The match with fields and predicates in place of names, or the first fault from the left: of one part, first that
 /// its name is unknown, then that it may not be asked for in this role, then a width, then a form. It is the last
 /// only where there was no memory.
+#[cycle(check)]
 pub fn check(alloc: Global, expr: &Expr, role: Role) -> Result<Typed, TypeFault>
     ensures typed { IfOk result (λ t. checked role expr.now ≡ Ok t) }
     ensures fault { IfErr result (λ f. is_memory f ≡ false → checked role expr.now ≡ Err f) }
 {
-    match &expr.node {
-        ExprNode::Atom(atom) => Ok(Typed::atom(check_atom(alloc, role, atom)?)),
-        ExprNode::Not(operand) => Ok(Typed::negation(alloc, check(alloc, operand, role)?)?),
-        ExprNode::And(operands) => {
-            let mut checked = Items::new(alloc);
-            for operand in operands {
-                checked.push(check(alloc, operand, role)?)?;
-            }
-            Ok(Typed {
-                node: TypedNode::And(checked.into_items()),
-            })
-        }
-        ExprNode::Or(operands) => {
-            let mut checked = Items::new(alloc);
-            for operand in operands {
-                checked.push(check(alloc, operand, role)?)?;
-            }
-            Ok(Typed {
-                node: TypedNode::Or(checked.into_items()),
-            })
-        }
-    }
+    Ok(match &expr.node {
+        Node::Atom(atom) => Tree::atom(check_atom(alloc, role, atom)?),
+        Node::Not(operand) => Tree::negation(alloc, check(alloc, operand, role)?)?,
+        Node::And(operands) => Tree {
+            node: Node::And(check_all(alloc, operands, role)?),
+        },
+        Node::Or(operands) => Tree {
+            node: Node::Or(check_all(alloc, operands, role)?),
+        },
+    })
 }

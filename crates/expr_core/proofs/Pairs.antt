@@ -1,5 +1,5 @@
 -- The operands that were compared, and those that are left.
-use Rattle.std.proofs.Common.{◌≡◌, ◌≢◌, ℕ, zero, suc, ◌*◌, ◌<◌, ◌+◌, Bool, true, false, ◌&&◌, List, [], ◌∷◌, length, drop, slice_index_or, refl, ap, arith}
+use Rattle.std.proofs.Common.{◌≡◌, ◌≢◌, ℕ, zero, suc, ◌<◌, ◌≤◌, ◌+◌, Bool, true, false, ◌&&◌, List, [], ◌∷◌, length, drop, slice_index_or, refl, ap, arith}
 use Rattle.expr_core.specs.Formula.{Formula, formulas}
 use Rattle.expr_core.specs.inner.FormulaCode.{formula_size, formulas_size}
 use Rattle.expr_core.specs.Equal.{formula_eq, formulas_eq}
@@ -21,7 +21,7 @@ module _ {A : Type 0} (eq : A → A → Bool) where
       with_head false e = refl
 
 -- no operand is larger than all of them
-pub one_falls : {A : Type 0} (fs : List (Formula A)) (i : ℕ) (f : Formula A) → i < length fs → ((d : Formula A) → f ≡ slice_index_or fs i d) → 2 * formula_size f < 2 * formulas_size (formulas fs) + 1
+pub one_falls : {A : Type 0} (fs : List (Formula A)) (i : ℕ) (f : Formula A) → i < length fs → f ≡ slice_index_or fs i f → formula_size f ≤ formulas_size (formulas fs)
 one_falls [] i f within is = omega (arith, within)
-one_falls (g ∷ gs) zero f within is = rw (is f) (omega arith)
+one_falls (g ∷ gs) zero f within is = rw is (omega arith)
 one_falls (g ∷ gs) (suc i) f within is = omega (arith, one_falls gs i f (omega (arith, within)) is)

@@ -1,11 +1,9 @@
 pub mod Equal
-pub mod EqualMatches
 pub mod EqualParts
-pub mod Expr
 pub mod Formula
 pub mod Lookup
 pub mod Predicate
 pub mod Text
-pub mod Typed
+pub mod Tree
 pub mod Width
 pub mod inner

@@ -1,9 +1,7 @@
 -- What private contracts and proofs cite. No clause of a public call does, so a reader need not believe it.
 pub mod EqualLaws
-pub mod EqualMatches
 pub mod EqualParts
 pub mod Exact
-pub mod ExprFalls
 pub mod FormulaCode
 pub mod Sizes
-pub mod TypedFalls
+pub mod TreeFalls

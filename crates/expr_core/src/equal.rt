@@ -1,21 +1,20 @@
-//! When two matches are equal by `==`.
+//! When two trees are equal by `==`.
 ghost use Rattle.std.specs.Prelude.{◌≡◌};
-ghost use Rattle.expr_core.specs.Equal.{formulas_eq};
-ghost use Rattle.expr_core.specs.EqualMatches.{atom_eq, typed_atom_eq, expr_eq, typed_eq};
+ghost use Rattle.expr_core.specs.Equal.{formula_eq, formulas_eq};
 ghost use Rattle.expr_core.specs.Formula.{formulas};
 
-use crate::{Expr, ExprNode, Typed, TypedNode};
+use crate::{Node, Tree};
 
 // As many operands, equal in their order.
-#[cycle(same_expr)]
-fn same_expr_operands(ones: &[Expr], others: &[Expr]) -> bool
-    ensures { result ≡ formulas_eq atom_eq (formulas ones.now) (formulas others.now) }
+#[cycle(same)]
+fn same_operands<A: PartialEq>(ones: &[Tree<A>], others: &[Tree<A>]) -> bool
+    ensures { result ≡ formulas_eq A.eq (formulas ones.now) (formulas others.now) }
 {
     if ones.len() != others.len() {
         return false;
     }
     for (one, other) in ones.iter().zip(others) {
-        if !same_expr(one, other) {
+        if !same(one, other) {
             return false;
         }
     }
@@ -23,83 +22,34 @@ fn same_expr_operands(ones: &[Expr], others: &[Expr]) -> bool
 }
 
 // Of one shape, whose atoms are equal in their order.
-#[cycle(same_expr)]
-fn same_expr(one: &Expr, other: &Expr) -> bool
-    ensures { result ≡ expr_eq one.now other.now }
+#[cycle(same)]
+fn same<A: PartialEq>(one: &Tree<A>, other: &Tree<A>) -> bool
+    ensures { result ≡ formula_eq A.eq one.now other.now }
 {
     match (&one.node, &other.node) {
-        (ExprNode::Atom(one), ExprNode::Atom(other)) => one == other,
-        (ExprNode::Not(one), ExprNode::Not(other)) => same_expr(one, other),
-        (ExprNode::And(ones), ExprNode::And(others)) => same_expr_operands(ones, others),
-        (ExprNode::Or(ones), ExprNode::Or(others)) => same_expr_operands(ones, others),
+        (Node::Atom(one), Node::Atom(other)) => one == other,
+        (Node::Not(one), Node::Not(other)) => same(one, other),
+        (Node::And(ones), Node::And(others)) => same_operands(ones, others),
+        (Node::Or(ones), Node::Or(others)) => same_operands(ones, others),
         _ => false,
     }
 }
 
-// As many operands, equal in their order.
-#[cycle(same_typed)]
-fn same_typed_operands(ones: &[Typed], others: &[Typed]) -> bool
-    ensures { result ≡ formulas_eq typed_atom_eq (formulas ones.now) (formulas others.now) }
-{
-    if ones.len() != others.len() {
-        return false;
-    }
-    for (one, other) in ones.iter().zip(others) {
-        if !same_typed(one, other) {
-            return false;
-        }
-    }
-    true
-}
+impl<A: PartialEq> PartialEq for Tree<A> {
+    ghost use Rattle.expr_core.specs.Equal.{formula_eq};
+    ghost use Rattle.expr_core.specs.inner.EqualLaws.{formula_per};
 
-// Of one shape, whose atoms are equal in their order.
-#[cycle(same_typed)]
-fn same_typed(one: &Typed, other: &Typed) -> bool
-    ensures { result ≡ typed_eq one.now other.now }
-{
-    match (&one.node, &other.node) {
-        (TypedNode::Atom(one), TypedNode::Atom(other)) => one == other,
-        (TypedNode::Not(one), TypedNode::Not(other)) => same_typed(one, other),
-        (TypedNode::And(ones), TypedNode::And(others)) => same_typed_operands(ones, others),
-        (TypedNode::Or(ones), TypedNode::Or(others)) => same_typed_operands(ones, others),
-        _ => false,
-    }
-}
+    ghost eq = { λ a b. formula_eq A.eq a b };
 
-impl PartialEq for Expr {
-    ghost use Rattle.expr_core.specs.EqualMatches.{expr_eq};
-    ghost use Rattle.expr_core.specs.inner.EqualMatches.{expr_per};
-
-    ghost eq = { expr_eq };
-
-    ghost laws = { expr_per };
+    ghost laws = { formula_per A.laws };
 
     fn eq(&self, other: &Self) -> bool {
-        same_expr(self, other)
+        same(self, other)
     }
 }
 
-impl Eq for Expr {
-    ghost use Rattle.expr_core.specs.inner.EqualMatches.{expr_equiv};
+impl<A: Eq> Eq for Tree<A> {
+    ghost use Rattle.expr_core.specs.inner.EqualLaws.{formula_equiv};
 
-    ghost laws = { expr_equiv };
-}
-
-impl PartialEq for Typed {
-    ghost use Rattle.expr_core.specs.EqualMatches.{typed_eq};
-    ghost use Rattle.expr_core.specs.inner.EqualMatches.{typed_per};
-
-    ghost eq = { typed_eq };
-
-    ghost laws = { typed_per };
-
-    fn eq(&self, other: &Self) -> bool {
-        same_typed(self, other)
-    }
-}
-
-impl Eq for Typed {
-    ghost use Rattle.expr_core.specs.inner.EqualMatches.{typed_equiv};
-
-    ghost laws = { typed_equiv };
+    ghost laws = { formula_equiv A.Eq.laws };
 }

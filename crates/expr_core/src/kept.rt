@@ -1,8 +1,8 @@
-ghost use Rattle.std.specs.Prelude.{◌≡◌, IfOk};
 ghost use Rattle.expr_core.specs.inner.Exact as tells;
 
-use crate::{Bits, Const, Item, Pred, Rel, Right, Typed, TypedAtom, TypedNode};
-use nv_base::{Items, Kept, OutOfMemory};
+use crate::tree::copy_tree;
+use crate::{Bits, Const, Item, Pred, Rel, Right, Tree, TreeAtom, TypedAtom};
+use nv_base::{Kept, OutOfMemory};
 use std::alloc::Global;
 
 impl Kept for Rel {
@@ -66,46 +66,14 @@ impl Kept for TypedAtom {
     ghost exact = { tells.typed_atom };
 
     fn copy(&self, alloc: Global) -> Result<Self, OutOfMemory> {
-        Ok(match self {
-            TypedAtom::Truth(holds) => TypedAtom::Truth(*holds),
-            TypedAtom::Bare(field, bits) => TypedAtom::Bare(*field, *bits),
-            TypedAtom::Holds(predicate) => TypedAtom::Holds(*predicate),
-            TypedAtom::Compare(field, bits, rel, right) => {
-                TypedAtom::Compare(*field, *bits, *rel, right.copy(alloc)?)
-            }
-        })
+        self.copy_atom(alloc)
     }
 }
 
-impl Kept for Typed {
-    ghost exact = { tells.typed };
+impl<A: Kept + TreeAtom + Drop> Kept for Tree<A> {
+    ghost exact = { tells.formula A.eq A.exact };
 
     fn copy(&self, alloc: Global) -> Result<Self, OutOfMemory> {
-        copy_typed(alloc, self)
+        copy_tree(alloc, self)
     }
-}
-
-// An equal match.
-fn copy_typed(alloc: Global, typed: &Typed) -> Result<Typed, OutOfMemory>
-    ensures { IfOk result (λ copied. copied ≡ typed.now) }
-{
-    let node = match &typed.node {
-        TypedNode::Atom(atom) => TypedNode::Atom(atom.copy(alloc)?),
-        TypedNode::Not(operand) => TypedNode::Not(Box::new(alloc, copy_typed(alloc, operand)?)?),
-        TypedNode::And(operands) => {
-            let mut copied = Items::new(alloc);
-            for operand in operands {
-                copied.push(copy_typed(alloc, operand)?)?;
-            }
-            TypedNode::And(copied.into_items())
-        }
-        TypedNode::Or(operands) => {
-            let mut copied = Items::new(alloc);
-            for operand in operands {
-                copied.push(copy_typed(alloc, operand)?)?;
-            }
-            TypedNode::Or(copied.into_items())
-        }
-    };
-    Ok(Typed { node })
 }

@@ -1,6 +1,7 @@
 //! The trees of the match language: matches as they were read, and matches that met a check.
 #![tactic(auto)]
 
+mod atom;
 mod comparison;
 mod constant;
 mod env;
@@ -10,15 +11,18 @@ mod kept;
 mod part;
 mod predicate;
 mod text;
+mod tree;
 mod typed;
 mod width;
 
+pub use atom::TreeAtom;
 pub use comparison::{Item, Rel, Right};
 pub use constant::{Const, Form};
 pub use env::Env;
-pub use expr::{Atom, Expr, ExprNode};
+pub use expr::Atom;
 pub use part::{Bits, Part};
 pub use predicate::{Pred, pred_of};
-pub use text::{put_expr, put_typed};
-pub use typed::{Typed, TypedAtom, TypedNode};
+pub use text::put_tree;
+pub use tree::{Expr, Node, Tree, Typed};
+pub use typed::TypedAtom;
 pub use width::has_bits;

@@ -7,12 +7,14 @@ ghost use Rattle.expr_core.specs.declared.part.Bits.TheVariants.{Bit, Range};
 mod constant;
 mod expr;
 mod right;
+mod tree;
 mod typed;
 
 use crate::{Bits, Rel};
-pub use expr::put_expr;
+pub(crate) use expr::put_read_atom;
 use nv_base::{OutOfMemory, put_dec};
-pub use typed::put_typed;
+pub use tree::put_tree;
+pub(crate) use typed::put_typed_atom;
 
 // Which bits of a field, in brackets.
 fn put_bits(out: &mut Vec<u8>, bits: Bits) -> Result<(), OutOfMemory>

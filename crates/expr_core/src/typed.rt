@@ -1,10 +1,9 @@
-ghost use Rattle.std.specs.Prelude.{◌≡◌, IfOk};
-ghost use Rattle.expr_core.specs.Formula.Formula.{Leaf, Not};
+ghost use Rattle.expr_core.specs.Text.{typed_writing};
 
-use crate::{Bits, Pred, Rel, Right};
-use nv_base::{Field, OutOfMemory};
+use crate::text::put_typed_atom;
+use crate::{Bits, Pred, Rel, Right, TreeAtom};
+use nv_base::{Field, Kept, OutOfMemory};
 use std::alloc::Global;
-use std::marker::Model;
 
 /// A match without operators, whose part is known.
 #[derive(Debug, PartialEq, Eq, Drop)]
@@ -19,65 +18,25 @@ pub enum TypedAtom {
     Compare(Field, Bits, Rel, Right),
 }
 
-/// A match that met a check, with fields in place of names. A clause sees the formula over its atoms.
-#[cycle(typed)]
-#[derive(Drop)]
-pub struct Typed {
-    /// What it is.
-    pub node: TypedNode,
-}
+impl TreeAtom for TypedAtom {
+    ghost writing = { typed_writing };
 
-/// What a checked match is.
-#[cycle(typed)]
-#[derive(Drop)]
-pub enum TypedNode {
-    /// One atom.
-    Atom(TypedAtom),
-    /// The negation of a match.
-    Not(Box<Typed>),
-    /// Two or more, all of which hold.
-    And(Vec<Typed>),
-    /// Two or more, one of which holds.
-    Or(Vec<Typed>),
-}
-
-impl Model for Typed {
-    ghost use Rattle.expr_core.specs.declared.typed.TypedAtom.{TypedAtom};
-    ghost use Rattle.expr_core.specs.contracts.typed.TypedAtom as atom;
-    ghost use Rattle.expr_core.specs.Formula.{Formula};
-    ghost use Rattle.expr_core.specs.inner.FormulaCode.{formula_code, formula_size};
-
-    ghost Value = { Formula TypedAtom };
-
-    ghost coded = { formula_code atom.the_row.coded };
-
-    ghost use Rattle.expr_core.specs.Typed.{typed_formula};
-
-    ghost view = { λ e. typed_formula e.node };
-
-    ghost size = { formula_size };
-
-    ghost use Rattle.expr_core.specs.inner.TypedFalls.{falls};
-
-    ghost size_decreases = { λ e h. falls e.node };
-}
-
-impl Typed {
-    /// The match of one atom.
-    pub fn atom(atom: TypedAtom) -> Self
-        ensures { result ≡ Leaf atom }
-    {
-        Typed {
-            node: TypedNode::Atom(atom),
-        }
+    fn copy_atom(&self, alloc: Global) -> Result<Self, OutOfMemory> {
+        Ok(match self {
+            TypedAtom::Truth(holds) => TypedAtom::Truth(*holds),
+            TypedAtom::Bare(field, bits) => TypedAtom::Bare(*field, *bits),
+            TypedAtom::Holds(predicate) => TypedAtom::Holds(*predicate),
+            TypedAtom::Compare(field, bits, rel, right) => {
+                TypedAtom::Compare(*field, *bits, *rel, right.copy(alloc)?)
+            }
+        })
     }
 
-    /// The negation of a match.
-    pub fn negation(alloc: Global, operand: Typed) -> Result<Self, OutOfMemory>
-        ensures { IfOk result (λ e. e ≡ Not operand) }
-    {
-        Ok(Typed {
-            node: TypedNode::Not(Box::new(alloc, operand)?),
-        })
+    fn is_comparison(&self) -> bool {
+        matches!(self, TypedAtom::Compare(..))
+    }
+
+    fn put(&self, out: &mut Vec<u8>) -> Result<(), OutOfMemory> {
+        put_typed_atom(out, self)
     }
 }

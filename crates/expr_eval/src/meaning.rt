@@ -7,7 +7,7 @@ ghost use Rattle.expr_eval.specs.MatchMeaning.{test, part_of, tests, holds};
 ghost use Rattle.expr_eval.specs.inner.Wanted.{meant_test, meant_tests, meant_atom, meant};
 
 use crate::relation::{opposite, relates};
-use expr_core::{Bits, Env, Pred, Rel, Right, Typed, TypedAtom, TypedNode};
+use expr_core::{Bits, Env, Node, Pred, Rel, Right, Typed, TypedAtom};
 use nv_base::Field;
 use pkt_core::Packet;
 
@@ -92,9 +92,9 @@ fn is_match_meant<E: Env>(typed: &Typed, packet: &Packet, env: &E, wanted: bool)
     ensures { result ≡ meant wanted (E.lookup env.now) packet.now typed.now }
 {
     match &typed.node {
-        TypedNode::Atom(atom) => is_atom_meant(atom, packet, env, wanted),
-        TypedNode::Not(operand) => is_match_meant(operand, packet, env, !wanted),
-        TypedNode::And(operands) => {
+        Node::Atom(atom) => is_atom_meant(atom, packet, env, wanted),
+        Node::Not(operand) => is_match_meant(operand, packet, env, !wanted),
+        Node::And(operands) => {
             for operand in operands {
                 if is_match_meant(operand, packet, env, wanted) != wanted {
                     return !wanted;
@@ -102,7 +102,7 @@ fn is_match_meant<E: Env>(typed: &Typed, packet: &Packet, env: &E, wanted: bool)
             }
             wanted
         }
-        TypedNode::Or(operands) => {
+        Node::Or(operands) => {
             for operand in operands {
                 if is_match_meant(operand, packet, env, wanted) == wanted {
                     return wanted;

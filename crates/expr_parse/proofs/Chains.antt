@@ -1,31 +1,53 @@
 -- How far the reading of units that one operator joins has come.
-use Rattle.std.proofs.Common.{◌≡◌, ◌≤◌, ℕ, List, [], ◌∷◌, ◌++◌, length, ap, ◌∙◌, sym, arith}
+use Rattle.std.proofs.Common.{◌≡◌, ◌<◌, ◌≤◌, ℕ, zero, suc, List, [], ◌∷◌, ◌++◌, length, Some, None, ap, ◌∙◌, sym, arith, refl}
 use Rattle.std.proofs.lemmas.List.{length-map}
 use Rattle.expr_core.specs.Formula.{Formula}
 use Rattle.expr_core.specs.declared.expr.Atom.{Atom}
+use Rattle.expr_parse.specs.declared.fault.MatchFault.{MatchFault}
+use Rattle.expr_parse.specs.declared.operator.Operator.{Operator}
 use Rattle.expr_parse.specs.declared.token.TokenAt.{TokenAt}
 use Rattle.expr_parse.specs.Token.{Tokens}
 use Rattle.expr_parse.specs.inner.Borrowed.{token_at}
 use Rattle.expr_parse.specs.inner.Gives.{seen}
-use Rattle.expr_parse.specs.Grammar.{Reading, Inside, and_then, unit}
-use Rattle.expr_parse.specs.Grammar.Reading.{Read}
+use Rattle.expr_parse.specs.Grammar.{Reading, and_then, after_operator, chain_end, one_more, chain}
+use Rattle.expr_parse.specs.Grammar.Reading.{Read, Fails}
 
--- how a chain continues after its first units, with at most so many more
-abbrev pub Goes : Type 0
-Goes = ℕ → List (Formula Atom) → Tokens → Reading (Formula Atom)
+module _ (unit : Tokens → Reading (Formula Atom)) (o : Operator) where
+  -- the chain after its first unit and the first operator
+  abbrev pub from_second : Formula Atom → Tokens → Reading (Formula Atom)
+  from_second first ts = and_then (unit ts) (λ f after. chain unit o (length ts) (first ∷ f ∷ []) after)
 
--- the chain after its first unit and the first operator
-abbrev pub chain : ℕ → Inside → Goes → Formula Atom → Tokens → Reading (Formula Atom)
-chain end inside goes first ts = and_then (unit end inside ts) (λ f after. goes (length ts) (first ∷ f ∷ []) after)
+  -- what is left is the rest of the chain, whose units so far are these
+  abbrev pub SoFar : Formula Atom → List TokenAt → List (Formula Atom) → List TokenAt → Type 0
+  SoFar first tokens units left = (length left ≤ length tokens) × ((n : ℕ) × (length left ≤ n) × (chain unit o n units (seen left) ≡ from_second first (seen tokens)))
 
--- what is left is the rest of the chain, whose units so far are these
-abbrev pub SoFar : ℕ → Inside → Goes → Formula Atom → List TokenAt → List (Formula Atom) → List TokenAt → Type 0
-SoFar end inside goes first tokens before left =
-    (length left ≤ length tokens) × ((n : ℕ) × (length left ≤ n) × (goes n before (seen left) ≡ chain end inside goes first (seen tokens)))
+  pub begins : (first second : Formula Atom) (tokens left : List TokenAt) (none one two : List (Formula Atom)) → none ≡ [] → one ≡ none ++ first ∷ [] → two ≡ one ++ second ∷ [] → length left ≤ length tokens → unit (seen tokens) ≡ Read second (seen left) → SoFar first tokens two left
+  begins first second tokens left none one two e p q shorter reads =
+      let both : two ≡ first ∷ second ∷ [] = q ∙ ap (λ xs. xs ++ second ∷ []) (p ∙ ap (λ xs. xs ++ first ∷ []) e) in
+      let same : length (seen tokens) ≡ length tokens = length-map tokens token_at in
+      let whole : chain unit o (length (seen tokens)) two (seen left) ≡ from_second first (seen tokens) = ap (λ us. chain unit o (length (seen tokens)) us (seen left)) both ∙ sym (ap (λ r. and_then r (λ f after. chain unit o (length (seen tokens)) (first ∷ f ∷ []) after)) reads) in
+      (shorter, (length (seen tokens), omega arith, whole))
 
-pub begins : (end : ℕ) (inside : Inside) (goes : Goes) (first second : Formula Atom) (tokens left : List TokenAt) (none one two : List (Formula Atom)) → none ≡ [] → one ≡ none ++ first ∷ [] → two ≡ one ++ second ∷ [] → length left ≤ length tokens → unit end inside (seen tokens) ≡ Read second (seen left) → SoFar end inside goes first tokens two left
-begins end inside goes first second tokens left none one two e p q shorter reads =
-    let both : two ≡ first ∷ second ∷ [] = q ∙ ap (λ xs. xs ++ second ∷ []) (p ∙ ap (λ xs. xs ++ first ∷ []) e) in
-    let same : length (seen tokens) ≡ length tokens = length-map tokens token_at in
-    let whole : goes (length (seen tokens)) two (seen left) ≡ chain end inside goes first (seen tokens) = ap (λ xs. goes (length (seen tokens)) xs (seen left)) both ∙ sym (ap (λ r. and_then r (λ f after. goes (length (seen tokens)) (first ∷ f ∷ []) after)) reads) in
-    (shorter, (length (seen tokens), omega arith, whole))
+  -- a step of the chain
+  step : (n : ℕ) (units : List (Formula Atom)) (f : Formula Atom) (left rest after : Tokens) → after_operator o left ≡ Some rest → unit rest ≡ Read f after → chain unit o (suc n) units left ≡ chain unit o n (units ++ f ∷ []) after
+  step n units f left rest after there reads =
+      ap (one_more unit (λ g more. chain unit o n (units ++ g ∷ []) more) (chain_end o units left)) there ∙ ap (λ r. and_then r (λ g more. chain unit o n (units ++ g ∷ []) more)) reads
+
+  pub goes_on : (first : Formula Atom) (units more : List (Formula Atom)) (f : Formula Atom) (tokens left rest after : List TokenAt) → SoFar first tokens units left → after_operator o (seen left) ≡ Some (seen rest) → length rest < length left → unit (seen rest) ≡ Read f (seen after) → length after ≤ length rest → more ≡ units ++ f ∷ [] → SoFar first tokens more after
+  goes_on first units more f tokens left rest after (shorter, (zero, few, goes)) there less reads fewer pushed = absurd (omega arith)
+  goes_on first units more f tokens left rest after (shorter, (suc n, few, goes)) there less reads fewer pushed =
+      (omega arith, (n, omega arith, ap (λ us. chain unit o n us (seen after)) pushed ∙ sym (step n units f (seen left) (seen rest) (seen after) there reads) ∙ goes))
+
+  -- a fault of the next unit is the chain's
+  pub fails : (first : Formula Atom) (units : List (Formula Atom)) (fault : MatchFault) (tokens left rest : List TokenAt) → SoFar first tokens units left → after_operator o (seen left) ≡ Some (seen rest) → length rest < length left → unit (seen rest) ≡ Fails fault → from_second first (seen tokens) ≡ Fails fault
+  fails first units fault tokens left rest (shorter, (zero, few, goes)) there less reads = absurd (omega arith)
+  fails first units fault tokens left rest (shorter, (suc n, few, goes)) there less reads =
+      sym goes ∙ ap (one_more unit (λ g more. chain unit o n (units ++ g ∷ []) more) (chain_end o units (seen left))) there ∙ ap (λ r. and_then r (λ g more. chain unit o n (units ++ g ∷ []) more)) reads
+
+  -- a chain ends where its operator is not the next token
+  pub ends : (n : ℕ) (units : List (Formula Atom)) (left : Tokens) → after_operator o left ≡ None → chain unit o n units left ≡ chain_end o units left
+  ends zero units left gone = refl
+  ends (suc n) units left gone = ap (one_more unit (λ g more. chain unit o n (units ++ g ∷ []) more) (chain_end o units left)) gone
+
+  pub ended : (first : Formula Atom) (units : List (Formula Atom)) (tokens left : List TokenAt) → SoFar first tokens units left → after_operator o (seen left) ≡ None → chain_end o units (seen left) ≡ from_second first (seen tokens)
+  ended first units tokens left (shorter, (n, few, goes)) gone = sym (ends n units (seen left) gone) ∙ goes

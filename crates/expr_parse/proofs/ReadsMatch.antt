@@ -1,23 +1,26 @@
 -- What is a match by the rules is read as it.
-use Rattle.std.proofs.Common.{◌≡◌, ℕ, zero, suc, ◌+◌, ◌≤◌, if◌then◌else◌, Bool, true, false, List, [], ◌∷◌, ◌++◌, length, length-append, refl, sym, ap, ◌∙◌, append_assoc, append-nil, arith}
+use Rattle.std.proofs.Common.{◌≡◌, ℕ, zero, suc, ◌+◌, ◌≤◌, if◌then◌else◌, Bool, true, false, Some, None, List, [], ◌∷◌, ◌++◌, length, length-append, refl, sym, ap, ◌∙◌, append_assoc, append-nil, arith}
 use Rattle.std.proofs.lemmas.Bool.{eq-eqb}
-use Rattle.expr_core.specs.Formula.{Formula, Formulas, formulas}
-use Rattle.expr_core.specs.Formula.Formula.{Leaf, Not as Negation, And as Conjunction, Or as Disjunction}
+use Rattle.expr_core.specs.Formula.{Formula, formulas}
+use Rattle.expr_core.specs.Formula.Formula.{Leaf, Not as Negation}
 use Rattle.expr_core.specs.declared.comparison.Rel.{Rel}
 use Rattle.expr_core.specs.declared.comparison.Right.{Right}
 use Rattle.expr_core.specs.declared.expr.Atom.{Atom}
 use Rattle.expr_core.specs.declared.expr.Atom.TheVariants.{Truth, Bare, Compare}
 use Rattle.expr_core.specs.declared.part.Part.{Part}
 use Rattle.expr_parse.specs.declared.fault.MatchFault.TheVariants.{Syntax}
+use Rattle.expr_parse.specs.declared.operator.Operator.{Operator}
+use Rattle.expr_parse.specs.declared.operator.Operator.TheVariants as operator
 use Rattle.expr_parse.specs.Token.{Token, Tokens}
 use Rattle.expr_parse.specs.Token.Token.{Name, Relation, And, Or, Not, Open, Close}
-use Rattle.expr_parse.specs.Grammar.{Reading, Inside, and_then, part, right, compared, closed, operand, unit, conjuncts, disjuncts, joined, whole, levels, finished}
+use Rattle.expr_parse.specs.Grammar.{Reading, Inside, and_then, part, right, compared, closed, operand, unit, sign, join, after_operator, chain_end, one_more, chain, joined, whole, levels, finished}
 use Rattle.expr_parse.specs.Grammar.Reading.{Read, Fails}
 use Rattle.expr_parse.specs.GrammarRules.{decimal, IsPart, IsAtom, IsMatch, AreUnits, IsUnit, IsOperand}
-use Rattle.expr_parse.specs.GrammarRules.IsMatch.{alone, all, any}
+use Rattle.expr_parse.specs.GrammarRules.IsMatch.{alone, joined as is_joined}
 use Rattle.expr_parse.specs.GrammarRules.AreUnits.{last, more}
 use Rattle.expr_parse.specs.GrammarRules.IsUnit.{plain, comparison}
 use Rattle.expr_parse.specs.GrammarRules.IsOperand.{truth as is_truth, bare as is_bare, negation as is_negation, enclosed as is_enclosed}
+use Rattle.expr_parse.proofs.Chains.{ends as chain_ends}
 use Rattle.expr_parse.proofs.TokenKinds.{kinds_none, kinds_first}
 use Rattle.expr_parse.proofs.ReadsParts.{after, NoBits, part_read}
 use Rattle.expr_parse.proofs.ReadsRight.{NoMask, right_read}
@@ -97,44 +100,58 @@ comparison_read end inside ts p r s rest h stop =
     ∙ after (right end (back ++ rest)) s rest (λ t more. Read (Leaf (Compare p r t)) more) (right_read end back s rest h.5 (no_mask rest stop))
 
 -- what is read after a sign
-abbrev next_unit : ℕ → Inside → (ℕ → List (Formula Atom) → Tokens → Reading (Formula Atom)) → ℕ → List (Formula Atom) → Tokens → Reading (Formula Atom)
-next_unit end inside goes m before ts = and_then (unit end inside ts) (λ g more. goes m (before ++ g ∷ []) more)
+abbrev next_unit : ℕ → Inside → Operator → ℕ → List (Formula Atom) → Tokens → Reading (Formula Atom)
+next_unit end inside o m before ts = and_then (unit end inside ts) (λ g more. chain (unit end inside) o m (before ++ g ∷ []) more)
 
--- how a chain of this sign is read
-record Chain (end : ℕ) (inside : Inside) (sign : Token) (goes : ℕ → List (Formula Atom) → Tokens → Reading (Formula Atom)) (make : Formulas Atom → Formula Atom) : Type 0 where
-  stop : (m : ℕ) (before : List (Formula Atom)) (rest : Tokens) → EndsMatch rest → goes m before rest ≡ Read (make (formulas before)) rest
-  step : (m : ℕ) (before : List (Formula Atom)) (p : ℕ) (ts : Tokens) → goes (suc m) before ((p, sign) ∷ ts) ≡ next_unit end inside goes m before ts
-  ends : (p : ℕ) (ts : Tokens) → EndsUnit ((p, sign) ∷ ts)
+-- a chain ends before what ends a match
+none_after : (o : Operator) (ts : Tokens) → EndsMatch ts → after_operator o ts ≡ None
+none_after operator.And [] h = refl
+none_after operator.And ((p, Close) ∷ ts) h = refl
+none_after operator.And ((p, k) ∷ ts) h = absurd h
+none_after operator.Or [] h = refl
+none_after operator.Or ((p, Close) ∷ ts) h = refl
+none_after operator.Or ((p, k) ∷ ts) h = absurd h
 
-conjunction : (end : ℕ) (inside : Inside) → Chain end inside And (conjuncts end inside) Conjunction
-conjunction end inside = record { stop = stop; step = λ m before p ts. refl; ends = λ p ts. tt }
-  where
-    stop : (m : ℕ) (before : List (Formula Atom)) (rest : Tokens) → EndsMatch rest → conjuncts end inside m before rest ≡ Read (Conjunction (formulas before)) rest
-    stop m before [] h = refl
-    stop m before ((p, Close) ∷ ts) h = refl
-    stop m before ((p, k) ∷ ts) h = absurd h
+ends_here : (o : Operator) (units : List (Formula Atom)) (ts : Tokens) → EndsMatch ts → chain_end o units ts ≡ Read (join o (formulas units)) ts
+ends_here operator.And units [] h = refl
+ends_here operator.And units ((p, Close) ∷ ts) h = refl
+ends_here operator.And units ((p, k) ∷ ts) h = absurd h
+ends_here operator.Or units [] h = refl
+ends_here operator.Or units ((p, Close) ∷ ts) h = refl
+ends_here operator.Or units ((p, k) ∷ ts) h = absurd h
 
-disjunction : (end : ℕ) (inside : Inside) → Chain end inside Or (disjuncts end inside) Disjunction
-disjunction end inside = record { stop = stop; step = λ m before p ts. refl; ends = λ p ts. tt }
-  where
-    stop : (m : ℕ) (before : List (Formula Atom)) (rest : Tokens) → EndsMatch rest → disjuncts end inside m before rest ≡ Read (Disjunction (formulas before)) rest
-    stop m before [] h = refl
-    stop m before ((p, Close) ∷ ts) h = refl
-    stop m before ((p, k) ∷ ts) h = absurd h
+chain_stops : (end : ℕ) (inside : Inside) (o : Operator) (m : ℕ) (units : List (Formula Atom)) (ts : Tokens) → EndsMatch ts → chain (unit end inside) o m units ts ≡ Read (join o (formulas units)) ts
+chain_stops end inside o m units ts h = chain_ends (unit end inside) o m units ts (none_after o ts h) ∙ ends_here o units ts h
+
+-- a chain continues after its sign
+sign_after : (o : Operator) (p : ℕ) (ts : Tokens) → after_operator o ((p, sign o) ∷ ts) ≡ Some ts
+sign_after operator.And p ts = refl
+sign_after operator.Or p ts = refl
+
+ends_at : (o : Operator) (p : ℕ) (ts : Tokens) → EndsUnit ((p, sign o) ∷ ts)
+ends_at operator.And p ts = tt
+ends_at operator.Or p ts = tt
+
+chain_steps : (end : ℕ) (inside : Inside) (o : Operator) (m : ℕ) (units : List (Formula Atom)) (p : ℕ) (ts : Tokens) → chain (unit end inside) o (suc m) units ((p, sign o) ∷ ts) ≡ next_unit end inside o m units ts
+chain_steps end inside o m units p ts = ap (one_more (unit end inside) (λ g more. chain (unit end inside) o m (units ++ g ∷ []) more) (chain_end o units ((p, sign o) ∷ ts))) (sign_after o p ts)
+
+joined_at : (end : ℕ) (inside : Inside) (o : Operator) (f : Formula Atom) (p : ℕ) (ts : Tokens) → joined end inside f ((p, sign o) ∷ ts) ≡ next_unit end inside o (length ts) (f ∷ []) ts
+joined_at end inside operator.And f p ts = refl
+joined_at end inside operator.Or f p ts = refl
 
 -- there is a unit in each chain
-some_units : {n : ℕ} {sign : Token} {ts : Tokens} {fs : List (Formula Atom)} → AreUnits n sign ts fs → 1 ≤ length fs
+some_units : {n : ℕ} {o : Operator} {ts : Tokens} {fs : List (Formula Atom)} → AreUnits n o ts fs → 1 ≤ length fs
 some_units (last f u) = omega arith
 some_units (more front p back e u us) = omega arith
 
 -- a chain has no more units than tokens and one
-chain_long : {n : ℕ} {sign : Token} {ts : Tokens} {fs : List (Formula Atom)} → AreUnits n sign ts fs → length fs ≤ length ts + 1
+chain_long : {n : ℕ} {o : Operator} {ts : Tokens} {fs : List (Formula Atom)} → AreUnits n o ts fs → length fs ≤ length ts + 1
 chain_long (last f u) = omega arith
-chain_long (more {sign = sign} {ts = ts} front p back e u us) = omega (arith, chain_long us, length-append front ((p, sign) ∷ back), ap length e)
+chain_long (more {o = o} {ts = ts} front p back e u us) = omega (arith, chain_long us, length-append front ((p, sign o) ∷ back), ap length e)
 
 -- the unit of a chain is read, and the sign after it
-unit_more : (end : ℕ) (inside : Inside) (goes : ℕ → List (Formula Atom) → Tokens → Reading (Formula Atom)) (m : ℕ) (before : List (Formula Atom)) (f : Formula Atom) (ts mid : Tokens) → unit end inside ts ≡ Read f mid → next_unit end inside goes m before ts ≡ goes m (before ++ f ∷ []) mid
-unit_more end inside goes m before f ts mid e = after (unit end inside ts) f mid (λ g more. goes m (before ++ g ∷ []) more) e
+unit_more : (end : ℕ) (inside : Inside) (o : Operator) (m : ℕ) (before : List (Formula Atom)) (f : Formula Atom) (ts mid : Tokens) → unit end inside ts ≡ Read f mid → next_unit end inside o m before ts ≡ chain (unit end inside) o m (before ++ f ∷ []) mid
+unit_more end inside o m before f ts mid e = after (unit end inside ts) f mid (λ g more. chain (unit end inside) o m (before ++ g ∷ []) more) e
 
 -- tokens after tokens
 regroup : (ts front : Tokens) (offset : ℕ) (sign : Token) (back rest : Tokens) → ts ≡ front ++ (offset, sign) ∷ back → ts ++ rest ≡ front ++ (offset, sign) ∷ (back ++ rest)
@@ -167,27 +184,23 @@ mutual
   unit_read (plain o) end rest stop = (operand_read o end rest stop).1
   unit_read {ts = ts} (comparison p r s h) end rest stop = comparison_read end _ ts p r s rest h stop
 
-  units_read : {n : ℕ} {sign : Token} {ts : Tokens} {fs : List (Formula Atom)} → AreUnits n sign ts fs → (end : ℕ) (goes : ℕ → List (Formula Atom) → Tokens → Reading (Formula Atom)) (make : Formulas Atom → Formula Atom) → Chain end (levels end n) sign goes make → (m : ℕ) (before : List (Formula Atom)) (rest : Tokens) → length fs ≤ suc m → EndsMatch rest → next_unit end (levels end n) goes m before (ts ++ rest) ≡ Read (make (formulas (before ++ fs))) rest
-  units_read {n = n} {ts = ts} (last f u) end goes make chain m before rest le stop = unit_more end (levels end n) goes m before f (ts ++ rest) rest (unit_read u end rest (ends_unit rest stop)) ∙ chain.stop m (before ++ f ∷ []) rest stop
-  units_read (more front p back e u us) end goes make chain zero before rest le stop = absurd (omega (arith, some_units us))
-  units_read {n = n} {sign = sign} {ts = ts} (more {f = f} {fs = fs} front p back e u us) end goes make chain (suc m) before rest le stop =
+  units_read : {n : ℕ} {o : Operator} {ts : Tokens} {fs : List (Formula Atom)} → AreUnits n o ts fs → (end m : ℕ) (before : List (Formula Atom)) (rest : Tokens) → length fs ≤ suc m → EndsMatch rest → next_unit end (levels end n) o m before (ts ++ rest) ≡ Read (join o (formulas (before ++ fs))) rest
+  units_read {n = n} {o = o} {ts = ts} (last f u) end m before rest le stop = unit_more end (levels end n) o m before f (ts ++ rest) rest (unit_read u end rest (ends_unit rest stop)) ∙ chain_stops end (levels end n) o m (before ++ f ∷ []) rest stop
+  units_read (more front p back e u us) end zero before rest le stop = absurd (omega (arith, some_units us))
+  units_read {n = n} {o = o} {ts = ts} (more {f = f} {fs = fs} front p back e u us) end (suc m) before rest le stop =
       let le' : length fs ≤ suc m = omega arith in
-      ap (next_unit end (levels end n) goes (suc m) before) (regroup ts front p sign back rest e)
-      ∙ unit_more end (levels end n) goes (suc m) before f (front ++ (p, sign) ∷ (back ++ rest)) ((p, sign) ∷ (back ++ rest)) (unit_read u end ((p, sign) ∷ (back ++ rest)) (chain.ends p (back ++ rest)))
-      ∙ chain.step m (before ++ f ∷ []) p (back ++ rest)
-      ∙ units_read us end goes make chain m (before ++ f ∷ []) rest le' stop
-      ∙ ap (λ xs. Read (make (formulas xs)) rest) (append_assoc before (f ∷ []) fs)
+      ap (next_unit end (levels end n) o (suc m) before) (regroup ts front p (sign o) back rest e)
+      ∙ unit_more end (levels end n) o (suc m) before f (front ++ (p, sign o) ∷ (back ++ rest)) ((p, sign o) ∷ (back ++ rest)) (unit_read u end ((p, sign o) ∷ (back ++ rest)) (ends_at o p (back ++ rest)))
+      ∙ chain_steps end (levels end n) o m (before ++ f ∷ []) p (back ++ rest)
+      ∙ units_read us end m (before ++ f ∷ []) rest le' stop
+      ∙ ap (λ xs. Read (join o (formulas xs)) rest) (append_assoc before (f ∷ []) fs)
 
   match_read : {n : ℕ} {ts : Tokens} {f : Formula Atom} → IsMatch n ts f → (end : ℕ) (rest : Tokens) → EndsMatch rest → whole end (levels end n) (ts ++ rest) ≡ Read f rest
   match_read {n = n} {ts = ts} {f = f} (alone u) end rest stop = joined_read end (levels end n) f ts ts rest rest f refl (unit_read u end rest (ends_unit rest stop)) (alone_joined end (levels end n) f rest stop)
-  match_read {n = n} {ts = ts} (all f g fs (more front p back e u us)) end rest stop =
+  match_read {n = n} {ts = ts} (is_joined o f g fs (more front p back e u us)) end rest stop =
       let long : length (g ∷ fs) ≤ suc (length (back ++ rest)) = omega (arith, chain_long us, length-append back rest) in
-      joined_read end (levels end n) f ts front ((p, And) ∷ (back ++ rest)) rest (Conjunction (formulas (f ∷ g ∷ fs))) (regroup ts front p And back rest e) (unit_read u end ((p, And) ∷ (back ++ rest)) tt)
-      (units_read us end (conjuncts end (levels end n)) Conjunction (conjunction end (levels end n)) (length (back ++ rest)) (f ∷ []) rest long stop)
-  match_read {n = n} {ts = ts} (any f g fs (more front p back e u us)) end rest stop =
-      let long : length (g ∷ fs) ≤ suc (length (back ++ rest)) = omega (arith, chain_long us, length-append back rest) in
-      joined_read end (levels end n) f ts front ((p, Or) ∷ (back ++ rest)) rest (Disjunction (formulas (f ∷ g ∷ fs))) (regroup ts front p Or back rest e) (unit_read u end ((p, Or) ∷ (back ++ rest)) tt)
-      (units_read us end (disjuncts end (levels end n)) Disjunction (disjunction end (levels end n)) (length (back ++ rest)) (f ∷ []) rest long stop)
+      joined_read end (levels end n) f ts front ((p, sign o) ∷ (back ++ rest)) rest (join o (formulas (f ∷ g ∷ fs))) (regroup ts front p (sign o) back rest e) (unit_read u end ((p, sign o) ∷ (back ++ rest)) (ends_at o p (back ++ rest)))
+      (joined_at end (levels end n) o f p (back ++ rest) ∙ units_read us end (length (back ++ rest)) (f ∷ []) rest long stop)
 
 pub whole_read : {n : ℕ} {ts : Tokens} {f : Formula Atom} → IsMatch n ts f → (len end : ℕ) → end ≡ len → and_then (whole end (levels end n) ts) (finished len end) ≡ Read f []
 whole_read {n = n} {ts = ts} {f = f} h len end same =

@@ -1,7 +1,7 @@
 -- What the reading of a match took is that match by the rules.
-use Rattle.std.proofs.Common.{◌≡◌, ℕ, zero, suc, ◌==◌, if◌then◌else◌, Bool, true, false, ◌⊎◌, inl, inr, List, [], ◌∷◌, ◌++◌, length, refl, sym, ap, subst, ◌∙◌, append_assoc, append-nil}
+use Rattle.std.proofs.Common.{◌≡◌, ℕ, zero, suc, ◌==◌, if◌then◌else◌, Bool, true, false, Option, Some, None, List, [], ◌∷◌, ◌++◌, length, refl, sym, ap, subst, ◌∙◌, append_assoc, append-nil}
 use Rattle.std.proofs.lemmas.Bool.{eqb-true}
-use Rattle.expr_core.specs.Formula.{Formula, Formulas, formulas}
+use Rattle.expr_core.specs.Formula.{Formula, formulas}
 use Rattle.expr_core.specs.Formula.Formula.{Leaf, Not as Negation, And as Conjunction, Or as Disjunction}
 use Rattle.expr_core.specs.declared.constant.Form.{Form}
 use Rattle.expr_core.specs.declared.constant.Form.TheVariants as form
@@ -9,12 +9,14 @@ use Rattle.expr_core.specs.declared.expr.Atom.{Atom}
 use Rattle.expr_core.specs.declared.expr.Atom.TheVariants.{Truth, Bare, Compare}
 use Rattle.expr_core.specs.declared.part.Part.{Part}
 use Rattle.expr_parse.specs.declared.fault.MatchFault.TheVariants.{Syntax}
-use Rattle.expr_parse.specs.Token.{Token, Tokens}
+use Rattle.expr_parse.specs.declared.operator.Operator.{Operator}
+use Rattle.expr_parse.specs.declared.operator.Operator.TheVariants as operator
+use Rattle.expr_parse.specs.Token.{Tokens}
 use Rattle.expr_parse.specs.Token.Token.{Name, Number, Relation, And, Or, Not, Open, Close}
-use Rattle.expr_parse.specs.Grammar.{Reading, Inside, and_then, finished, part, right, compared, truth, closed, operand, unit, conjuncts, disjuncts, joined, whole, too_deep, levels}
+use Rattle.expr_parse.specs.Grammar.{Reading, Inside, and_then, finished, part, right, compared, truth, closed, operand, unit, sign, join, after_operator, chain_end, one_more, chain, joined, whole, too_deep, levels}
 use Rattle.expr_parse.specs.Grammar.Reading.{Read, Fails}
 use Rattle.expr_parse.specs.GrammarRules.{IsPart, IsMatch, AreUnits, IsUnit, IsOperand}
-use Rattle.expr_parse.specs.GrammarRules.IsMatch.{alone, all, any}
+use Rattle.expr_parse.specs.GrammarRules.IsMatch.{alone, joined as is_joined}
 use Rattle.expr_parse.specs.GrammarRules.AreUnits.{last, more}
 use Rattle.expr_parse.specs.GrammarRules.IsUnit.{plain, comparison}
 use Rattle.expr_parse.specs.GrammarRules.IsOperand.{truth as is_truth, bare as is_bare, negation as is_negation, enclosed as is_enclosed}
@@ -104,86 +106,74 @@ module _ (n end : ℕ) (inside : Inside) (sound : Sound n inside) where
       ((p, Name name) ∷ (h.0 ++ c.0), ap (λ xs. (p, Name name) ∷ xs) whole, c.2)
   unit_taken ((p, k) ∷ ts) f rest e = plain_taken ((p, k) ∷ ts) f rest e
 
--- a chain ends here, or continues after its sign
-abbrev EndsHere : (Formulas Atom → Formula Atom) → List (Formula Atom) → Tokens → Formula Atom → Tokens → Type 0
-EndsHere make before ts f rest = (f ≡ make (formulas before)) × (ts ≡ rest)
+-- the operator's sign is the first of these tokens
+sign_first : (o : Operator) (ts rest : Tokens) → after_operator o ts ≡ Some rest → (p : ℕ) × (ts ≡ (p, sign o) ∷ rest)
+sign_first operator.And [] rest e = absurd (cc)
+sign_first operator.And ((p, And) ∷ ts) rest e = let same : ts ≡ rest = cc in (p, ap (λ xs. (p, And) ∷ xs) same)
+sign_first operator.And ((p, k) ∷ ts) rest e = absurd (cc)
+sign_first operator.Or [] rest e = absurd (cc)
+sign_first operator.Or ((p, Or) ∷ ts) rest e = let same : ts ≡ rest = cc in (p, ap (λ xs. (p, Or) ∷ xs) same)
+sign_first operator.Or ((p, k) ∷ ts) rest e = absurd (cc)
 
-abbrev GoesOn : Token → Tokens → (Tokens → Reading (Formula Atom)) → Formula Atom → Tokens → Type 0
-GoesOn sign ts after f rest = (p : ℕ) × (next : Tokens) × (ts ≡ (p, sign) ∷ next) × (after next ≡ Read f rest)
-
--- what is read after a sign
-abbrev next_unit : ℕ → Inside → (ℕ → List (Formula Atom) → Tokens → Reading (Formula Atom)) → ℕ → List (Formula Atom) → Tokens → Reading (Formula Atom)
-next_unit end inside goes m before ts = and_then (unit end inside ts) (λ g after. goes m (before ++ g ∷ []) after)
-
--- how a chain of this sign is read
-record Chain (end : ℕ) (inside : Inside) (sign : Token) (goes : ℕ → List (Formula Atom) → Tokens → Reading (Formula Atom)) (make : Formulas Atom → Formula Atom) : Type 0 where
-  none : (before : List (Formula Atom)) (ts : Tokens) (f : Formula Atom) (rest : Tokens) → goes zero before ts ≡ Read f rest → EndsHere make before ts f rest
-  some : (m : ℕ) (before : List (Formula Atom)) (ts : Tokens) (f : Formula Atom) (rest : Tokens) → goes (suc m) before ts ≡ Read f rest → EndsHere make before ts f rest ⊎ GoesOn sign ts (next_unit end inside goes m before) f rest
-
--- units are before the rest, and are joined after those before
-abbrev Joins : ℕ → Token → (Formulas Atom → Formula Atom) → List (Formula Atom) → Tokens → Formula Atom → Tokens → Type 0
-Joins n sign make before ts f rest = (g : Formula Atom) × (gs : List (Formula Atom)) × (front : Tokens) × (ts ≡ front ++ rest) × AreUnits n sign front (g ∷ gs) × (f ≡ make (formulas (before ++ g ∷ gs)))
-
-module _ (n end : ℕ) (inside : Inside) (sound : Sound n inside) (sign : Token) (goes : ℕ → List (Formula Atom) → Tokens → Reading (Formula Atom)) (make : Formulas Atom → Formula Atom) (chain : Chain end inside sign goes make) where
-  ends : (before : List (Formula Atom)) (g : Formula Atom) (front ts : Tokens) (f : Formula Atom) (mid rest : Tokens) → ts ≡ front ++ mid → IsUnit n front g → EndsHere make (before ++ g ∷ []) mid f rest → Joins n sign make before ts f rest
-  ends before g front ts f mid rest whole h e = (g, [], front, whole ∙ ap (λ xs. front ++ xs) e.1, last g h, e.0)
-
-  goes_on : (before : List (Formula Atom)) (g : Formula Atom) (front ts : Tokens) (f : Formula Atom) (mid rest : Tokens) (p : ℕ) (next : Tokens) → ts ≡ front ++ mid → IsUnit n front g → mid ≡ (p, sign) ∷ next → Joins n sign make (before ++ g ∷ []) next f rest → Joins n sign make before ts f rest
-  goes_on before g front ts f mid rest p next whole h e j =
-      let all : ts ≡ (front ++ (p, sign) ∷ j.2) ++ rest = whole ∙ ap (λ xs. front ++ xs) (e ∙ ap (λ xs. (p, sign) ∷ xs) j.3) ∙ sym (append_assoc front ((p, sign) ∷ j.2) rest) in
-      (g, j.0 ∷ j.1, front ++ (p, sign) ∷ j.2, all, more front p j.2 refl h j.4, j.5 ∙ ap (λ xs. make (formulas xs)) (append_assoc before (g ∷ []) (j.0 ∷ j.1)))
-
-  chain_taken : (m : ℕ) (before : List (Formula Atom)) (ts : Tokens) (f : Formula Atom) (rest : Tokens) → next_unit end inside goes m before ts ≡ Read f rest → Joins n sign make before ts f rest
-  chain_taken zero before ts f rest e =
-      let a = and_then_read (unit end inside ts) (λ g after. goes zero (before ++ g ∷ []) after) f rest e in
-      let u = unit_taken n end inside sound ts a.0 a.1 a.2 in
-      ends before a.0 u.0 ts f a.1 rest u.1 u.2 (chain.none (before ++ a.0 ∷ []) a.1 f rest a.3)
-  chain_taken (suc m) before ts f rest e =
-      let a = and_then_read (unit end inside ts) (λ g after. goes (suc m) (before ++ g ∷ []) after) f rest e in
-      let u = unit_taken n end inside sound ts a.0 a.1 a.2 in
-      let go : EndsHere make (before ++ a.0 ∷ []) a.1 f rest ⊎ GoesOn sign a.1 (next_unit end inside goes m (before ++ a.0 ∷ [])) f rest → Joins n sign make before ts f rest = elim [ inl h ↦ ends before a.0 u.0 ts f a.1 rest u.1 u.2 h | inr h ↦ goes_on before a.0 u.0 ts f a.1 rest h.0 h.1 u.1 u.2 h.2 (chain_taken m (before ++ a.0 ∷ []) h.1 f rest h.3) ] in
-      go (chain.some m (before ++ a.0 ∷ []) a.1 f rest a.3)
-
+-- a chain ends here
 stops : (v f : Formula Atom) (ts rest : Tokens) → Read v ts ≡ Read f rest → (f ≡ v) × (ts ≡ rest)
 stops v f ts rest e = (cc, cc)
 
-conjuncts_none : (end : ℕ) (inside : Inside) (before : List (Formula Atom)) (ts : Tokens) (f : Formula Atom) (rest : Tokens) → conjuncts end inside zero before ts ≡ Read f rest → EndsHere Conjunction before ts f rest
-conjuncts_none end inside before [] f rest e = stops (Conjunction (formulas before)) f [] rest e
-conjuncts_none end inside before ((p, Or) ∷ ts) f rest e = absurd (cc)
-conjuncts_none end inside before ((p, k) ∷ ts) f rest e = stops (Conjunction (formulas before)) f ((p, k) ∷ ts) rest e
+end_taken : (o : Operator) (units : List (Formula Atom)) (ts : Tokens) (f : Formula Atom) (rest : Tokens) → chain_end o units ts ≡ Read f rest → (f ≡ join o (formulas units)) × (ts ≡ rest)
+end_taken operator.And units [] f rest e = stops (Conjunction (formulas units)) f [] rest e
+end_taken operator.And units ((p, Or) ∷ ts) f rest e = absurd (cc)
+end_taken operator.And units ((p, k) ∷ ts) f rest e = stops (Conjunction (formulas units)) f ((p, k) ∷ ts) rest e
+end_taken operator.Or units [] f rest e = stops (Disjunction (formulas units)) f [] rest e
+end_taken operator.Or units ((p, And) ∷ ts) f rest e = absurd (cc)
+end_taken operator.Or units ((p, k) ∷ ts) f rest e = stops (Disjunction (formulas units)) f ((p, k) ∷ ts) rest e
 
-conjuncts_some : (end : ℕ) (inside : Inside) (m : ℕ) (before : List (Formula Atom)) (ts : Tokens) (f : Formula Atom) (rest : Tokens) → conjuncts end inside (suc m) before ts ≡ Read f rest → EndsHere Conjunction before ts f rest ⊎ GoesOn And ts (next_unit end inside (conjuncts end inside) m before) f rest
-conjuncts_some end inside m before [] f rest e = inl (stops (Conjunction (formulas before)) f [] rest e)
-conjuncts_some end inside m before ((p, Or) ∷ ts) f rest e = absurd (cc)
-conjuncts_some end inside m before ((p, And) ∷ ts) f rest e = inr (p, ts, refl, e)
-conjuncts_some end inside m before ((p, k) ∷ ts) f rest e = inl (stops (Conjunction (formulas before)) f ((p, k) ∷ ts) rest e)
+-- units are before the rest, and are joined after those before
+abbrev Joins : ℕ → Operator → List (Formula Atom) → Tokens → Formula Atom → Tokens → Type 0
+Joins n o before ts f rest = (g : Formula Atom) × (gs : List (Formula Atom)) × (front : Tokens) × (ts ≡ front ++ rest) × AreUnits n o front (g ∷ gs) × (f ≡ join o (formulas (before ++ g ∷ gs)))
 
-conjunction : (end : ℕ) (inside : Inside) → Chain end inside And (conjuncts end inside) Conjunction
-conjunction end inside = record { none = conjuncts_none end inside; some = conjuncts_some end inside }
+module _ (n end : ℕ) (inside : Inside) (sound : Sound n inside) (o : Operator) where
+  -- what is read after a sign
+  abbrev next_unit : ℕ → List (Formula Atom) → Tokens → Reading (Formula Atom)
+  next_unit m before ts = and_then (unit end inside ts) (λ g after. chain (unit end inside) o m (before ++ g ∷ []) after)
 
-disjuncts_none : (end : ℕ) (inside : Inside) (before : List (Formula Atom)) (ts : Tokens) (f : Formula Atom) (rest : Tokens) → disjuncts end inside zero before ts ≡ Read f rest → EndsHere Disjunction before ts f rest
-disjuncts_none end inside before [] f rest e = stops (Disjunction (formulas before)) f [] rest e
-disjuncts_none end inside before ((p, And) ∷ ts) f rest e = absurd (cc)
-disjuncts_none end inside before ((p, k) ∷ ts) f rest e = stops (Disjunction (formulas before)) f ((p, k) ∷ ts) rest e
+  ends : (before : List (Formula Atom)) (g : Formula Atom) (front ts : Tokens) (f : Formula Atom) (mid rest : Tokens) → ts ≡ front ++ mid → IsUnit n front g → chain_end o (before ++ g ∷ []) mid ≡ Read f rest → Joins n o before ts f rest
+  ends before g front ts f mid rest whole h e =
+      let last_taken = end_taken o (before ++ g ∷ []) mid f rest e in
+      (g, [], front, whole ∙ ap (λ xs. front ++ xs) last_taken.1, last g h, last_taken.0)
 
-disjuncts_some : (end : ℕ) (inside : Inside) (m : ℕ) (before : List (Formula Atom)) (ts : Tokens) (f : Formula Atom) (rest : Tokens) → disjuncts end inside (suc m) before ts ≡ Read f rest → EndsHere Disjunction before ts f rest ⊎ GoesOn Or ts (next_unit end inside (disjuncts end inside) m before) f rest
-disjuncts_some end inside m before [] f rest e = inl (stops (Disjunction (formulas before)) f [] rest e)
-disjuncts_some end inside m before ((p, And) ∷ ts) f rest e = absurd (cc)
-disjuncts_some end inside m before ((p, Or) ∷ ts) f rest e = inr (p, ts, refl, e)
-disjuncts_some end inside m before ((p, k) ∷ ts) f rest e = inl (stops (Disjunction (formulas before)) f ((p, k) ∷ ts) rest e)
+  goes_on : (before : List (Formula Atom)) (g : Formula Atom) (front ts : Tokens) (f : Formula Atom) (mid rest : Tokens) (p : ℕ) (next : Tokens) → ts ≡ front ++ mid → IsUnit n front g → mid ≡ (p, sign o) ∷ next → Joins n o (before ++ g ∷ []) next f rest → Joins n o before ts f rest
+  goes_on before g front ts f mid rest p next whole h e j =
+      let all : ts ≡ (front ++ (p, sign o) ∷ j.2) ++ rest = whole ∙ ap (λ xs. front ++ xs) (e ∙ ap (λ xs. (p, sign o) ∷ xs) j.3) ∙ sym (append_assoc front ((p, sign o) ∷ j.2) rest) in
+      (g, j.0 ∷ j.1, front ++ (p, sign o) ∷ j.2, all, more front p j.2 refl h j.4, j.5 ∙ ap (λ xs. join o (formulas xs)) (append_assoc before (g ∷ []) (j.0 ∷ j.1)))
 
-disjunction : (end : ℕ) (inside : Inside) → Chain end inside Or (disjuncts end inside) Disjunction
-disjunction end inside = record { none = disjuncts_none end inside; some = disjuncts_some end inside }
+  by_next : (m : ℕ) (before : List (Formula Atom)) (g : Formula Atom) (front ts : Tokens) (f : Formula Atom) (mid rest : Tokens) → ts ≡ front ++ mid → IsUnit n front g
+      → ((left : Tokens) → next_unit m (before ++ g ∷ []) left ≡ Read f rest → Joins n o (before ++ g ∷ []) left f rest)
+      → (next : Option Tokens) → after_operator o mid ≡ next → one_more (unit end inside) (λ u after. chain (unit end inside) o m ((before ++ g ∷ []) ++ u ∷ []) after) (chain_end o (before ++ g ∷ []) mid) next ≡ Read f rest → Joins n o before ts f rest
+  by_next m before g front ts f mid rest whole h others None next e = ends before g front ts f mid rest whole h e
+  by_next m before g front ts f mid rest whole h others (Some left) next e =
+      let s = sign_first o mid left next in
+      goes_on before g front ts f mid rest s.0 left whole h s.1 (others left e)
+
+  chain_taken : (m : ℕ) (before : List (Formula Atom)) (ts : Tokens) (f : Formula Atom) (rest : Tokens) → next_unit m before ts ≡ Read f rest → Joins n o before ts f rest
+  chain_taken zero before ts f rest e =
+      let a = and_then_read (unit end inside ts) (λ g after. chain (unit end inside) o zero (before ++ g ∷ []) after) f rest e in
+      let u = unit_taken n end inside sound ts a.0 a.1 a.2 in
+      ends before a.0 u.0 ts f a.1 rest u.1 u.2 a.3
+  chain_taken (suc m) before ts f rest e =
+      let a = and_then_read (unit end inside ts) (λ g after. chain (unit end inside) o (suc m) (before ++ g ∷ []) after) f rest e in
+      let u = unit_taken n end inside sound ts a.0 a.1 a.2 in
+      by_next m before a.0 u.0 ts f a.1 rest u.1 u.2 (λ left reads. chain_taken m (before ++ a.0 ∷ []) left f rest reads) (after_operator o a.1) refl a.3
+
+  chain_joined : (head : Tokens) (first : Formula Atom) (p : ℕ) (ts : Tokens) (f : Formula Atom) (rest : Tokens) → IsUnit n head first → next_unit (length ts) (first ∷ []) ts ≡ Read f rest → Completes (IsMatch n) head ((p, sign o) ∷ ts) f rest
+  chain_joined head first p ts f rest h e =
+      let j = chain_taken (length ts) (first ∷ []) ts f rest e in
+      ((p, sign o) ∷ j.2, ap (λ xs. (p, sign o) ∷ xs) j.3, subst (IsMatch n (head ++ (p, sign o) ∷ j.2)) (sym j.5) (is_joined o first j.0 j.1 (more head p j.2 refl h j.4)))
 
 module _ (n end : ℕ) (inside : Inside) (sound : Sound n inside) where
   joined_taken : (head : Tokens) (first : Formula Atom) (ts : Tokens) (f : Formula Atom) (rest : Tokens) → IsUnit n head first → joined end inside first ts ≡ Read f rest → Completes (IsMatch n) head ts f rest
   joined_taken head first [] f rest h e = nothing_more (IsMatch n) head [] first f rest e (alone h)
-  joined_taken head first ((p, And) ∷ ts) f rest h e =
-      let j = chain_taken n end inside sound And (conjuncts end inside) Conjunction (conjunction end inside) (length ts) (first ∷ []) ts f rest e in
-      ((p, And) ∷ j.2, ap (λ xs. (p, And) ∷ xs) j.3, subst (IsMatch n (head ++ (p, And) ∷ j.2)) (sym j.5) (all first j.0 j.1 (more head p j.2 refl h j.4)))
-  joined_taken head first ((p, Or) ∷ ts) f rest h e =
-      let j = chain_taken n end inside sound Or (disjuncts end inside) Disjunction (disjunction end inside) (length ts) (first ∷ []) ts f rest e in
-      ((p, Or) ∷ j.2, ap (λ xs. (p, Or) ∷ xs) j.3, subst (IsMatch n (head ++ (p, Or) ∷ j.2)) (sym j.5) (any first j.0 j.1 (more head p j.2 refl h j.4)))
+  joined_taken head first ((p, And) ∷ ts) f rest h e = chain_joined n end inside sound operator.And head first p ts f rest h e
+  joined_taken head first ((p, Or) ∷ ts) f rest h e = chain_joined n end inside sound operator.Or head first p ts f rest h e
   joined_taken head first ((p, k) ∷ ts) f rest h e = nothing_more (IsMatch n) head ((p, k) ∷ ts) first f rest e (alone h)
 
   whole_taken : (ts : Tokens) (f : Formula Atom) (rest : Tokens) → whole end inside ts ≡ Read f rest → Takes (IsMatch n) ts f rest

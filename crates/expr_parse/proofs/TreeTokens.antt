@@ -11,10 +11,13 @@ use Rattle.expr_core.specs.declared.comparison.Right.TheVariants as right_of
 use Rattle.expr_core.specs.declared.expr.Atom.{Atom}
 use Rattle.expr_core.specs.declared.expr.Atom.TheVariants.{Truth, Bare, Compare}
 use Rattle.expr_core.specs.declared.part.Part.{Part}
-use Rattle.expr_parse.specs.Token.{Token, Tokens}
-use Rattle.expr_parse.specs.Token.Token.{Name, Relation, And, Or, Not, Open, Close}
+use Rattle.expr_parse.specs.declared.operator.Operator.{Operator}
+use Rattle.expr_parse.specs.declared.operator.Operator.TheVariants as operator
+use Rattle.expr_parse.specs.Grammar.{sign, join}
+use Rattle.expr_parse.specs.Token.{Tokens}
+use Rattle.expr_parse.specs.Token.Token.{Name, Relation, Not, Open, Close}
 use Rattle.expr_parse.specs.GrammarRules.{kinds, bits_tokens, IsPart, IsRight, IsMatch, AreUnits, IsUnit, IsOperand}
-use Rattle.expr_parse.specs.GrammarRules.IsMatch.{alone, all, any}
+use Rattle.expr_parse.specs.GrammarRules.IsMatch.{alone, joined as is_match}
 use Rattle.expr_parse.specs.GrammarRules.AreUnits.{last, more}
 use Rattle.expr_parse.specs.GrammarRules.IsUnit.{plain, comparison}
 use Rattle.expr_parse.specs.GrammarRules.IsOperand.{truth as is_truth, bare as is_bare, negation as is_negation, enclosed as is_enclosed}
@@ -25,8 +28,8 @@ use Rattle.expr_parse.proofs.TokenKinds.{kinds_none, kinds_first, kinds_split}
 abbrev Alike : (Formula Atom → Type 0) → Formula Atom → Type 0
 Alike Is f = (g : Formula Atom) × Is g × (without_offsets g ≡ without_offsets f)
 
-abbrev UnitsAlike : ℕ → Token → Tokens → Formulas Atom → Type 0
-UnitsAlike n sign ts fs = (gs : List (Formula Atom)) × AreUnits n sign ts gs × (all_without_offsets (formulas gs) ≡ all_without_offsets fs)
+abbrev UnitsAlike : ℕ → Operator → Tokens → Formulas Atom → Type 0
+UnitsAlike n o ts fs = (gs : List (Formula Atom)) × AreUnits n o ts gs × (all_without_offsets (formulas gs) ≡ all_without_offsets fs)
 
 -- by which rules the tokens are a tree
 record ByRules (n : ℕ) (ts : Tokens) (f : Formula Atom) : Type 0 where
@@ -120,45 +123,44 @@ joined true zero ts f joins ruled le e = absurd (omega arith)
 joined true (suc n) ts f joins ruled le e = a_unit f (in_parentheses n ts f ruled (omega arith) e)
 joined false n ts f joins ruled le e = (ruled n ts (omega arith) e).as_unit joins
 
-units_ruled : (f : Formula Atom) (fs : Formulas Atom) → Ruled f → AllRuled fs → (n : ℕ) (sign : Token) (ts : Tokens) → levels_among (Cons f fs) ≤ n → kinds ts ≡ operand_tokens sign (Cons f fs) → UnitsAlike n sign ts (Cons f fs)
-units_ruled f Nil ruled each n sign ts le e =
+units_ruled : (f : Formula Atom) (fs : Formulas Atom) → Ruled f → AllRuled fs → (n : ℕ) (o : Operator) (ts : Tokens) → levels_among (Cons f fs) ≤ n → kinds ts ≡ operand_tokens (sign o) (Cons f fs) → UnitsAlike n o ts (Cons f fs)
+units_ruled f Nil ruled each n o ts le e =
     let here : one_if (is_joined f) + levels_of f ≤ n = omega (arith, le-max_left (one_if (is_joined f) + levels_of f) 0) in
     let u = joined (is_joined f) n ts f refl ruled here (e ∙ append-nil (enclosed_tokens (is_joined f) (tree_tokens f))) in
     (u.0 ∷ [], last u.0 u.1, ap (λ g. Cons g Nil) u.2)
-units_ruled f (Cons g gs) ruled each n sign ts le e =
+units_ruled f (Cons g gs) ruled each n o ts le e =
     let here : one_if (is_joined f) + levels_of f ≤ n = omega (arith, le-max_left (one_if (is_joined f) + levels_of f) (levels_among (Cons g gs))) in
     let there : levels_among (Cons g gs) ≤ n = omega (arith, le-max_right (one_if (is_joined f) + levels_of f) (levels_among (Cons g gs))) in
-    let cut = kinds_split ts (enclosed_tokens (is_joined f) (tree_tokens f)) (more_tokens sign (Cons g gs)) e in
-    let next = kinds_first cut.1 sign (operand_tokens sign (Cons g gs)) cut.4 in
+    let cut = kinds_split ts (enclosed_tokens (is_joined f) (tree_tokens f)) (more_tokens (sign o) (Cons g gs)) e in
+    let next = kinds_first cut.1 (sign o) (operand_tokens (sign o) (Cons g gs)) cut.4 in
     let u = joined (is_joined f) n cut.0 f refl ruled here cut.3 in
-    let us = units_ruled g gs each.0 each.1 n sign next.1 there next.3 in
-    let whole : ts ≡ cut.0 ++ (next.0, sign) ∷ next.1 = cut.2 ∙ ap (λ xs. cut.0 ++ xs) next.2 in
+    let us = units_ruled g gs each.0 each.1 n o next.1 there next.3 in
+    let whole : ts ≡ cut.0 ++ (next.0, sign o) ∷ next.1 = cut.2 ∙ ap (λ xs. cut.0 ++ xs) next.2 in
     (u.0 ∷ us.0, more cut.0 next.0 next.1 whole u.1 us.1, ap (λ h. Cons h (all_without_offsets (formulas us.0))) u.2 ∙ ap (λ hs. Cons (without_offsets f) hs) us.2)
 
 -- two operands or more make a tree
-conjoined : (n : ℕ) (ts : Tokens) (gs : List (Formula Atom)) (f g : Formula Atom) (fs : Formulas Atom) → AreUnits n And ts gs → all_without_offsets (formulas gs) ≡ all_without_offsets (Cons f (Cons g fs)) → Alike (IsMatch n ts) (Conjunction (Cons f (Cons g fs)))
-conjoined n ts [] f g fs us e = absurd (cc)
-conjoined n ts (h ∷ []) f g fs us e = absurd (cc)
-conjoined n ts (h ∷ i ∷ hs) f g fs us e = (Conjunction (formulas (h ∷ i ∷ hs)), all h i hs us, ap (λ gs. Conjunction gs) e)
+same_joined : (o : Operator) (fs gs : Formulas Atom) → all_without_offsets fs ≡ all_without_offsets gs → without_offsets (join o fs) ≡ without_offsets (join o gs)
+same_joined operator.And fs gs e = ap (λ hs. Conjunction hs) e
+same_joined operator.Or fs gs e = ap (λ hs. Disjunction hs) e
 
-disjoined : (n : ℕ) (ts : Tokens) (gs : List (Formula Atom)) (f g : Formula Atom) (fs : Formulas Atom) → AreUnits n Or ts gs → all_without_offsets (formulas gs) ≡ all_without_offsets (Cons f (Cons g fs)) → Alike (IsMatch n ts) (Disjunction (Cons f (Cons g fs)))
-disjoined n ts [] f g fs us e = absurd (cc)
-disjoined n ts (h ∷ []) f g fs us e = absurd (cc)
-disjoined n ts (h ∷ i ∷ hs) f g fs us e = (Disjunction (formulas (h ∷ i ∷ hs)), any h i hs us, ap (λ gs. Disjunction gs) e)
+joined_alike : (o : Operator) (n : ℕ) (ts : Tokens) (gs : List (Formula Atom)) (f g : Formula Atom) (fs : Formulas Atom) → AreUnits n o ts gs → all_without_offsets (formulas gs) ≡ all_without_offsets (Cons f (Cons g fs)) → Alike (IsMatch n ts) (join o (Cons f (Cons g fs)))
+joined_alike o n ts [] f g fs us e = absurd (cc)
+joined_alike o n ts (h ∷ []) f g fs us e = absurd (cc)
+joined_alike o n ts (h ∷ i ∷ hs) f g fs us e = (join o (formulas (h ∷ i ∷ hs)), is_match o h i hs us, same_joined o (formulas (h ∷ i ∷ hs)) (Cons f (Cons g fs)) e)
 
 conjunction_ruled : (fs : Formulas Atom) → AreTwo fs → AllRuled fs → Ruled (Conjunction fs)
 conjunction_ruled Nil two each n ts le e = absurd two
 conjunction_ruled (Cons f Nil) two each n ts le e = absurd two
 conjunction_ruled (Cons f (Cons g fs)) two each n ts le e =
-    let us = units_ruled f (Cons g fs) each.0 each.1 n And ts le e in
-    record { as_match = conjoined n ts us.0 f g fs us.1 us.2; as_unit = λ joins. absurd (cc); as_operand = λ needs. absurd (cc) }
+    let us = units_ruled f (Cons g fs) each.0 each.1 n operator.And ts le e in
+    record { as_match = joined_alike operator.And n ts us.0 f g fs us.1 us.2; as_unit = λ joins. absurd (cc); as_operand = λ needs. absurd (cc) }
 
 disjunction_ruled : (fs : Formulas Atom) → AreTwo fs → AllRuled fs → Ruled (Disjunction fs)
 disjunction_ruled Nil two each n ts le e = absurd two
 disjunction_ruled (Cons f Nil) two each n ts le e = absurd two
 disjunction_ruled (Cons f (Cons g fs)) two each n ts le e =
-    let us = units_ruled f (Cons g fs) each.0 each.1 n Or ts le e in
-    record { as_match = disjoined n ts us.0 f g fs us.1 us.2; as_unit = λ joins. absurd (cc); as_operand = λ needs. absurd (cc) }
+    let us = units_ruled f (Cons g fs) each.0 each.1 n operator.Or ts le e in
+    record { as_match = joined_alike operator.Or n ts us.0 f g fs us.1 us.2; as_unit = λ joins. absurd (cc); as_operand = λ needs. absurd (cc) }
 
 mutual
   tree_ruled : (f : Formula Atom) → IsWellFormed f → Ruled f

@@ -1,6 +1,6 @@
 -- The grammar of the match language, read from left to right.
-use Rattle.std.specs.Prelude.{ℕ, zero, suc, ◌==◌, ◌&&◌, Bool, true, false, nat_le, List, [], ◌∷◌, ◌++◌, length, if◌then◌else◌}
-use Rattle.expr_core.specs.Formula.{Formula, formulas}
+use Rattle.std.specs.Prelude.{ℕ, zero, suc, ◌==◌, ◌&&◌, Bool, true, false, nat_le, List, [], ◌∷◌, ◌++◌, length, if◌then◌else◌, Option, Some, None}
+use Rattle.expr_core.specs.Formula.{Formula, Formulas, formulas}
 use Rattle.expr_core.specs.Formula.Formula.{Leaf, Not as Negation, And as Conjunction, Or as Disjunction}
 use Rattle.expr_core.specs.Width.{is_decimal}
 use Rattle.expr_core.specs.declared.constant.Const.{Const}
@@ -15,7 +15,9 @@ use Rattle.expr_core.specs.declared.part.Bits.TheVariants.{Whole, Bit, Range}
 use Rattle.expr_core.specs.declared.part.Part.{Part}
 use Rattle.expr_parse.specs.declared.fault.MatchFault.{MatchFault}
 use Rattle.expr_parse.specs.declared.fault.MatchFault.TheVariants.{Syntax, Mixed, TooDeep, Memory}
-use Rattle.expr_parse.specs.Token.{Tokens}
+use Rattle.expr_parse.specs.declared.operator.Operator.{Operator}
+use Rattle.expr_parse.specs.declared.operator.Operator.TheVariants as operator
+use Rattle.expr_parse.specs.Token.{Token, Tokens}
 use Rattle.expr_parse.specs.Token.Token.{Name, Number, Text, AddrSet, Group, Relation, And, Or, Not, Open, Close, OpenBrace, CloseBrace, OpenBracket, CloseBracket, Comma, Slash, Dots}
 use Rattle.expr_parse.specs.Tokens.{tokens_of}
 
@@ -124,22 +126,42 @@ abbrev pub unit : ℕ → Inside → Tokens → Reading (Formula Atom)
 unit end inside ((p, Name name) ∷ rest) = and_then (part end p name rest) (compared end)
 unit end inside rest = operand end inside rest
 
--- { "&&" Unit }, after these units, with at most so many more
-abbrev pub conjuncts : ℕ → Inside → ℕ → List (Formula Atom) → Tokens → Reading (Formula Atom)
-conjuncts end inside more before ((p, Or) ∷ rest) = Fails (Mixed p)
-conjuncts end inside (suc more) before ((p, And) ∷ rest) = and_then (unit end inside rest) (λ f after. conjuncts end inside more (before ++ f ∷ []) after)
-conjuncts end inside more before rest = Read (Conjunction (formulas before)) rest
+-- the sign of an operator
+abbrev pub sign : Operator → Token
+sign operator.And = And
+sign operator.Or = Or
 
--- { "||" Unit }, after these units, with at most so many more
-abbrev pub disjuncts : ℕ → Inside → ℕ → List (Formula Atom) → Tokens → Reading (Formula Atom)
-disjuncts end inside more before ((p, And) ∷ rest) = Fails (Mixed p)
-disjuncts end inside (suc more) before ((p, Or) ∷ rest) = and_then (unit end inside rest) (λ f after. disjuncts end inside more (before ++ f ∷ []) after)
-disjuncts end inside more before rest = Read (Disjunction (formulas before)) rest
+-- formulas that an operator joins
+abbrev pub join : Operator → Formulas Atom → Formula Atom
+join operator.And fs = Conjunction fs
+join operator.Or fs = Disjunction fs
+
+-- the tokens after the operator's sign, where it is the first
+abbrev pub after_operator : Operator → Tokens → Option Tokens
+after_operator operator.And ((p, And) ∷ rest) = Some rest
+after_operator operator.Or ((p, Or) ∷ rest) = Some rest
+after_operator o ts = None
+
+-- the end of units that an operator joins, at which the other operator is a fault
+abbrev pub chain_end : Operator → List (Formula Atom) → Tokens → Reading (Formula Atom)
+chain_end operator.And units ((p, Or) ∷ rest) = Fails (Mixed p)
+chain_end operator.Or units ((p, And) ∷ rest) = Fails (Mixed p)
+chain_end o units ts = Read (join o (formulas units)) ts
+
+-- one more unit, where there are tokens for it, or else the end
+abbrev pub one_more : (Tokens → Reading (Formula Atom)) → (Formula Atom → Tokens → Reading (Formula Atom)) → Reading (Formula Atom) → Option Tokens → Reading (Formula Atom)
+one_more unit go_on end None = end
+one_more unit go_on end (Some rest) = and_then (unit rest) go_on
+
+-- { sign Unit }, after these units, with at most so many more
+abbrev pub chain : (Tokens → Reading (Formula Atom)) → Operator → ℕ → List (Formula Atom) → Tokens → Reading (Formula Atom)
+chain unit o zero units ts = chain_end o units ts
+chain unit o (suc more) units ts = one_more unit (λ f after. chain unit o more (units ++ f ∷ []) after) (chain_end o units ts) (after_operator o ts)
 
 -- what joins the first unit with others
 abbrev pub joined : ℕ → Inside → Formula Atom → Tokens → Reading (Formula Atom)
-joined end inside first ((p, And) ∷ rest) = and_then (unit end inside rest) (λ f after. conjuncts end inside (length rest) (first ∷ f ∷ []) after)
-joined end inside first ((p, Or) ∷ rest) = and_then (unit end inside rest) (λ f after. disjuncts end inside (length rest) (first ∷ f ∷ []) after)
+joined end inside first ((p, And) ∷ rest) = chain (unit end inside) operator.And (suc (length rest)) (first ∷ []) ((p, And) ∷ rest)
+joined end inside first ((p, Or) ∷ rest) = chain (unit end inside) operator.Or (suc (length rest)) (first ∷ []) ((p, Or) ∷ rest)
 joined end inside first rest = Read first rest
 
 -- Match = Unit | Unit "&&" Unit { "&&" Unit } | Unit "||" Unit { "||" Unit }

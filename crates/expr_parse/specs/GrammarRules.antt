@@ -1,7 +1,7 @@
 -- The grammar of the match language as rules: which tokens are which match. A rule knows no order of reading and no fault.
 use Rattle.std.specs.Prelude.{◌≡◌, ℕ, suc, ◌≤◌, Bool, true, false, List, [], ◌∷◌, ◌++◌, length, map}
 use Rattle.expr_core.specs.Formula.{Formula, formulas}
-use Rattle.expr_core.specs.Formula.Formula.{Leaf, Not as Negation, And as Conjunction, Or as Disjunction}
+use Rattle.expr_core.specs.Formula.Formula.{Leaf, Not as Negation}
 use Rattle.expr_core.specs.declared.constant.Form.TheVariants as form
 use Rattle.expr_core.specs.declared.comparison.Item.{Item}
 use Rattle.expr_core.specs.declared.comparison.Item.TheVariants as item_of
@@ -13,10 +13,11 @@ use Rattle.expr_core.specs.declared.expr.Atom.TheVariants.{Truth, Bare, Compare}
 use Rattle.expr_core.specs.declared.part.Bits.{Bits}
 use Rattle.expr_core.specs.declared.part.Bits.TheVariants.{Whole, Bit, Range}
 use Rattle.expr_core.specs.declared.part.Part.{Part}
+use Rattle.expr_parse.specs.declared.operator.Operator.{Operator}
 use Rattle.expr_parse.specs.Token.{Token, Tokens}
-use Rattle.expr_parse.specs.Token.Token.{Name, Number, Text, AddrSet, Group, Relation, And, Or, Not, Open, Close, OpenBrace, CloseBrace, OpenBracket, CloseBracket, Comma, Slash, Dots}
+use Rattle.expr_parse.specs.Token.Token.{Name, Number, Text, AddrSet, Group, Relation, Not, Open, Close, OpenBrace, CloseBrace, OpenBracket, CloseBracket, Comma, Slash, Dots}
 use Rattle.expr_parse.specs.Tokens.{tokens_of}
-use Rattle.expr_parse.specs.Grammar.{level_limit}
+use Rattle.expr_parse.specs.Grammar.{level_limit, sign, join}
 
 -- what the tokens are, without their offsets
 abbrev pub kinds : Tokens → List Token
@@ -79,13 +80,12 @@ mutual
   -- Match = Unit | Unit "&&" Unit { "&&" Unit } | Unit "||" Unit { "||" Unit }, where so many levels may be opened
   pub data IsMatch : ℕ → Tokens → Formula Atom → Type 0 where
     alone : {n : ℕ} {ts : Tokens} {f : Formula Atom} → IsUnit n ts f → IsMatch n ts f
-    all : {n : ℕ} {ts : Tokens} (f g : Formula Atom) (fs : List (Formula Atom)) → AreUnits n And ts (f ∷ g ∷ fs) → IsMatch n ts (Conjunction (formulas (f ∷ g ∷ fs)))
-    any : {n : ℕ} {ts : Tokens} (f g : Formula Atom) (fs : List (Formula Atom)) → AreUnits n Or ts (f ∷ g ∷ fs) → IsMatch n ts (Disjunction (formulas (f ∷ g ∷ fs)))
+    joined : {n : ℕ} {ts : Tokens} (o : Operator) (f g : Formula Atom) (fs : List (Formula Atom)) → AreUnits n o ts (f ∷ g ∷ fs) → IsMatch n ts (join o (formulas (f ∷ g ∷ fs)))
 
   -- Unit { sign Unit }
-  pub data AreUnits : ℕ → Token → Tokens → List (Formula Atom) → Type 0 where
-    last : {n : ℕ} {sign : Token} {ts : Tokens} (f : Formula Atom) → IsUnit n ts f → AreUnits n sign ts (f ∷ [])
-    more : {n : ℕ} {sign : Token} {ts : Tokens} {f : Formula Atom} {fs : List (Formula Atom)} (front : Tokens) (offset : ℕ) (back : Tokens) → ts ≡ front ++ (offset, sign) ∷ back → IsUnit n front f → AreUnits n sign back fs → AreUnits n sign ts (f ∷ fs)
+  pub data AreUnits : ℕ → Operator → Tokens → List (Formula Atom) → Type 0 where
+    last : {n : ℕ} {o : Operator} {ts : Tokens} (f : Formula Atom) → IsUnit n ts f → AreUnits n o ts (f ∷ [])
+    more : {n : ℕ} {o : Operator} {ts : Tokens} {f : Formula Atom} {fs : List (Formula Atom)} (front : Tokens) (offset : ℕ) (back : Tokens) → ts ≡ front ++ (offset, sign o) ∷ back → IsUnit n front f → AreUnits n o back fs → AreUnits n o ts (f ∷ fs)
 
   -- Unit = Not | Part Rel Right
   pub data IsUnit : ℕ → Tokens → Formula Atom → Type 0 where

@@ -1,5 +1,4 @@
-ghost use Rattle.std.specs.Prelude.{◌≡◌, ◌≤◌, length, IfOk};
-ghost use Rattle.expr_core.specs.Formula.Formula.{Leaf};
+ghost use Rattle.std.specs.Prelude.{◌≤◌, length, IfOk};
 ghost use Rattle.expr_parse.specs.inner.Gives.{Reads, seen};
 ghost use Rattle.expr_parse.specs.Grammar as grammar;
 
@@ -7,17 +6,8 @@ use crate::MatchFault;
 use crate::right::right;
 use crate::tail::{Read, front};
 use crate::token::{Token, TokenAt};
-use expr_core::{Atom, Const, Expr, ExprNode, Form, Part};
+use expr_core::{Atom, Const, Expr, Form, Part};
 use std::alloc::Global;
-
-/// The match that is this atom.
-pub(crate) fn leaf(atom: Atom) -> Expr
-    ensures { result ≡ Leaf atom }
-{
-    Expr {
-        node: ExprNode::Atom(atom),
-    }
-}
 
 /// A comparison of the part, or the part alone.
 pub(crate) fn compared<'a>(
@@ -32,9 +22,9 @@ pub(crate) fn compared<'a>(
     match front(tokens) {
         Some((Token::Rel(rel), _, rest)) => {
             let (right, rest) = right(alloc, end, rest)?;
-            Ok((leaf(Atom::Compare(part, rel, right)), rest))
+            Ok((Expr::atom(Atom::Compare(part, rel, right)), rest))
         }
-        _ => Ok((leaf(Atom::Bare(part)), tokens)),
+        _ => Ok((Expr::atom(Atom::Bare(part)), tokens)),
     }
 }
 
@@ -44,8 +34,8 @@ pub(crate) fn truth<'a>(offset: u32, number: Const, tokens: &'a [TokenAt<'a>]) -
     ensures left { IfOk result (λ x. length x.1.now ≤ length tokens.now) }
 {
     match (number.form, number.value) {
-        (Form::Dec, 0) => Ok((leaf(Atom::Truth(false)), tokens)),
-        (Form::Dec, 1) => Ok((leaf(Atom::Truth(true)), tokens)),
+        (Form::Dec, 0) => Ok((Expr::atom(Atom::Truth(false)), tokens)),
+        (Form::Dec, 1) => Ok((Expr::atom(Atom::Truth(true)), tokens)),
         _ => Err(MatchFault::Syntax(offset)),
     }
 }

@@ -1,15 +1,16 @@
-ghost use Rattle.std.specs.Prelude.{◌≤◌, [], ◌∷◌, length, IfOk};
+ghost use Rattle.std.specs.Prelude.{◌≡◌, ◌<◌, ◌≤◌, [], ◌∷◌, length, option_map, IfSome, IfOk};
 ghost use Rattle.expr_core.specs.Formula.Formula.{Not};
 ghost use Rattle.expr_parse.specs.inner.Gives.{Reads, seen};
 ghost use Rattle.expr_parse.specs.Grammar as grammar;
 ghost use Rattle.expr_parse.specs.Grammar.Reading.{Read};
 
 use crate::MatchFault;
-use crate::atom::{compared, leaf, truth};
+use crate::atom::{compared, truth};
+use crate::operator::Operator;
 use crate::part::part;
 use crate::tail::{Read, front, stuck};
 use crate::token::{Token, TokenAt};
-use expr_core::{Atom, Expr, ExprNode};
+use expr_core::{Atom, Expr, Node, Tree};
 use std::alloc::Global;
 
 /// The closing parenthesis after a match.
@@ -23,32 +24,35 @@ fn closed<'a>(end: u32, inner: Expr, tokens: &'a [TokenAt<'a>]) -> Read<'a, Expr
     }
 }
 
-/// The end of units that `&&` joins.
-fn conjoined<'a>(units: Vec<Expr>, tokens: &'a [TokenAt<'a>]) -> Read<'a, Expr>
-    ensures reads { Reads result (grammar.conjuncts 0 (grammar.levels 0 0) 0 units.items (seen tokens.now)) }
-    ensures left { IfOk result (λ x. length x.1.now ≤ length tokens.now) }
+/// The tokens after the operator, where it is the first.
+fn after_operator<'a>(operator: Operator, tokens: &'a [TokenAt<'a>]) -> Option<&'a [TokenAt<'a>]>
+    ensures rest { grammar.after_operator operator (seen tokens.now) ≡ option_map (λ rest. seen rest.now) result }
+    ensures left { IfSome result (λ rest. length rest.now < length tokens.now) }
 {
-    match front(tokens) {
-        Some((Token::Or, offset, _)) => Err(MatchFault::Mixed(offset)),
-        _ => Ok((
-            Expr {
-                node: ExprNode::And(units),
-            },
-            tokens,
-        )),
+    match (operator, front(tokens)) {
+        (Operator::And, Some((Token::And, _, rest))) => Some(rest),
+        (Operator::Or, Some((Token::Or, _, rest))) => Some(rest),
+        _ => None,
     }
 }
 
-/// The end of units that `||` joins.
-fn disjoined<'a>(units: Vec<Expr>, tokens: &'a [TokenAt<'a>]) -> Read<'a, Expr>
-    ensures reads { Reads result (grammar.disjuncts 0 (grammar.levels 0 0) 0 units.items (seen tokens.now)) }
+/// The end of units that the operator joins.
+fn joined<'a>(operator: Operator, units: Vec<Expr>, tokens: &'a [TokenAt<'a>]) -> Read<'a, Expr>
+    ensures reads { Reads result (grammar.chain_end operator units.items (seen tokens.now)) }
     ensures left { IfOk result (λ x. length x.1.now ≤ length tokens.now) }
 {
-    match front(tokens) {
-        Some((Token::And, offset, _)) => Err(MatchFault::Mixed(offset)),
-        _ => Ok((
-            Expr {
-                node: ExprNode::Or(units),
+    match (operator, front(tokens)) {
+        (Operator::And, Some((Token::Or, offset, _))) => Err(MatchFault::Mixed(offset)),
+        (Operator::Or, Some((Token::And, offset, _))) => Err(MatchFault::Mixed(offset)),
+        (Operator::And, _) => Ok((
+            Tree {
+                node: Node::And(units),
+            },
+            tokens,
+        )),
+        (Operator::Or, _) => Ok((
+            Tree {
+                node: Node::Or(units),
             },
             tokens,
         )),
@@ -71,13 +75,7 @@ fn negated<'a>(
         return Err(MatchFault::TooDeep(offset));
     }
     let (inner, rest) = operand(alloc, end, levels - 1, tokens)?;
-    let inner = Box::new(alloc, inner)?;
-    Ok((
-        Expr {
-            node: ExprNode::Not(inner),
-        },
-        rest,
-    ))
+    Ok((Expr::negation(alloc, inner)?, rest))
 }
 
 /// What the parenthesis at this offset encloses, and its end.
@@ -111,7 +109,7 @@ fn operand<'a>(alloc: Global, end: u32, levels: u8, tokens: &'a [TokenAt<'a>]) -
         Some((Token::Number(number), offset, rest)) => truth(offset, number, rest),
         Some((Token::Name(name), offset, rest)) => {
             let (part, rest) = part(alloc, end, offset, name, rest)?;
-            Ok((leaf(Atom::Bare(part)), rest))
+            Ok((Expr::atom(Atom::Bare(part)), rest))
         }
         _ => Err(stuck(end, tokens)),
     }
@@ -132,54 +130,30 @@ fn unit<'a>(alloc: Global, end: u32, levels: u8, tokens: &'a [TokenAt<'a>]) -> R
     }
 }
 
-/// The units that `&&` joins to the first, after the first `&&`.
+/// The units that the operator joins to the first, after the first operator.
 #[cycle(formula)]
-fn conjunction<'a>(
+fn chain<'a>(
     alloc: Global,
     end: u32,
     levels: u8,
+    operator: Operator,
     first: Expr,
     tokens: &'a [TokenAt<'a>],
 ) -> Read<'a, Expr>
     ensures reads { Reads result (grammar.and_then (grammar.unit end (grammar.levels end levels) (seen tokens.now))
-        (λ f after. grammar.conjuncts end (grammar.levels end levels) (length (seen tokens.now)) (first ∷ f ∷ []) after)) }
+        (λ f after. grammar.chain (grammar.unit end (grammar.levels end levels)) operator (length (seen tokens.now)) (first ∷ f ∷ []) after)) }
     ensures left { IfOk result (λ x. length x.1.now ≤ length tokens.now) }
 {
     let mut units = Vec::new(alloc);
     units.push(first)?;
     let (second, mut left) = unit(alloc, end, levels, tokens)?;
     units.push(second)?;
-    while let Some((Token::And, _, rest)) = front(left) {
+    while let Some(rest) = after_operator(operator, left) {
         let (next, rest) = unit(alloc, end, levels, rest)?;
         units.push(next)?;
         left = rest;
     }
-    conjoined(units, left)
-}
-
-/// The units that `||` joins to the first, after the first `||`.
-#[cycle(formula)]
-fn disjunction<'a>(
-    alloc: Global,
-    end: u32,
-    levels: u8,
-    first: Expr,
-    tokens: &'a [TokenAt<'a>],
-) -> Read<'a, Expr>
-    ensures reads { Reads result (grammar.and_then (grammar.unit end (grammar.levels end levels) (seen tokens.now))
-        (λ f after. grammar.disjuncts end (grammar.levels end levels) (length (seen tokens.now)) (first ∷ f ∷ []) after)) }
-    ensures left { IfOk result (λ x. length x.1.now ≤ length tokens.now) }
-{
-    let mut units = Vec::new(alloc);
-    units.push(first)?;
-    let (second, mut left) = unit(alloc, end, levels, tokens)?;
-    units.push(second)?;
-    while let Some((Token::Or, _, rest)) = front(left) {
-        let (next, rest) = unit(alloc, end, levels, rest)?;
-        units.push(next)?;
-        left = rest;
-    }
-    disjoined(units, left)
+    joined(operator, units, left)
 }
 
 /// A match.
@@ -195,8 +169,8 @@ pub(crate) fn whole<'a>(
 {
     let (first, left) = unit(alloc, end, levels, tokens)?;
     match front(left) {
-        Some((Token::And, _, rest)) => conjunction(alloc, end, levels, first, rest),
-        Some((Token::Or, _, rest)) => disjunction(alloc, end, levels, first, rest),
+        Some((Token::And, _, rest)) => chain(alloc, end, levels, Operator::And, first, rest),
+        Some((Token::Or, _, rest)) => chain(alloc, end, levels, Operator::Or, first, rest),
         _ => Ok((first, left)),
     }
 }

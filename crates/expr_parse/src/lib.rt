@@ -9,6 +9,7 @@ mod formula;
 mod laws;
 mod lexer;
 mod names;
+mod operator;
 mod part;
 mod quoted;
 mod reader;

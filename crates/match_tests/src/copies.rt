@@ -1,6 +1,6 @@
 // That matches can be copied, and that two are equal whatever the offsets of their parts.
 use expr_check::{Role, check};
-use expr_core::{Atom, Expr, ExprNode};
+use expr_core::{Atom, Expr, Node};
 use expr_parse::parse_match;
 use nv_base::Kept;
 use std::alloc::Global;
@@ -33,7 +33,7 @@ fn copies_are_equal(rt: HostRuntime) -> Result<(), Fail> {
 #[test]
 fn an_atom_is_copied_at_its_offset(rt: HostRuntime) -> Result<(), Fail> {
     let expr = parsed(rt.alloc(), "   tcp")?;
-    if let ExprNode::Atom(Atom::Bare(part)) = &expr.node {
+    if let Node::Atom(Atom::Bare(part)) = &expr.node {
         assert!(rt; part.copy(rt.alloc())?.offset == 3);
     } else {
         return Err(Fail::new("not a part"));

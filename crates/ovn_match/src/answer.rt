@@ -1,6 +1,6 @@
 use crate::nothing::Nothing;
 use expr_check::{Role, TypeFault, check};
-use expr_core::{Typed, put_expr, put_typed};
+use expr_core::{Typed, put_tree};
 use expr_eval::holds;
 use expr_parse::{MatchFault, parse_match};
 use nv_base::{Field, OutOfMemory, put_dec};
@@ -87,7 +87,7 @@ fn count(typed: &Typed, times: u32) -> u32 {
 }
 
 fn put_match(out: &mut Vec<u8>, typed: &Typed, times: u32) -> Result<(), OutOfMemory> {
-    put_typed(out, typed)?;
+    put_tree(out, typed)?;
     if times > 0 {
         out.extend_from_slice(b"\nholds ")?;
         put_dec(out, u128::from(count(typed, times)))?;
@@ -103,7 +103,7 @@ fn put_text(alloc: Global, out: &mut Vec<u8>, line: &[u8], times: u32) -> Result
     }
     let expr = parse_match(alloc, text)?;
     match question {
-        Question::Read => put_expr(out, &expr)?,
+        Question::Read => put_tree(out, &expr)?,
         Question::Check(role) => put_match(out, &check(alloc, &expr, role)?, times)?,
     }
     Ok(())

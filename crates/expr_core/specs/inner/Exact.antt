@@ -12,7 +12,7 @@ use Rattle.expr_core.specs.contracts.part.BitsPartialEq.TheImpl as bits_eq
 use Rattle.expr_core.specs.contracts.comparison.ItemPartialEq.TheImpl as item_eq
 use Rattle.expr_core.specs.contracts.comparison.RightPartialEq.TheImpl as right_eq
 use Rattle.expr_core.specs.Equal.{formula_eq, formulas_eq}
-use Rattle.expr_core.specs.EqualMatches.{typed_atom_eq, typed_eq}
+use Rattle.expr_core.specs.contracts.typed.TypedAtomPartialEq.TheImpl as typed_atom_eq
 use Rattle.expr_core.specs.Formula.Formula.{Leaf, Not, And, Or}
 use Rattle.expr_core.specs.Formula.Formulas.{Nil, Cons}
 use Rattle.expr_core.specs.declared.constant.Form.{Form}
@@ -91,7 +91,7 @@ right (right_of.Item a) (right_of.Set bs) e = absurd (false≢true e)
 right (right_of.Set is) (right_of.Item b) e = absurd (false≢true e)
 right (right_of.Set is) (right_of.Set bs) e = ap right_of.Set (tells.list _ item is bs e)
 
-pub typed_atom : Tells typed_atom_eq
+pub typed_atom : Tells ((typed_atom_eq.ghosts).eq)
 typed_atom (typed_of.Truth a) (typed_of.Truth b) e = ap typed_of.Truth (tells.boolean a b e)
 typed_atom (typed_of.Truth a) (typed_of.Bare g c) e = absurd (false≢true e)
 typed_atom (typed_of.Truth a) (typed_of.Holds q) e = absurd (false≢true e)
@@ -117,7 +117,7 @@ typed_atom (typed_of.Compare f b r u) (typed_of.Compare g c s v) e =
     ∙ ap (λ x. typed_of.Compare g c x u) (rel r s of_three.0) ∙ ap (λ x. typed_of.Compare g c s x) (right u v of_three.1)
 
 mutual
-  formula : {A : Type 0} (eq : A → A → Bool) → Tells eq → Tells (formula_eq eq)
+  pub formula : {A : Type 0} (eq : A → A → Bool) → Tells eq → Tells (formula_eq eq)
   formula eq exact (Leaf a) (Leaf b) e = ap Leaf (exact a b e)
   formula eq exact (Leaf a) (Not g) e = absurd (false≢true e)
   formula eq exact (Leaf a) (And gs) e = absurd (false≢true e)
@@ -142,6 +142,3 @@ mutual
   all_formulas eq exact (Cons f fs) (Cons g gs) e =
       let parts = both_true _ _ e in
       ap (λ x. Cons x fs) (formula eq exact f g parts.0) ∙ ap (λ xs. Cons g xs) (all_formulas eq exact fs gs parts.1)
-
-pub typed : Tells typed_eq
-typed = formula typed_atom_eq typed_atom

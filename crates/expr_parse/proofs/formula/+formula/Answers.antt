@@ -1,13 +1,29 @@
-use Rattle.expr_parse.specs.Grammar.{levels, conjuncts, disjuncts}
-use Rattle.expr_parse.proofs.Chains.{begins}
+use Rattle.std.proofs.Common.{arith, subst}
+use Rattle.std.proofs.lemmas.Result.{err_from_is_err_and}
+use Rattle.expr_core.specs.Formula.{Formula}
+use Rattle.expr_core.specs.declared.expr.Atom.{Atom}
+use Rattle.expr_parse.specs.inner.Gives.{Reads}
+use Rattle.expr_parse.specs.Grammar.{Reading, levels, unit}
+use Rattle.expr_parse.proofs.Chains.{begins, goes_on, fails, ended}
 use Rattle.expr_parse.proofs.formula.+formula.Goals as goal
 
-pub conjunction-loop-rest-init : goal.conjunction-loop-rest-init
-conjunction-loop-rest-init t c =
-    let inside = levels c.args.end c.args.levels in
-    begins c.args.end inside (conjuncts c.args.end inside) c.args.first c.in_ok-second.second c.args.tokens.now c.in_ok-second.left.now _ _ _ c.new-units.ensures.items c.in_ok-push.ensures.items c.in_ok-push-2.ensures.items c.in_ok-second.ensures.left c.in_ok-second.ensures.reads
+pub chain-loop-rest-init : goal.chain-loop-rest-init
+chain-loop-rest-init t c =
+    begins (unit c.args.end (levels c.args.end c.args.levels)) c.args.operator c.args.first c.in_ok-second.second c.args.tokens.now c.in_ok-second.left.now _ _ _ c.new-units.ensures.items c.in_ok-push.ensures.items c.in_ok-push-2.ensures.items c.in_ok-second.ensures.left c.in_ok-second.ensures.reads
 
-pub disjunction-loop-rest-init : goal.disjunction-loop-rest-init
-disjunction-loop-rest-init t c =
-    let inside = levels c.args.end c.args.levels in
-    begins c.args.end inside (disjuncts c.args.end inside) c.args.first c.in_ok-second.second c.args.tokens.now c.in_ok-second.left.now _ _ _ c.new-units.ensures.items c.in_ok-push.ensures.items c.in_ok-push-2.ensures.items c.in_ok-second.ensures.left c.in_ok-second.ensures.reads
+pub chain-loop-rest-preserved : goal.chain-loop-rest-preserved
+chain-loop-rest-preserved t c =
+    goes_on (unit c.args.end (levels c.args.end c.args.levels)) c.args.operator c.args.first _ _ c.in_ok-next.next c.args.tokens.now _ _ c.in_ok-next.rest.now c.loop-rest.invariant c.in-Some.ensures.rest c.in-Some.ensures.left c.in_ok-next.ensures.reads c.in_ok-next.ensures.left c.in_ok-push-3.ensures.items
+
+pub chain-loop-rest-smaller : goal.chain-loop-rest-smaller
+chain-loop-rest-smaller t c = omega (arith, c.in-Some.ensures.left, c.in_ok-next.ensures.left)
+
+pub chain-returns-in_err-next-clause-reads : goal.chain-returns-in_err-next-clause-reads
+chain-returns-in_err-next-clause-reads t c =
+    let p = err_from_is_err_and c.from_residual-in_err-next.result c.from_residual-in_err-next.ensures.1 in
+    rw (p.1, p.2) (λ other. fails (unit c.args.end (levels c.args.end c.args.levels)) c.args.operator c.args.first _ c.in_err-next.field-0.0 c.args.tokens.now _ _ c.loop-rest.invariant c.in-Some.ensures.rest c.in-Some.ensures.left (c.in_err-next.ensures.reads other))
+
+pub chain-returns-clause-reads : goal.chain-returns-clause-reads
+chain-returns-clause-reads t c =
+    let e = ended (unit c.args.end (levels c.args.end c.args.levels)) c.args.operator c.args.first c.loop-rest.units.items c.args.tokens.now c.loop-rest.left.now c.loop-rest.invariant c.in_default.ensures.rest in
+    subst (λ (r : Reading (Formula Atom)). Reads c.joined.result r) e c.joined.ensures.reads

@@ -1,0 +1,8 @@
+/// What joins units.
+#[derive(Clone, Copy, Debug)]
+pub(crate) enum Operator {
+    /// `&&`
+    And,
+    /// `||`
+    Or,
+}

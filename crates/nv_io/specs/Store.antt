@@ -1,5 +1,5 @@
 -- What clauses see of a sink in memory.
-use Rattle.std.specs.Prelude.{◌≡◌, ℕ, ◌+◌, ◌-◌, ◌⊎◌, List, ◌++◌, length, take, Contains, min, Result, Ok, Err}
+use Rattle.std.specs.Prelude.{◌≡◌, ℕ, ◌-◌, ◌⊎◌, List, ◌++◌, length, take, Contains, min, Result, Ok, Err}
 use Rattle.nv_io.specs.Counts.{next_count, count_after}
 use Rattle.nv_io.specs.declared.sink.SinkFailed.{SinkFailed}
 

@@ -9,7 +9,7 @@ use std::alloc::Global;
 use std::marker::Model;
 
 /// Memory that takes bytes in pieces of at most `piece` bytes, and no more than `room` in all.
-/// A put fails where its number, from 1, stands in `fail`, or `room` bytes are kept already, and
+/// A put fails where its number, from 1, is in `fail`, or `room` bytes are kept already, and
 /// nowhere else.
 #[derive(Debug, Drop)]
 pub struct MemSink {

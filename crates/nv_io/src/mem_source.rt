@@ -7,7 +7,7 @@ use crate::source::{Source, SourceFailed};
 use std::marker::Model;
 
 /// Bytes in memory, given in pieces of at most `piece` bytes. The takes whose numbers, from 1,
-/// stand in `fail` fail, and no others.
+/// are in `fail` fail, and no others.
 #[derive(Debug, Drop)]
 pub struct MemSource {
     bytes: Vec<u8>,

@@ -14,7 +14,8 @@ use Rattle.sb_rows.specs.Stage.{pipeline_of}
 use Rattle.sb_rows.specs.Match.{is_multicast, select}
 use Rattle.tr_stage.specs.declared.outcome.Cause.TheVariants.{Unknown}
 use Rattle.tr_stage.specs.declared.outcome.Outcome.TheVariants as outcomes
-use Rattle.tr_stage.specs.Machine.{next_stage, bound_for, PipelineRun, run_from, run_pipeline}
+use Rattle.sb_rows.specs.Stage.{all_stages, stage_at, next_stage}
+use Rattle.tr_stage.specs.Machine.{bound_for, PipelineRun, run_from, run_pipeline}
 use Rattle.tr_stage.specs.Machine.PipelineEnd.{Ended}
 use Rattle.tr_stage.proofs.Steps.{pipeline_begins, run-next, run-drop, run-output, run-to}
 use Rattle.nv_serve.specs.declared.port.Port.{Port}
@@ -37,6 +38,7 @@ module _ (tables : Tables) (switch : Switch) (among : Contains tables.switches s
 
   -- a packet from a unicast MAC reaches the lookup
   to_lookup : is_multicast (value packet EthSrc) ≡ false → (run_pipeline rows switch.0 Ingress packet).ending ≡ (run_from rows switch.0 121 LsInL2Lkup packet).ending
+  unfolding next_stage stage_at all_stages
   to_lookup from_one =
       ap (λ (w : PipelineRun). w.ending) (pipeline_begins rows switch.0 Ingress packet)
       ∙ led_on rows switch.0 127 LsInCheckPortSec LsInPreAcl packet (at-LsInCheckPortSec tables switch among packet from_one) refl
@@ -58,6 +60,7 @@ module _ (tables : Tables) (switch : Switch) (among : Contains tables.switches s
 
     -- a packet for an address that no port has is dropped
     pub ingress-none : port_to tables.ports switch.0 mac ≡ None → (run_pipeline rows switch.0 Ingress packet).ending ≡ Ended (outcomes.Drop Unknown)
+    unfolding next_stage stage_at all_stages
     ingress-none none =
         to_lookup from_one
         ∙ led_on rows switch.0 120 LsInL2Lkup LsInL2Unknown packet (at-LsInL2Lkup-none tables switch among packet mac for to_one none) refl
@@ -67,7 +70,7 @@ module _ (tables : Tables) (switch : Switch) (among : Contains tables.switches s
 
   -- a packet for a unicast MAC is delivered
   pub egress-one : is_multicast (value packet EthDst) ≡ false → (run_pipeline rows switch.0 Egress packet).ending ≡ Ended (outcomes.Deliver packet)
-  unfolding pipeline_of
+  unfolding pipeline_of next_stage stage_at all_stages
   egress-one to_one =
       ap (λ (w : PipelineRun). w.ending) (pipeline_begins rows switch.0 Egress packet)
       ∙ led_on rows switch.0 127 LsOutPreAcl LsOutPreStateful packet (at-LsOutPreAcl tables switch among packet) refl

@@ -13,7 +13,8 @@ use Rattle.sb_rows.specs.declared.stage.Stage.{Stage}
 use Rattle.sb_rows.specs.declared.stage.Stage.TheVariants.{LsInCheckPortSec, LsInPreAcl, LsInPreStateful, LsInAclEval, LsInLb, LsInStateful, LsInArpRsp, LsInL2Lkup, LsInL2Unknown, LsOutPreAcl, LsOutPreStateful, LsOutAclEval, LsOutStateful, LsOutCheckPortSec}
 use Rattle.sb_rows.specs.Row.{put_rows}
 use Rattle.sb_rows.proofs.Select.{Contains-put_rows_new}
-use Rattle.tr_stage.specs.Machine.{IsRunnable, TakesEach, is_of_switch, is_last, cause_at}
+use Rattle.sb_rows.specs.Stage.{is_of_switch, is_last, all_stages, stage_at, next_stage}
+use Rattle.tr_stage.specs.Machine.{IsRunnable, TakesEach, cause_at}
 use Rattle.nv_serve.specs.declared.full_build.FixedRow.{FixedRow}
 use Rattle.nv_serve.specs.declared.port.Port.{Port}
 use Rattle.nv_serve.specs.Network.{Switch, Tables}
@@ -89,6 +90,7 @@ before_last at last = absurd (false≢true last)
 
 -- a fixed row of the last stage of a pipeline sends no packet on
 fixed_end : (dp own : ObjId) → AllByRecursion (λ (row : Row). row.dp ≡ dp → IsTrue (is_last row.stage) → row.actions ≢ Next) (map (row_on own) fixed_rows)
+unfolding next_stage stage_at all_stages
 fixed_end dp own =
     (before_last, (before_last, (before_last, (before_last, (before_last, (before_last, (before_last, (before_last, (before_last, (before_last, (λ at last same. cc, (before_last, (before_last, (before_last, (before_last, (λ at last same. cc, (λ at last same. cc, tt)))))))))))))))))
 
@@ -99,6 +101,7 @@ fixed_drop dp own =
 
 -- on the rows of the network each packet comes to an end, on each of its switches
 pub runnable : (tables : Tables) (dp : ObjId) → IsNumbered tables.switches tables.ports tables.next → Contains (switch_numbers tables.switches) dp.0 → IsRunnable (full_build tables) dp
+unfolding next_stage stage_at all_stages
 runnable tables dp numbered there = record {
   takes_each = takes_each tables dp there;
   ends = every_row (λ row. row.dp ≡ dp → IsTrue (is_last row.stage) → row.actions ≢ Next) (fixed_end dp) (λ port mac. before_last) tables;

@@ -46,9 +46,9 @@ start_at source sink = record { source = source; sink = sink; given = []; writte
 abbrev pub piece_limit : ℕ
 piece_limit = 4096
 
--- A take may be made now, into a place of this length: each complete line of what was given is answered.
-pub record IsReady {S K : Type 0} (point : Point S K) (place : ℕ) : Type 0 where
-  pub small : place ≤ piece_limit
+-- A take may be made now, into a buffer of this size: each complete line of what was given is answered.
+pub record IsReady {S K : Type 0} (point : Point S K) (size : ℕ) : Type 0 where
+  pub small : size ≤ piece_limit
   pub answered : point.written ≡ complete_output point.given
 
 -- puts that all succeeded lead from one sink to another, and passed these bytes

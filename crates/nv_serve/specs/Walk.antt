@@ -26,9 +26,9 @@ arriving port mac = with_value (frame_for mac) Inport port.0
 abbrev pub is_sent_back : Values → Bool
 is_sent_back packet = (value packet Outport == value packet Inport) && (value packet FlagsLoopback == 0)
 
--- the hits of a way, and then more events
+-- the hits of a pipeline's run, and then more events
 abbrev pub with_hits : PipelineRun → List Event → List Event
-with_hits way more = map events.Hit way.hits ++ more
+with_hits run more = map events.Hit run.hits ++ more
 
 -- what happens at the end of egress: a packet is delivered at its port, or dropped
 abbrev pub delivered : ObjId → PipelineEnd → List Event
@@ -37,7 +37,7 @@ delivered dp (Ended (Leave packet table)) = []
 delivered dp (Ended (Deliver packet)) = events.Output (record { 0 = value packet Outport }) (headers packet) ∷ []
 delivered dp (Ended (Drop cause)) = events.Drop dp cause ∷ []
 
--- the way out by the packet's port
+-- what happens to a packet in egress
 abbrev pub leaving : List Row → ObjId → Values → List Event
 leaving rows dp packet = with_hits (run_pipeline rows dp Egress packet) (delivered dp (run_pipeline rows dp Egress packet).ending)
 

@@ -3,7 +3,7 @@ use pkt_core::Packet;
 use tr_stage::{Cause, Hit};
 
 /// What happens to a traced frame.
-#[derive(Clone, Copy, Debug)]
+#[derive(Clone, Copy, Debug, PartialEq, Eq)]
 pub enum Event {
     /// A row acted on it.
     Hit(Hit),

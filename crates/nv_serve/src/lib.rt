@@ -6,6 +6,7 @@ mod cut;
 mod event;
 mod events;
 mod full_build;
+mod kept;
 mod laws;
 mod line;
 mod network;

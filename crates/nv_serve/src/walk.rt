@@ -55,7 +55,7 @@ fn go_on(
     leave(alloc, rows, dp, packet, events)
 }
 
-// The way out by the packet's port.
+// Runs a packet through egress.
 fn leave(
     alloc: Global,
     rows: &Rows,

@@ -5,6 +5,7 @@ pub mod Place
 pub mod Same
 pub mod Section
 pub mod Select
+pub mod Stages
 pub mod Tables
 pub mod Tail
 pub mod Texts

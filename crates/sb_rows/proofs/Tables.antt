@@ -1,5 +1,5 @@
 -- Rows in row order rise by their tables, and a table's rows are those of one key.
-use Rattle.std.proofs.Common.{◌≡◌, ℕ, ◌+◌, ◌*◌, ◌<◌, ◌≤◌, Bool, true, false, cond, List, [], ◌∷◌, get_or, eqb, sym, ap, refl, ◌∙◌, arith}
+use Rattle.std.proofs.Common.{◌≡◌, ℕ, ◌+◌, ◌*◌, ◌<◌, ◌≤◌, Bool, true, false, cond, List, [], ◌∷◌, eqb, ap, refl, arith}
 use Rattle.std.specs.Prelude.{◌&&◌, Some}
 use Rattle.std.specs.Ordering.{is_lt}
 use Rattle.std.specs.List.{filter, find}
@@ -8,43 +8,13 @@ use Rattle.std.proofs.lemmas.Bool.{eqb-true, eq-eqb, and_parts}
 use Rattle.std.proofs.lemmas.Bool.Decides.{nat_tests}
 use Rattle.std.proofs.lemmas.List.Sorted.{IsNonDecreasingBy-from_all_adjacent}
 use Rattle.sb_rows.specs.declared.stage.Stage.{Stage}
-use Rattle.sb_rows.specs.declared.stage.Stage.TheVariants.{LsInCheckPortSec, LsInPreAcl, LsInPreStateful, LsInAclEval, LsInLb, LsInStateful, LsInArpRsp, LsInL2Lkup, LsInL2Unknown, LsOutPreAcl, LsOutPreStateful, LsOutAclEval, LsOutStateful, LsOutCheckPortSec, LrInAdmission, LrInLearnNeighbor, LrInIpInput, LrInUnsnat, LrInDefrag, LrInDnat, LrInIpRouting, LrInArpResolve, LrInArpRequest, LrOutUndnat, LrOutSnat, LrOutDelivery}
 use Rattle.sb_rows.specs.declared.row.Row.{Row}
 use Rattle.sb_rows.specs.Row.{row_cmp, IsInRowOrder}
 use Rattle.sb_rows.specs.Match.{is_in_table}
 use Rattle.sb_rows.specs.inner.Tables.{table_key}
 use Rattle.sb_rows.specs.Stage.{stage_place}
+use Rattle.sb_rows.proofs.Stages.{place_below, stage_from_place}
 use Rattle.nv_base.specs.declared.object.ObjId.{ObjId}
-
--- there are fewer than 32 stages
-pub place_below : (s : Stage) → stage_place s < 32
-unfolding stage_place
-place_below LsInCheckPortSec = omega arith
-place_below LsInPreAcl = omega arith
-place_below LsInPreStateful = omega arith
-place_below LsInAclEval = omega arith
-place_below LsInLb = omega arith
-place_below LsInStateful = omega arith
-place_below LsInArpRsp = omega arith
-place_below LsInL2Lkup = omega arith
-place_below LsInL2Unknown = omega arith
-place_below LsOutPreAcl = omega arith
-place_below LsOutPreStateful = omega arith
-place_below LsOutAclEval = omega arith
-place_below LsOutStateful = omega arith
-place_below LsOutCheckPortSec = omega arith
-place_below LrInAdmission = omega arith
-place_below LrInLearnNeighbor = omega arith
-place_below LrInIpInput = omega arith
-place_below LrInUnsnat = omega arith
-place_below LrInDefrag = omega arith
-place_below LrInDnat = omega arith
-place_below LrInIpRouting = omega arith
-place_below LrInArpResolve = omega arith
-place_below LrInArpRequest = omega arith
-place_below LrOutUndnat = omega arith
-place_below LrOutSnat = omega arith
-place_below LrOutDelivery = omega arith
 
 -- the place of a row's table
 abbrev pub key_of : Row → ℕ
@@ -82,43 +52,6 @@ find_in_filter {X} p q (x ∷ xs) = by (p x) (find_in_filter p q xs)
     by : (b : Bool) → find q (filter p xs) ≡ find (λ x. p x && q x) xs → find q (cond b (x ∷ filter p xs) (filter p xs)) ≡ cond (b && q x) (Some x) (find (λ x. p x && q x) xs)
     by true rest = ap (cond (q x) (Some x)) rest
     by false rest = rest
-
--- the stages, each at its place
-stages : List Stage
-stages = LsInCheckPortSec ∷ LsInPreAcl ∷ LsInPreStateful ∷ LsInAclEval ∷ LsInLb ∷ LsInStateful ∷ LsInArpRsp ∷ LsInL2Lkup ∷ LsInL2Unknown ∷ LsOutPreAcl ∷ LsOutPreStateful ∷ LsOutAclEval ∷ LsOutStateful ∷ LsOutCheckPortSec ∷ LrInAdmission ∷ LrInLearnNeighbor ∷ LrInIpInput ∷ LrInUnsnat ∷ LrInDefrag ∷ LrInDnat ∷ LrInIpRouting ∷ LrInArpResolve ∷ LrInArpRequest ∷ LrOutUndnat ∷ LrOutSnat ∷ LrOutDelivery ∷ []
-
-at_its_place : (s : Stage) → get_or stages (stage_place s) LsInCheckPortSec ≡ s
-unfolding stage_place stages
-at_its_place LsInCheckPortSec = refl
-at_its_place LsInPreAcl = refl
-at_its_place LsInPreStateful = refl
-at_its_place LsInAclEval = refl
-at_its_place LsInLb = refl
-at_its_place LsInStateful = refl
-at_its_place LsInArpRsp = refl
-at_its_place LsInL2Lkup = refl
-at_its_place LsInL2Unknown = refl
-at_its_place LsOutPreAcl = refl
-at_its_place LsOutPreStateful = refl
-at_its_place LsOutAclEval = refl
-at_its_place LsOutStateful = refl
-at_its_place LsOutCheckPortSec = refl
-at_its_place LrInAdmission = refl
-at_its_place LrInLearnNeighbor = refl
-at_its_place LrInIpInput = refl
-at_its_place LrInUnsnat = refl
-at_its_place LrInDefrag = refl
-at_its_place LrInDnat = refl
-at_its_place LrInIpRouting = refl
-at_its_place LrInArpResolve = refl
-at_its_place LrInArpRequest = refl
-at_its_place LrOutUndnat = refl
-at_its_place LrOutSnat = refl
-at_its_place LrOutDelivery = refl
-
--- stages of one place are one stage
-pub stage_from_place : (s t : Stage) → stage_place s ≡ stage_place t → s ≡ t
-stage_from_place s t e = sym (at_its_place s) ∙ ap (λ n. get_or stages n LsInCheckPortSec) e ∙ at_its_place t
 
 -- a row is in the table of its own datapath and stage
 pub in_table-from : (dp : ObjId) (stage : Stage) (r : Row) → r.dp ≡ dp → r.stage ≡ stage → is_in_table dp stage r ≡ true

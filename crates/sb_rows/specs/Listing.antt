@@ -1,25 +1,18 @@
 -- The listing of flows, in the words of ovn-sbctl(8)'s `lflow-list`.
-use Rattle.std.specs.Prelude.{ℕ, List, ◌++◌, Bool, true, false, codes, decimal, ◌==◌, filter, Option, Some, None}
+use Rattle.std.specs.Prelude.{ℕ, List, ◌++◌, Bool, true, codes, decimal, ◌==◌, filter, Option, Some, None}
 use Rattle.std.specs.List.{flat_map}
 use Rattle.nv_base.specs.declared.object.ObjId.{ObjId}
 use Rattle.sb_rows.specs.declared.stage.Stage.{Stage}
 use Rattle.sb_rows.specs.declared.stage.Pipeline.{Pipeline}
 use Rattle.sb_rows.specs.declared.stage.Pipeline.TheVariants.{Ingress, Egress}
 use Rattle.sb_rows.specs.declared.row.Row.{Row}
-use Rattle.sb_rows.specs.Stage.{stage_name, table_number, pipeline_of}
+use Rattle.sb_rows.specs.Stage.{stage_name, table_number, pipeline_of, is_same_pipeline}
 use Rattle.sb_rows.specs.Row.{match_text, action_text, rows_of}
 
 -- the pipeline's name
 abbrev pub pipeline_name : Pipeline → List ℕ
 pipeline_name Ingress = codes "ingress"
 pipeline_name Egress = codes "egress"
-
--- whether two pipelines are one
-abbrev pub is_same_pipeline : Pipeline → Pipeline → Bool
-is_same_pipeline Ingress Ingress = true
-is_same_pipeline Ingress Egress = false
-is_same_pipeline Egress Ingress = false
-is_same_pipeline Egress Egress = true
 
 -- the line over the rows of a pipeline
 abbrev pub heading : List ℕ → Pipeline → List ℕ

@@ -11,4 +11,4 @@ mod stage;
 pub use listing::put_listing;
 pub use row::{PlainAction, PlainMatch, Row};
 pub use rows::Rows;
-pub use stage::{Pipeline, Stage};
+pub use stage::{DatapathKind, Pipeline, Stage};

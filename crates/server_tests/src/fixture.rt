@@ -2,28 +2,11 @@
 ghost use Rattle.std.specs.Prelude.{◌≡◌, ◌≢◌, None, IsTrue, All};
 ghost use Rattle.sb_rows.specs.declared.row.PlainMatch.TheVariants.{Any};
 ghost use Rattle.sb_rows.specs.declared.row.PlainAction.TheVariants.{Next, Drop};
-ghost use Rattle.tr_stage.specs.Machine.{cause_at, is_last, TakesEach, IsRunnable};
+ghost use Rattle.sb_rows.specs.Stage.{is_last, is_of_switch};
+ghost use Rattle.tr_stage.specs.Machine.{cause_at, TakesEach, IsRunnable};
 
 use nv_base::ObjId;
-use sb_rows::{PlainAction, PlainMatch, Row, Rows, Stage};
-
-// The stages of a switch's pipelines.
-const SWITCH_STAGES: [Stage; 14] = [
-    Stage::LsInCheckPortSec,
-    Stage::LsInPreAcl,
-    Stage::LsInPreStateful,
-    Stage::LsInAclEval,
-    Stage::LsInLb,
-    Stage::LsInStateful,
-    Stage::LsInArpRsp,
-    Stage::LsInL2Lkup,
-    Stage::LsInL2Unknown,
-    Stage::LsOutPreAcl,
-    Stage::LsOutPreStateful,
-    Stage::LsOutAclEval,
-    Stage::LsOutStateful,
-    Stage::LsOutCheckPortSec,
-];
+use sb_rows::{DatapathKind, PlainAction, PlainMatch, Row, Rows, Stage};
 
 // Whether a datapath's rows are seen to be those of a switch.
 #[tactic(auto, using(crate::proofs::Sound::IsRunnable_from_tests))]
@@ -31,7 +14,7 @@ pub(crate) fn is_runnable(rows: &Rows, dp: ObjId) -> bool
     ensures { IsTrue result → IsRunnable rows.now dp }
 {
     let all = rows.as_slice();
-    are_fine(all) && take_each(all, dp, &SWITCH_STAGES)
+    are_fine(all) && take_each(all, dp, Stage::all())
 }
 
 // Whether no row of a last stage sends a packet on, and none drops it without a cause.
@@ -61,10 +44,7 @@ fn is_fine(row: &Row) -> bool
 fn is_last(stage: Stage) -> bool
     ensures { result ≡ is_last stage }
 {
-    match stage {
-        Stage::LsInL2Unknown | Stage::LsOutCheckPortSec => true,
-        _ => false,
-    }
+    stage.next().is_none()
 }
 
 fn has_cause(stage: Stage) -> bool
@@ -76,16 +56,32 @@ fn has_cause(stage: Stage) -> bool
     }
 }
 
-// Whether each of the stages takes each packet.
+// Whether each of the stages that is a switch's takes each packet.
 fn take_each(rows: &[Row], dp: ObjId, stages: &[Stage]) -> bool
-    ensures { IsTrue result → All (λ stage. TakesEach rows.now dp stage) stages.now }
+    ensures { IsTrue result → All (λ stage. IsTrue (is_of_switch stage) → TakesEach rows.now dp stage) stages.now }
 {
     for stage in stages {
-        if !takes_each(rows, dp, *stage) {
+        if !takes_each_of_switch(rows, dp, *stage) {
             return false;
         }
     }
     true
+}
+
+fn takes_each_of_switch(rows: &[Row], dp: ObjId, stage: Stage) -> bool
+    ensures { IsTrue result → IsTrue (is_of_switch stage) → TakesEach rows.now dp stage }
+{
+    if is_of_switch(stage) {
+        takes_each(rows, dp, stage)
+    } else {
+        true
+    }
+}
+
+fn is_of_switch(stage: Stage) -> bool
+    ensures { result ≡ is_of_switch stage }
+{
+    stage.kind() == DatapathKind::Switch
 }
 
 fn takes_each(rows: &[Row], dp: ObjId, stage: Stage) -> bool

@@ -6,10 +6,11 @@ use Rattle.pkt_core.specs.Packet.{Values}
 use Rattle.sb_rows.specs.declared.stage.Stage.{Stage}
 use Rattle.sb_rows.specs.declared.row.PlainAction.TheVariants.{Next, Drop}
 use Rattle.sb_rows.specs.declared.row.Row.{Row}
+use Rattle.sb_rows.specs.Stage.{next_stage}
 use Rattle.sb_rows.specs.Match.{select}
 use Rattle.tr_stage.specs.declared.outcome.Cause.{Cause}
 use Rattle.tr_stage.specs.declared.outcome.Hit.{Hit}
-use Rattle.tr_stage.specs.Machine.{next_stage, cause_at, PipelineEnd, PipelineRun, at_end, after_hit, run_from}
+use Rattle.tr_stage.specs.Machine.{cause_at, PipelineEnd, PipelineRun, at_end, after_hit, run_from}
 use Rattle.tr_stage.specs.Machine.PipelineEnd.{Stuck}
 use Rattle.tr_stage.proofs.Steps.{run-none, run-spent, run-next_none, run-drop_none}
 

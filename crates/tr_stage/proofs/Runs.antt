@@ -1,63 +1,28 @@
 -- On the rows of a switch nothing is stuck.
-use Rattle.std.proofs.Common.{lit<, ◌≡◌, ◌≢◌, ℕ, zero, suc, ◌<◌, List, Option, Some, None, ap, refl, ◌∙◌, arith}
-use mathlib.Core.Bool.{false≢true}
+use Rattle.std.proofs.Common.{◌≡◌, ◌≢◌, ℕ, zero, suc, ◌<◌, ◌-◌, List, Option, Some, None, ap, refl, ◌∙◌, arith}
 use Rattle.std.specs.Bool.{IsTrue}
 use Rattle.std.proofs.lemmas.List.Elements.{All-contains}
 use Rattle.nv_base.specs.declared.object.ObjId.{ObjId}
 use Rattle.pkt_core.specs.Packet.{Values}
 use Rattle.sb_rows.specs.declared.stage.Stage.{Stage}
-use Rattle.sb_rows.specs.declared.stage.Stage.TheVariants.{LsInCheckPortSec, LsInPreAcl, LsInPreStateful, LsInAclEval, LsInLb, LsInStateful, LsInArpRsp, LsInL2Lkup, LsInL2Unknown, LsOutPreAcl, LsOutPreStateful, LsOutAclEval, LsOutStateful, LsOutCheckPortSec}
 use Rattle.sb_rows.specs.declared.stage.Pipeline.{Pipeline}
 use Rattle.sb_rows.specs.declared.stage.Pipeline.TheVariants.{Ingress, Egress}
 use Rattle.sb_rows.specs.declared.row.PlainAction.{PlainAction}
 use Rattle.sb_rows.specs.declared.row.PlainAction.TheVariants.{Next, Drop, Output, Flood, To}
 use Rattle.sb_rows.specs.declared.row.Row.{Row}
+use Rattle.sb_rows.specs.Stage.{stage_place, next_stage, is_of_switch, is_last}
 use Rattle.sb_rows.specs.Match.{select}
+use Rattle.sb_rows.proofs.Stages.{place_below, next_of_switch}
 use Rattle.tr_stage.specs.declared.outcome.Cause.{Cause}
 use Rattle.tr_stage.specs.declared.outcome.Outcome.{Outcome}
-use Rattle.tr_stage.specs.Machine.{next_stage, cause_at, run_from, run_pipeline, is_of_switch, is_last, IsRunnable}
+use Rattle.tr_stage.specs.Machine.{cause_at, run_from, run_pipeline, IsRunnable}
 use Rattle.tr_stage.specs.Machine.PipelineEnd.{Ended, Stuck}
 use Rattle.tr_stage.proofs.Found.{IsFound, IsFound-from_select, select_some}
-use Rattle.tr_stage.proofs.Steps.{pipeline_begins, run-next, run-drop, run-output, run-to, run-flood}
+use Rattle.tr_stage.proofs.Steps.{begins_at, pipeline_begins, run-next, run-drop, run-output, run-to, run-flood}
 
--- how many stages of the pipeline come after the stage
-stages_after : Stage → ℕ
-stages_after LsInCheckPortSec = 8
-stages_after LsInPreAcl = 7
-stages_after LsInPreStateful = 6
-stages_after LsInAclEval = 5
-stages_after LsInLb = 4
-stages_after LsInStateful = 3
-stages_after LsInArpRsp = 2
-stages_after LsInL2Lkup = 1
-stages_after LsOutPreAcl = 4
-stages_after LsOutPreStateful = 3
-stages_after LsOutAclEval = 2
-stages_after LsOutStateful = 1
-stages_after _ = 0
-
--- the next stage of a stage of a switch is one of a switch too, unless there is none
-GoesOn : Stage → Option Stage → Type 0
-GoesOn stage (Some later) = IsTrue (is_of_switch later) × (suc (stages_after later) ≡ stages_after stage)
-GoesOn stage None = IsTrue (is_of_switch stage) → IsTrue (is_last stage)
-
-goes_on : (stage : Stage) → GoesOn stage (next_stage stage)
-unfolding GoesOn stages_after
-goes_on LsInCheckPortSec = (refl, refl)
-goes_on LsInPreAcl = (refl, refl)
-goes_on LsInPreStateful = (refl, refl)
-goes_on LsInAclEval = (refl, refl)
-goes_on LsInLb = (refl, refl)
-goes_on LsInStateful = (refl, refl)
-goes_on LsInArpRsp = (refl, refl)
-goes_on LsInL2Lkup = (refl, refl)
-goes_on LsInL2Unknown = λ _. refl
-goes_on LsOutPreAcl = (refl, refl)
-goes_on LsOutPreStateful = (refl, refl)
-goes_on LsOutAclEval = (refl, refl)
-goes_on LsOutStateful = (refl, refl)
-goes_on LsOutCheckPortSec = λ _. refl
-goes_on _ = λ of_switch. absurd (false≢true of_switch)
+-- how many places there are from the stage on
+abbrev places_left : Stage → ℕ
+places_left stage = 32 - stage_place stage
 
 -- an end is not stuck
 not_stuck : (outcome : Outcome) → Ended outcome ≢ Stuck
@@ -65,19 +30,23 @@ not_stuck outcome e = cc
 
 module _ (rows : List Row) (dp : ObjId) (packet : Values) (sound : IsRunnable rows dp) where
   module _ (budget : ℕ) (stage : Stage) (of_switch : IsTrue (is_of_switch stage))
-      (rest : (later : Stage) → IsTrue (is_of_switch later) → suc (stages_after later) ≡ stages_after stage → (run_from rows dp budget later packet).ending ≢ Stuck) where
+      (rest : (later : Stage) → IsTrue (is_of_switch later) → suc (places_left later) ≡ places_left stage → (run_from rows dp budget later packet).ending ≢ Stuck) where
     module _ (row : Row) (is : select dp stage packet rows ≡ Some row) (at : IsFound rows dp stage row) where
-      by_next : row.actions ≡ Next → (next : Option Stage) → next_stage stage ≡ next → GoesOn stage next → (run_from rows dp (suc budget) stage packet).ending ≢ Stuck
-      unfolding GoesOn
-      by_next acts (Some later) there goes = rw (run-next rows dp budget stage packet row is later acts there) (rest later goes.0 goes.1)
-      by_next acts None none goes = absurd (All-contains (λ (r : Row). r.dp ≡ dp → IsTrue (is_last r.stage) → r.actions ≢ Next) rows row sound.ends at.among at.of_dp (rw at.of_stage (goes of_switch)) acts)
+      by_next : row.actions ≡ Next → (next : Option Stage) → next_stage stage ≡ next → (run_from rows dp (suc budget) stage packet).ending ≢ Stuck
+      by_next acts (Some later) there =
+          let on = next_of_switch stage later there of_switch in
+          let below = place_below later in
+          rw (run-next rows dp budget stage packet row is later acts there) (rest later on.0 (omega (arith, on.1, below)))
+      by_next acts None none =
+          let last : IsTrue (is_last stage) = rw none refl in
+          absurd (All-contains (λ (r : Row). r.dp ≡ dp → IsTrue (is_last r.stage) → r.actions ≢ Next) rows row sound.ends at.among at.of_dp (rw at.of_stage last) acts)
 
       by_cause : row.actions ≡ Drop → (cause : Option Cause) → cause_at stage ≡ cause → (run_from rows dp (suc budget) stage packet).ending ≢ Stuck
       by_cause acts (Some cause) because = rw (run-drop rows dp budget stage packet row is cause acts because) (not_stuck _)
       by_cause acts None none = absurd (All-contains (λ (r : Row). r.dp ≡ dp → r.actions ≡ Drop → cause_at r.stage ≢ None) rows row sound.drops at.among at.of_dp acts (ap cause_at at.of_stage ∙ none))
 
       by_actions : (actions : PlainAction) → row.actions ≡ actions → (run_from rows dp (suc budget) stage packet).ending ≢ Stuck
-      by_actions Next acts = by_next acts (next_stage stage) refl (goes_on stage)
+      by_actions Next acts = by_next acts (next_stage stage) refl
       by_actions Drop acts = by_cause acts (cause_at stage) refl
       by_actions Output acts = rw (run-output rows dp budget stage packet row is acts) (not_stuck _)
       by_actions (To port) acts = rw (run-to rows dp budget stage packet row is port acts) (not_stuck _)
@@ -92,13 +61,18 @@ module _ (rows : List Row) (dp : ObjId) (packet : Values) (sound : IsRunnable ro
     step_not_stuck = by_row (select dp stage packet rows) refl
 
   -- nor is a run through a switch, with a step for each stage that is still to come
-  never_stuck : (budget : ℕ) (stage : Stage) → IsTrue (is_of_switch stage) → stages_after stage < budget → (run_from rows dp budget stage packet).ending ≢ Stuck
+  never_stuck : (budget : ℕ) (stage : Stage) → IsTrue (is_of_switch stage) → places_left stage < budget → (run_from rows dp budget stage packet).ending ≢ Stuck
   never_stuck zero stage of_switch enough = absurd (omega arith)
   never_stuck (suc budget) stage of_switch enough =
       step_not_stuck budget stage of_switch (λ later of_it fewer. never_stuck budget later of_it (omega arith))
 
+  begins_on_switch : (pipeline : Pipeline) → IsTrue (is_of_switch (begins_at pipeline))
+  begins_on_switch Ingress = refl
+  begins_on_switch Egress = refl
+
+  enough : (pipeline : Pipeline) → places_left (begins_at pipeline) < 128
+  enough pipeline = omega arith
+
   -- so no pipeline is stuck
   pub pipeline_never_stuck : (pipeline : Pipeline) → (run_pipeline rows dp pipeline packet).ending ≢ Stuck
-  unfolding stages_after
-  pipeline_never_stuck Ingress = rw (pipeline_begins rows dp Ingress packet) (never_stuck 128 LsInCheckPortSec refl (lit< tt))
-  pipeline_never_stuck Egress = rw (pipeline_begins rows dp Egress packet) (never_stuck 128 LsOutPreAcl refl (lit< tt))
+  pipeline_never_stuck pipeline = rw (pipeline_begins rows dp pipeline packet) (never_stuck 128 (begins_at pipeline) (begins_on_switch pipeline) (enough pipeline))

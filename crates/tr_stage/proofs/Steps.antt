@@ -1,22 +1,35 @@
 -- What the run of a packet is at a stage, by the row that acts there.
-use Rattle.std.proofs.Common.{◌≡◌, ℕ, zero, suc, List, Option, Some, None, refl}
+use Rattle.std.proofs.Common.{◌≡◌, ℕ, zero, suc, List, Option, Some, None, ap, refl}
 use Rattle.nv_base.specs.declared.object.ObjId.{ObjId}
 use Rattle.pkt_core.specs.Packet.{Values}
 use Rattle.sb_rows.specs.declared.stage.Stage.{Stage}
 use Rattle.sb_rows.specs.declared.stage.Pipeline.{Pipeline}
 use Rattle.sb_rows.specs.declared.row.PlainAction.TheVariants.{Next, Drop, Output, Flood, To}
 use Rattle.sb_rows.specs.declared.row.Row.{Row}
-use Rattle.sb_rows.specs.Stage.{pipeline_of}
+use Rattle.sb_rows.specs.declared.stage.DatapathKind.TheVariants.{Switch}
+use Rattle.sb_rows.specs.declared.stage.Stage.TheVariants.{LsInCheckPortSec, LsOutPreAcl}
+use Rattle.sb_rows.specs.declared.stage.Pipeline.TheVariants.{Ingress, Egress}
+use Rattle.sb_rows.specs.Stage.{all_stages, pipeline_of, stage_at, first_stage, next_stage}
 use Rattle.sb_rows.specs.Match.{select}
 use Rattle.tr_stage.specs.declared.outcome.Cause.{Cause}
 use Rattle.tr_stage.specs.declared.outcome.Outcome.TheVariants as outcomes
-use Rattle.tr_stage.specs.Machine.{first_stage, next_stage, cause_at, flood_group, bound_for, sent, at_end, hit_of, after_hit, run_stage, run_from, step_budget, run_pipeline}
+use Rattle.tr_stage.specs.Machine.{cause_at, flood_group, bound_for, sent, at_end, hit_of, after_hit, run_next, run_stage, run_from, step_budget, run_pipeline}
 use Rattle.tr_stage.specs.Machine.PipelineEnd.{Ended, Stuck}
 
+-- the stage that a packet begins in on a switch
+abbrev pub begins_at : Pipeline → Stage
+begins_at Ingress = LsInCheckPortSec
+begins_at Egress = LsOutPreAcl
+
+pub first_is : (pipeline : Pipeline) → first_stage Switch pipeline ≡ Some (begins_at pipeline)
+unfolding first_stage stage_at all_stages
+first_is Ingress = refl
+first_is Egress = refl
+
 -- a pipeline's run is the run from its first stage on
-pub pipeline_begins : (rows : List Row) (dp : ObjId) (pipeline : Pipeline) (packet : Values) → run_pipeline rows dp pipeline packet ≡ run_from rows dp step_budget (first_stage pipeline) packet
+pub pipeline_begins : (rows : List Row) (dp : ObjId) (pipeline : Pipeline) (packet : Values) → run_pipeline rows dp pipeline packet ≡ run_from rows dp step_budget (begins_at pipeline) packet
 unfolding run_pipeline
-pipeline_begins rows dp pipeline packet = refl
+pipeline_begins rows dp pipeline packet = ap (run_next (λ stage. run_from rows dp step_budget stage packet)) (first_is pipeline)
 
 -- with no budget there is no step
 pub run-spent : (rows : List Row) (dp : ObjId) (stage : Stage) (packet : Values) → run_from rows dp zero stage packet ≡ at_end Stuck

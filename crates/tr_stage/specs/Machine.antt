@@ -1,44 +1,24 @@
 -- The run of a packet through one pipeline of a switch, after Logical_Flow of ovn-sb(5) and ovn-architecture(7).
-use Rattle.std.specs.Prelude.{◌≡◌, ◌≢◌, ℕ, zero, suc, Bool, true, false, IsTrue, List, [], ◌∷◌, Option, Some, None, All, Contains}
+use Rattle.std.specs.Prelude.{◌≡◌, ◌≢◌, ℕ, zero, suc, IsTrue, List, [], ◌∷◌, Option, Some, None, All, Contains}
 use Rattle.nv_base.specs.declared.object.ObjId.{ObjId}
 use Rattle.nv_base.specs.declared.field.Field.TheVariants.{Outport}
 use Rattle.pkt_core.specs.Packet.{Values, with_value}
 use Rattle.sb_rows.specs.declared.stage.Stage.{Stage}
-use Rattle.sb_rows.specs.declared.stage.Stage.TheVariants.{LsInCheckPortSec, LsInPreAcl, LsInPreStateful, LsInAclEval, LsInLb, LsInStateful, LsInArpRsp, LsInL2Lkup, LsInL2Unknown, LsOutPreAcl, LsOutPreStateful, LsOutAclEval, LsOutStateful, LsOutCheckPortSec}
+use Rattle.sb_rows.specs.declared.stage.Stage.TheVariants.{LsInCheckPortSec, LsInL2Unknown, LsOutCheckPortSec}
+use Rattle.sb_rows.specs.declared.stage.DatapathKind.TheVariants.{Switch}
 use Rattle.sb_rows.specs.declared.stage.Pipeline.{Pipeline}
 use Rattle.sb_rows.specs.declared.stage.Pipeline.TheVariants.{Ingress, Egress}
 use Rattle.sb_rows.specs.declared.row.PlainMatch.TheVariants.{Any}
 use Rattle.sb_rows.specs.declared.row.PlainAction.{PlainAction}
 use Rattle.sb_rows.specs.declared.row.PlainAction.TheVariants.{Next, Drop, Output, Flood, To}
 use Rattle.sb_rows.specs.declared.row.Row.{Row}
-use Rattle.sb_rows.specs.Stage.{pipeline_of}
+use Rattle.sb_rows.specs.Stage.{pipeline_of, first_stage, next_stage, is_last, is_of_switch}
 use Rattle.sb_rows.specs.Match.{select}
 use Rattle.tr_stage.specs.declared.outcome.Cause.{Cause}
 use Rattle.tr_stage.specs.declared.outcome.Cause.TheVariants.{PortSec, Unknown}
 use Rattle.tr_stage.specs.declared.outcome.Hit.{Hit}
 use Rattle.tr_stage.specs.declared.outcome.Outcome.{Outcome}
 use Rattle.tr_stage.specs.declared.outcome.Outcome.TheVariants as outcomes
-
--- the stage that a packet begins in
-abbrev pub first_stage : Pipeline → Stage
-first_stage Ingress = LsInCheckPortSec
-first_stage Egress = LsOutPreAcl
-
--- the stage of the next table, if the stage is not the last of a switch's pipeline
-abbrev pub next_stage : Stage → Option Stage
-next_stage LsInCheckPortSec = Some LsInPreAcl
-next_stage LsInPreAcl = Some LsInPreStateful
-next_stage LsInPreStateful = Some LsInAclEval
-next_stage LsInAclEval = Some LsInLb
-next_stage LsInLb = Some LsInStateful
-next_stage LsInStateful = Some LsInArpRsp
-next_stage LsInArpRsp = Some LsInL2Lkup
-next_stage LsInL2Lkup = Some LsInL2Unknown
-next_stage LsOutPreAcl = Some LsOutPreStateful
-next_stage LsOutPreStateful = Some LsOutAclEval
-next_stage LsOutAclEval = Some LsOutStateful
-next_stage LsOutStateful = Some LsOutCheckPortSec
-next_stage _ = None
 
 -- why a packet is dropped in the stage, if it may be
 abbrev pub cause_at : Stage → Option Cause
@@ -87,7 +67,7 @@ abbrev pub dropped : Option Cause → PipelineRun
 dropped (Some cause) = at_end (Ended (outcomes.Drop cause))
 dropped None = at_end Stuck
 
--- on to this stage; `run_at` gives the run from a stage on
+-- on to this stage, if there is one; `run_at` gives the run from a stage on
 abbrev pub run_next : (Stage → PipelineRun) → Option Stage → PipelineRun
 run_next run_at (Some stage) = run_at stage
 run_next run_at None = at_end Stuck
@@ -114,33 +94,9 @@ run_from rows dp (suc budget) stage packet = run_stage (λ later. run_from rows 
 abbrev pub step_budget : ℕ
 step_budget = 128
 
--- the run of a packet through a pipeline of the datapath
+-- the run of a packet through a pipeline of the datapath, which is a switch
 unfoldable pub run_pipeline : List Row → ObjId → Pipeline → Values → PipelineRun
-run_pipeline rows dp pipeline packet = run_from rows dp step_budget (first_stage pipeline) packet
-
--- whether the stage is one of a switch's pipelines
-abbrev pub is_of_switch : Stage → Bool
-is_of_switch LsInCheckPortSec = true
-is_of_switch LsInPreAcl = true
-is_of_switch LsInPreStateful = true
-is_of_switch LsInAclEval = true
-is_of_switch LsInLb = true
-is_of_switch LsInStateful = true
-is_of_switch LsInArpRsp = true
-is_of_switch LsInL2Lkup = true
-is_of_switch LsInL2Unknown = true
-is_of_switch LsOutPreAcl = true
-is_of_switch LsOutPreStateful = true
-is_of_switch LsOutAclEval = true
-is_of_switch LsOutStateful = true
-is_of_switch LsOutCheckPortSec = true
-is_of_switch _ = false
-
--- whether the stage is the last of one of a switch's pipelines
-abbrev pub is_last : Stage → Bool
-is_last LsInL2Unknown = true
-is_last LsOutCheckPortSec = true
-is_last _ = false
+run_pipeline rows dp pipeline packet = run_next (λ stage. run_from rows dp step_budget stage packet) (first_stage Switch pipeline)
 
 -- a row of the datapath's table of this stage takes each packet
 abbrev pub TakesEach : List Row → ObjId → Stage → Type 0

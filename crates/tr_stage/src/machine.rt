@@ -2,11 +2,11 @@ ghost use Rattle.std.specs.Prelude.{◌≡◌, ◌≢◌, ◌++◌, IfOk};
 ghost use Rattle.tr_stage.specs.Machine.{hit_of, sent, bound_for, run_pipeline, IsRunnable};
 ghost use Rattle.tr_stage.specs.Machine.PipelineEnd.{Ended, Stuck};
 
-use crate::stages::{cause_at, first_stage, next_stage};
+use crate::cause::cause_at;
 use crate::{Hit, Outcome};
 use nv_base::{Field, ObjId, OutOfMemory};
 use pkt_core::Packet;
-use sb_rows::{Pipeline, PlainAction, Row, Rows, Stage};
+use sb_rows::{DatapathKind, Pipeline, PlainAction, Row, Rows, Stage};
 
 // How many steps a packet may take in one pipeline.
 const STEP_BUDGET: usize = 128;
@@ -29,7 +29,7 @@ pub fn run_pipeline(
     ensures outcome { IfOk result (λ outcome. (run_pipeline rows.now dp pipeline packet.now).ending ≡ Ended outcome) }
     ensures runs { (run_pipeline rows.now dp pipeline packet.now).ending ≢ Stuck }
 {
-    let mut stage = first_stage(pipeline);
+    let mut stage = Stage::first(DatapathKind::Switch, pipeline);
     let mut budget = STEP_BUDGET;
     while budget > 0 {
         budget -= 1;
@@ -38,7 +38,10 @@ pub fn run_pipeline(
         };
         hits.push(hit_of(dp, stage, row))?;
         match &row.actions {
-            PlainAction::Next => stage = next_stage(stage),
+            PlainAction::Next => match stage.next() {
+                Some(next) => stage = next,
+                None => unreachable!(),
+            },
             PlainAction::Drop => return Ok(Outcome::Drop(cause_at(stage))),
             PlainAction::Output => return Ok(sent(stage.pipeline(), *packet)),
             PlainAction::To(_) => return Ok(sent_by(stage.pipeline(), packet, row.hint.0)),

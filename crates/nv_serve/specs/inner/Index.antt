@@ -12,11 +12,11 @@ use Rattle.nv_serve.specs.Network.{Switch, switch_named}
 abbrev pub IsSwitchIndex : BTreeMap (List ℕ) ObjId → List Switch → Type 0
 IsSwitchIndex numbers switches = (name : List ℕ) → get (slice_cmp nat_cmp) numbers name ≡ switch_named switches name
 
--- the place of the port of this name
+-- the position of the port of this name
 abbrev pub port_place : List Port → List ℕ → Option ℕ
 port_place [] name = None
 port_place (port ∷ ports) name = if bytes_eq port.name name then Some 0 else option_map suc (port_place ports name)
 
--- an index has the place of each port under its name, and no other
+-- an index has the position of each port under its name, and no other
 abbrev pub IsPortIndex : BTreeMap (List ℕ) ℕ → List Port → Type 0
 IsPortIndex places ports = (name : List ℕ) → get (slice_cmp nat_cmp) places name ≡ port_place ports name

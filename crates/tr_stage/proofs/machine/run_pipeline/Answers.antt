@@ -1,19 +1,21 @@
-use Rattle.std.proofs.Common.{◌≡◌, ◌-◌, suc, Some, [], ◌∷◌, ◌++◌, sym, ap, ◌∙◌}
-use Rattle.std.specs.Option.{option_copied}
+use Rattle.std.proofs.Common.{◌≡◌, ◌-◌, suc, Option, Some, None, [], ◌∷◌, ◌++◌, sym, ap, ◌∙◌}
+use Rattle.std.specs.Option.{option_copied, IsSome}
+use Rattle.std.proofs.lemmas.Option.{same_Some}
+use Rattle.sb_rows.specs.declared.stage.Stage.{Stage}
 use Rattle.sb_rows.specs.declared.stage.Pipeline.{Pipeline}
 use Rattle.sb_rows.specs.Match.{select}
 use Rattle.tr_stage.specs.declared.outcome.Hit.{Hit}
 use Rattle.tr_stage.specs.Machine.{flood_group, bound_for, sent, PipelineEnd, PipelineRun, at_end, hit_of, after_hit, run_from, run_pipeline}
 use Rattle.tr_stage.specs.Machine.PipelineEnd.{Ended, Stuck}
 use Rattle.tr_stage.proofs.Runs.{pipeline_never_stuck}
-use Rattle.tr_stage.proofs.Steps.{pipeline_begins, run-next, run-drop, run-output, run-to, run-flood}
+use Rattle.tr_stage.proofs.Steps.{first_is, pipeline_begins, run-next, run-drop, run-output, run-to, run-flood}
 use Rattle.tr_stage.proofs.Progress.{IsProgress, progress-more, progress-hits, progress-end, progress-runs, progress-step, progress-spent, row_there, next_there, cause_there}
 use Rattle.tr_stage.proofs.machine.run_pipeline.Goals as goal
 use Rattle.tr_stage.proofs.machine.run_pipeline.Goals.{In_ok-push}
 
 pub loop-budget-init : goal.loop-budget-init
 loop-budget-init c =
-    let begins = pipeline_begins c.args.rows.now c.args.dp c.args.pipeline c.args.packet.now ∙ ap (λ stage. run_from c.args.rows.now c.args.dp 128 stage c.args.packet.now) (sym c.first_stage-stage.ensures) in
+    let begins = pipeline_begins c.args.rows.now c.args.dp c.args.pipeline c.args.packet.now ∙ ap (λ stage. run_from c.args.rows.now c.args.dp 128 stage c.args.packet.now) (same_Some _ _ (sym (first_is c.args.pipeline) ∙ c.first-stage.ensures)) in
     record { joined = ap (λ (w : PipelineRun). c.args.hits.now.items ++ w.hits) (sym begins); same_end = ap (λ (w : PipelineRun). w.ending) (sym begins) }
 
 pub unreachable-requires : goal.unreachable-requires
@@ -49,15 +51,19 @@ hits_done c ending is = pushed c ∙ progress-hits _ _ _ _ (progress c) _ ending
 end_is : (c : In_ok-push) (ending : PipelineEnd) → StepIs c (at_end ending) → (run_pipeline c.args.rows.now c.args.dp c.args.pipeline c.args.packet.now).ending ≡ ending
 end_is c ending is = progress-end _ _ _ _ (progress c) _ ending is
 
-pub next_stage-stage-requires : goal.next_stage-stage-requires
-next_stage-stage-requires c =
-    let at = (goal.at.next_stage-stage-requires c).In_ok-push in
-    next_there _ _ _ _ _ (never_stuck at) _ (selected at) c.in-Next.is
+pub unreachable-requires-in-None : goal.unreachable-requires-in-None
+unreachable-requires-in-None c =
+    let at = (goal.at.unreachable-requires-in-None c).In_ok-push in
+    none_there _ (next_there _ _ _ _ _ (never_stuck at) _ (selected at) c.in-Next.is) (sym c.next.ensures ∙ c.in-None.is)
+  where
+    none_there : (found : Option Stage) → IsSome found → found ≡ None → ⊥
+    none_there (Some stage) some e = cc
+    none_there None some e = cc
 
 pub loop-budget-preserved : goal.loop-budget-preserved
 loop-budget-preserved c =
     let at = (goal.at.loop-budget-preserved c).In_ok-push in
-    let step = run-next _ _ _ _ _ _ (selected at) _ c.in-Next.is c.next_stage-stage.ensures in
+    let step = run-next _ _ _ _ _ _ (selected at) _ c.in-Next.is (sym c.next.ensures ∙ c.in-Some-next.is) in
     progress-more _ _ _ _ (progress at) _ _ (pushed at) _ step
 
 pub cause_at-requires : goal.cause_at-requires

@@ -1,5 +1,8 @@
+pub mod AllAtOnce
 pub mod Among
 pub mod Appends
+pub mod Distinct
+pub mod Members
 pub mod Order
 pub mod Place
 pub mod Same

@@ -35,7 +35,7 @@ none_among : (r : Row) → Contains [] r → ⊥
 none_among r (k, within, is) = absurd (omega arith)
 
 -- what is among rows that got one more
-among_put : (new : Row) (xs : List Row) (r : Row) → Contains (put_row new xs) r → (new ≡ r) ⊎ Contains xs r
+pub among_put : (new : Row) (xs : List Row) (r : Row) → Contains (put_row new xs) r → (new ≡ r) ⊎ Contains xs r
 among_put new [] r there = among_cases new r [] there
 among_put new (x ∷ xs) r there = by (is_gt (row_cmp x new)) there (among_put new xs r)
   where

@@ -1,6 +1,8 @@
 -- The rows of the logical flow table: their texts and their order.
-use Rattle.std.specs.Prelude.{ℕ, List, [], ◌∷◌, ◌++◌, fold, codes, if◌then◌else◌, ◌==◌, filter, IsSorted}
+use Rattle.std.specs.Prelude.{◌≢◌, ℕ, List, [], ◌∷◌, ◌++◌, fold, codes, if◌then◌else◌, ◌==◌, filter, IsSorted}
+use Rattle.std.specs.List.{AllPairs}
 use Rattle.std.specs.declared.cmp.Ordering.{Ordering}
+use Rattle.std.specs.declared.cmp.Ordering.TheVariants.{Equal}
 use Rattle.std.specs.Ordering.{nat_cmp, is_gt, on, then_cmp, flip_args}
 use Rattle.std.specs.Cmp.Lexicographic.{slice_cmp}
 use Rattle.nv_base.specs.declared.object.ObjId.{ObjId}
@@ -46,6 +48,15 @@ row_cmp = then_cmp (then_cmp place_cmp rank_cmp) (on (λ r. match_text r.matchin
 -- no row is before the one ahead of it in this order
 abbrev pub IsInRowOrder : List Row → Type 0
 IsInRowOrder rows = IsSorted row_cmp rows
+
+-- no two of the rows agree in datapath, stage, priority, hint and match
+abbrev pub AreApart : List Row → Type 0
+AreApart rows = AllPairs (λ a b. row_cmp a b ≢ Equal) rows
+
+-- rows of the table: in row order, and none is there twice
+pub record AreRows (rows : List Row) : Type 0 where
+  pub ordered : IsInRowOrder rows
+  pub distinct : AllPairs (λ a b. a ≢ b) rows
 
 -- the rows with one more, which goes before the first that is after it in this order
 abbrev pub put_row : Row → List Row → List Row

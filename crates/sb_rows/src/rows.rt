@@ -1,9 +1,9 @@
-ghost use Rattle.std.specs.Prelude.{◌≡◌, ◌≤◌, true, false, [], length, Contains, IsTrue, ◌↔◌, OnOk, OnErr};
+ghost use Rattle.std.specs.Prelude.{◌≡◌, ◌≢◌, ◌≤◌, true, false, [], ◌++◌, length, Contains, IsTrue, ◌↔◌, OnOk, OnErr};
 ghost use Rattle.std.specs.List.Sorted.{IsPartitionPoint};
 ghost use Rattle.std.specs.Ordering.{is_le};
-ghost use Rattle.std.specs.List.{find};
+ghost use Rattle.std.specs.List.{find, AllPairs};
 ghost use Rattle.std.specs.Option.{option_copied};
-ghost use Rattle.sb_rows.specs.Row.{IsInRowOrder, row_cmp, put_row, rows_of};
+ghost use Rattle.sb_rows.specs.Row.{IsInRowOrder, AreApart, row_cmp, put_row, put_rows, rows_of};
 ghost use Rattle.sb_rows.specs.Match.{holds, select};
 ghost use Rattle.sb_rows.specs.inner.Tables.{rows_of_table, table_key};
 
@@ -13,7 +13,7 @@ use pkt_core::Packet;
 use std::alloc::Global;
 use std::marker::Model;
 
-/// The rows of the logical flow table, in row order. A clause sees it as the list of the rows.
+/// The rows of the logical flow table, in row order, none of them twice. A clause sees it as the list of the rows.
 #[derive(Debug, Drop)]
 pub struct Rows {
     sorted: Vec<Row>,
@@ -22,13 +22,13 @@ pub struct Rows {
 impl Model for Rows {
     ghost use Rattle.std.specs.Prelude.{List};
     ghost use Rattle.sb_rows.specs.declared.row.Row.{Row};
-    ghost use Rattle.sb_rows.specs.Row.{IsInRowOrder};
+    ghost use Rattle.sb_rows.specs.Row.{AreRows};
 
     ghost Value = { List Row };
 
     ghost view = { λ r. r.sorted.items };
 
-    ghost invariant = { λ r. IsInRowOrder r.sorted.items };
+    ghost invariant = { λ r. AreRows r.sorted.items };
 }
 
 impl Rows {
@@ -60,6 +60,24 @@ impl Rows {
         Ok(())
     }
 
+    /// Puts more rows, all at once, each in its place. No two of all the rows agree in datapath, stage, priority, hint
+    /// and match. After `OutOfMemory` the rows are as before.
+    pub fn put_all(&mut self, mut rows: Vec<Row>) -> Result<(), OutOfMemory>
+        requires { AreApart (self.old ++ rows.items) }
+        ensures ok { OnOk result (self.new ≡ put_rows self.old rows.items) }
+        ensures err { OnErr result (self.new ≡ self.old) }
+    {
+        let before = self.sorted.len();
+        self.sorted.append(&mut rows)?;
+        match self.sorted.sort_by(|one, other| one.order(other)) {
+            Ok(()) => Ok(()),
+            Err(_) => {
+                self.sorted.truncate(before);
+                Err(OutOfMemory)
+            }
+        }
+    }
+
     /// How many rows there are.
     pub fn len(&self) -> usize
         ensures { result ≡ length self.now }
@@ -73,10 +91,11 @@ impl Rows {
         self.sorted.is_empty()
     }
 
-    /// The rows, in row order.
+    /// The rows, in row order. None is there twice.
     pub fn as_slice(&self) -> &[Row]
         ensures all { result.now ≡ self.now }
         ensures ordered { IsInRowOrder self.now }
+        ensures distinct { AllPairs (λ a b. a ≢ b) self.now }
     {
         self.sorted.as_slice()
     }

@@ -14,7 +14,7 @@ returns c =
     let key = table_key c.args.dp c.args.stage in
     let low = c.partition_point-low in
     let count = c.partition_point-count in
-    let rise = keys_rise rows c.self.invariant in
+    let rise = keys_rise rows c.self.invariant.ordered in
     let begins = IsPartitionPoint-from_clause (λ (r : Row). ltb (key_of r) key) rows _ (rw c.deref.ensures.value at low.ensures.partitioned) (IsPartitionedBy-ltb key_of rows key rise) (λ a r q k. search rules) in
     let ends = IsPartitionPoint-from_clause (λ (r : Row). leb (key_of r) key) (drop low.result rows) _ (rw (c.deref-2.ensures.value, take_rest) at count.ensures.partitioned) (IsPartitionedBy-leb key_of _ key (IsNonDecreasingBy-drop key_of low.result rows rise)) (λ a r q k. search rules) in
     rw (c.deref-2.ensures.value, take_rest, ← c.self.view_is) (section_at key_of key rows low.result count.result (rw c.deref.ensures.value at low.ensures.bound) begins (rw (c.deref-2.ensures.value, take_rest) at count.ensures.bound) ends ∙ filter_alike _ _ (in_table-key c.args.dp c.args.stage) rows)

@@ -1,6 +1,7 @@
 use Rattle.std.proofs.Common.{◌≡◌, ◌∙◌, sym, subst}
-use Rattle.sb_rows.specs.Row.{IsInRowOrder, put_row}
-use Rattle.sb_rows.proofs.Place.{put_row_at, ordered_put}
+use Rattle.sb_rows.specs.Row.{AreRows, put_row}
+use Rattle.sb_rows.proofs.Distinct.{put_keeps_rows}
+use Rattle.sb_rows.proofs.Place.{put_row_at}
 use Rattle.sb_rows.proofs.rows.Rows.put.Goals as goal
 
 -- the new row goes to its place
@@ -10,7 +11,7 @@ put_there c =
     c.in_ok-insert.ensures.items ∙ put_row_at c.args.row c.self.inside.sorted.items _ (rw c.deref.ensures.value at at.bound) (rw c.deref.ensures.value at at.point)
 
 pub invariant_of-self-2 : goal.invariant_of-self-2
-invariant_of-self-2 c = subst IsInRowOrder (sym (put_there c)) (ordered_put c.args.row _ c.self.invariant)
+invariant_of-self-2 c = subst AreRows (sym (put_there c)) (put_keeps_rows c.args.row _ (rw (← c.self.view_is) at c.requires) c.self.invariant)
 
 pub returns-clause-ok : goal.returns-clause-ok
 returns-clause-ok c = rw (← c.self.view_is) (put_there c)

@@ -1,0 +1,15 @@
+-- A joined list, one item on.
+use Rattle.std.proofs.Common.{◌≡◌, ◌<◌, ◌+◌, ℕ, List, ◌++◌, length, drop, slice_index_or, append_assoc}
+use Rattle.std.proofs.lemmas.List.{at_drop_more}
+use Rattle.act_core.specs.Text.{joined}
+
+-- with this item's text at the end, the items after it say the same
+pub item_appended : {A : Type 0} (text : A → List ℕ) (separator : List ℕ) (items : List A) (i : ℕ) (d : A) (front there middle end : List ℕ) → i < length items
+    → middle ≡ there ++ front → end ≡ middle ++ text (slice_index_or items i d)
+    → end ++ joined text separator separator (drop (i + 1) items) ≡ there ++ joined text front separator (drop i items)
+item_appended text separator items i d front there middle end within one two =
+    rw (two, one, at_drop_more (λ is. joined text front separator is) items i d within) (simp append_assoc)
+
+-- what was appended thrice was appended
+pub appended_thrice : (there one two end first second third : List ℕ) → one ≡ there ++ first → two ≡ one ++ second → end ≡ two ++ third → end ≡ there ++ (first ++ (second ++ third))
+appended_thrice there one two end first second third a b c = rw (c, b, a) (simp append_assoc)

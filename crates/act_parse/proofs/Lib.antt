@@ -1,0 +1,13 @@
+pub mod Choices
+pub mod Decimals
+pub mod Pieces
+pub mod Runs
+pub mod Shapes
+pub mod Longest
+pub mod ConstantFronts
+pub mod Lists
+pub mod Loops
+pub mod TakesTokens
+pub mod TakesSteps
+pub mod TakesFields
+pub mod TakesActions

@@ -1,0 +1,4 @@
+pub mod Token
+pub mod Keyword
+pub mod Reading
+pub mod inner

@@ -11,3 +11,7 @@ pub mod TakesTokens
 pub mod TakesSteps
 pub mod TakesFields
 pub mod TakesActions
+pub mod Constants
+pub mod Written
+pub mod WrittenSteps
+pub mod WrittenActions

@@ -10,3 +10,8 @@ pub fn what_is_read_is_written()
     ensures good { (text : List ℕ) (list : List Action) → answer text ≡ Ok list → is_well_formed list ≡ true }
     ensures text { (text : List ℕ) (list : List Action) → answer text ≡ Ok list → text ≡ actions_text list }
 {}
+
+/// What is written of a well-formed list is read as that list.
+pub fn what_is_written_is_read()
+    ensures { (list : List Action) → is_well_formed list ≡ true → answer (actions_text list) ≡ Ok list }
+{}

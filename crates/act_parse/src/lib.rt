@@ -15,5 +15,5 @@ mod targets;
 mod token;
 
 pub use fault::ActionFault;
-pub use laws::what_is_read_is_written;
+pub use laws::{what_is_read_is_written, what_is_written_is_read};
 pub use reader::parse_actions;

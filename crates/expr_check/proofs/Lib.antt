@@ -1,1 +1,5 @@
 pub mod Operands
+pub mod Passed
+pub mod Passes
+pub mod ReadBack
+pub mod Subjects

@@ -7,7 +7,7 @@ use Rattle.expr_core.specs.Formula.Formulas.{Nil, Cons}
 use Rattle.expr_core.specs.declared.expr.Atom.{Atom}
 use Rattle.expr_core.specs.declared.typed.TypedAtom.{TypedAtom}
 use Rattle.expr_check.specs.declared.fault.TypeFault.{TypeFault}
-use Rattle.expr_check.specs.declared.role.Role.{Role}
+use Rattle.expr_core.specs.declared.role.Role.{Role}
 use Rattle.expr_check.specs.Check.{both, mapped, checked, all_checked}
 
 -- formulas before others

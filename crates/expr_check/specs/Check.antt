@@ -13,11 +13,11 @@ use Rattle.expr_core.specs.declared.typed.TypedAtom.{TypedAtom}
 use Rattle.expr_core.specs.declared.typed.TypedAtom.TheVariants as typed
 use Rattle.expr_check.specs.declared.fault.TypeFault.{TypeFault}
 use Rattle.expr_check.specs.declared.fault.TypeFault.TheVariants.{UnknownField, NotAllowedHere, WrongWidth, WrongForm, Memory}
-use Rattle.expr_check.specs.declared.role.Role.{Role}
-use Rattle.expr_check.specs.declared.subject.Subject.{Subject}
-use Rattle.expr_check.specs.declared.subject.Subject.TheVariants as subject
-use Rattle.expr_check.specs.Subject.{subject_of}
-use Rattle.expr_check.specs.TypeRules.{is_allowed, width_of, bits_fit, right_fits, may_stand_alone, may_be_compared}
+use Rattle.expr_core.specs.declared.role.Role.{Role}
+use Rattle.expr_core.specs.declared.subject.Subject.{Subject}
+use Rattle.expr_core.specs.declared.subject.Subject.TheVariants as subject
+use Rattle.expr_core.specs.Subject.{subject_of}
+use Rattle.expr_core.specs.TypeRules.{is_allowed, width_of, bits_fit, right_fits, may_stand_alone, may_be_compared}
 
 -- what the rules say of a part at this offset: the first that fails, or the atom
 abbrev pub judged : ℕ → Bool → Bool → Bool → TypedAtom → Result TypedAtom TypeFault

@@ -1,3 +1,2 @@
 pub mod Check
-pub mod TypeRules
-pub mod Subject
+pub mod Printed

@@ -1,12 +1,13 @@
 ghost use Rattle.std.specs.Prelude.{◌≡◌, false, Ok, Err, IfOk, IfErr};
 ghost use Rattle.expr_check.specs.Check.{alone, comparison, mapped, checked_bare, checked_comparison, checked_atom, checked, all_checked, is_memory};
 ghost use Rattle.expr_core.specs.Formula.{formulas};
-ghost use Rattle.expr_check.specs.Subject.{subject_of};
+ghost use Rattle.expr_core.specs.Subject.{subject_of};
 
 use crate::rules::{bits_fit, is_allowed, may_be_compared, may_stand_alone, right_fits, width_of};
-use crate::subject::{Subject, subject_of};
 use crate::{Role, TypeFault};
-use expr_core::{Atom, Bits, Expr, Node, Part, Rel, Right, Tree, Typed, TypedAtom};
+use expr_core::{
+    Atom, Bits, Expr, Node, Part, Rel, Right, Subject, Tree, Typed, TypedAtom, subject_of,
+};
 use nv_base::{Items, Kept, OutOfMemory};
 use std::alloc::Global;
 

@@ -2,11 +2,10 @@
 ghost use Rattle.std.specs.Prelude.{◌≡◌, ◌^◌, nat_lt};
 ghost use Rattle.std.specs.List.{list_all};
 ghost use Rattle.expr_core.specs.Width.{part_width, is_prefix};
-ghost use Rattle.expr_check.specs.TypeRules.{is_internal, is_outport, is_port, is_quote, is_of_connection, is_allowed_field, is_allowed_predicate, is_allowed, width_of, is_below, bits_fit, number_fits, mask_fits, item_fits, right_fits, is_whole, may_stand_alone, tests_equality, is_number, may_be_in_set, suits, right_suits, may_be_compared};
+ghost use Rattle.expr_core.specs.TypeRules.{is_internal, is_outport, is_port, is_quote, is_of_connection, is_allowed_field, is_allowed_predicate, is_allowed, width_of, is_below, bits_fit, number_fits, mask_fits, item_fits, right_fits, is_whole, may_stand_alone, tests_equality, is_number, may_be_in_set, suits, right_suits, may_be_compared};
 
 use crate::Role;
-use crate::subject::Subject;
-use expr_core::{Bits, Const, Item, Pred, Rel, Right, has_bits};
+use expr_core::{Bits, Const, Item, Pred, Rel, Right, Subject, has_bits};
 use nv_base::{Field, Prerequisite, Printed};
 
 // Whether the field is a port's.

@@ -1,5 +1,5 @@
 -- The operands that were compared, and those that are left.
-use Rattle.std.proofs.Common.{◌≡◌, ◌≢◌, ℕ, zero, suc, ◌<◌, ◌≤◌, ◌+◌, Bool, true, false, ◌&&◌, List, [], ◌∷◌, length, drop, slice_index_or, refl, ap, arith}
+use Rattle.std.proofs.Common.{◌≡◌, ◌≢◌, ℕ, zero, suc, ◌<◌, ◌≤◌, Bool, true, false, ◌&&◌, List, [], ◌∷◌, length, drop, slice_index_or, refl, ap, arith}
 use Rattle.expr_core.specs.Formula.{Formula, formulas}
 use Rattle.expr_core.specs.inner.FormulaCode.{formula_size, formulas_size}
 use Rattle.expr_core.specs.Equal.{formula_eq, formulas_eq}

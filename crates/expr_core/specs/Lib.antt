@@ -2,8 +2,15 @@ pub mod Equal
 pub mod EqualParts
 pub mod Formula
 pub mod Lookup
+pub mod Named
+pub mod Opposite
 pub mod Predicate
+pub mod Subject
+pub mod Tests
 pub mod Text
 pub mod Tree
+pub mod TypeRules
+pub mod WellFormed
+pub mod WellTyped
 pub mod Width
 pub mod inner

@@ -1,3 +1,6 @@
+ghost use Rattle.std.specs.Prelude.{◌≡◌};
+ghost use Rattle.expr_core.specs.Opposite.{opposite};
+
 use crate::Const;
 use nv_base::{Items, Name};
 
@@ -16,6 +19,22 @@ pub enum Rel {
     Gt,
     /// `>=`
     Ge,
+}
+
+impl Rel {
+    /// The relation that holds where this one does not.
+    pub fn opposite(self) -> Rel
+        ensures { result ≡ opposite self }
+    {
+        match self {
+            Rel::Eq => Rel::Ne,
+            Rel::Ne => Rel::Eq,
+            Rel::Lt => Rel::Ge,
+            Rel::Le => Rel::Gt,
+            Rel::Gt => Rel::Le,
+            Rel::Ge => Rel::Lt,
+        }
+    }
 }
 
 /// What a part is compared with.

@@ -1,4 +1,4 @@
-ghost use Rattle.std.specs.Prelude.{◌≡◌};
+ghost use Rattle.std.specs.Prelude.{◌≡◌, None, codes};
 ghost use Rattle.expr_core.specs.Lookup.{Lookup};
 
 use nv_base::ObjId;
@@ -23,4 +23,7 @@ pub trait Env {
     /// Whether the datapath is a switch.
     fn is_switch(&self, dp: ObjId) -> bool
         ensures { result ≡ (lookup self.now).is_switch dp };
+
+    /// The names of multicast groups are no port's.
+    ghost multicast_is_no_port: { (env : Self) → ((lookup env).port (codes "_MC_flood") ≡ None) × ((lookup env).port (codes "_MC_unknown") ≡ None) };
 }

@@ -11,11 +11,16 @@ use Rattle.expr_core.specs.Formula.Formulas.{Nil, Cons}
 use Rattle.expr_core.specs.Lookup.{Lookup}
 use Rattle.expr_core.specs.declared.comparison.Rel.{Rel}
 use Rattle.expr_core.specs.declared.comparison.Rel.TheVariants.{Eq, Ne, Lt, Le, Gt, Ge}
+use Rattle.expr_core.specs.declared.comparison.Item.TheVariants.{One}
 use Rattle.expr_core.specs.declared.comparison.Right.{Right}
+use Rattle.expr_core.specs.declared.comparison.Right.TheVariants as right_of
 use Rattle.expr_core.specs.declared.typed.TypedAtom.{TypedAtom}
 use Rattle.expr_core.specs.declared.typed.TypedAtom.TheVariants.{Truth, Bare, Holds, Compare}
-use Rattle.expr_eval.specs.MatchMeaning.{Test, test, tests, part_of, has, has_not, atom_holds, atom_negation_holds, holds, negation_holds, all_hold, some_hold, all_negations_hold, some_negation_holds}
-use Rattle.expr_eval.specs.Relation.{equals, number_of, is_so, relates, opposite}
+use Rattle.expr_eval.specs.MatchMeaning.{part_of, passes, has, has_not, atom_holds, atom_negation_holds, holds, negation_holds, all_hold, some_hold, all_negations_hold, some_negation_holds}
+use Rattle.expr_eval.specs.Relation.{equals, compares, relates}
+use Rattle.expr_core.specs.Opposite.{opposite}
+use Rattle.expr_core.specs.Tests.{test, tests}
+use Rattle.expr_core.specs.declared.test.Test.{Test}
 
 -- not both
 abbrev pub Apart : Bool → Bool → Type 0
@@ -47,7 +52,7 @@ some_and_all : (a b c d : Bool) → Apart a c → Apart b d → Apart (a || b) (
 some_and_all a b c d p q = swapped (c && d) (a || b) (all_and_some c d a b (swapped a c p) (swapped b d q))
 
 test_apart : (packet : Values) (t : Test) → Apart (has packet t) (has_not packet t)
-test_apart packet t = under (is_there packet t.field) _ _ (of_opposites (part_of packet t.field t.bits == t.number))
+test_apart packet t = under (is_there packet t.field) _ _ (of_opposites (passes packet t))
 
 tests_apart : (packet : Values) (ts : List Test) → Apart (list_any (has packet) ts) (list_all (has_not packet) ts)
 tests_apart packet [] = refl
@@ -61,17 +66,22 @@ orders_apart_where n c true e = rw (le-ltb n c (leb-true c n e)) refl
 orders_apart : (n c : ℕ) → Apart (nat_lt n c) (nat_le c n)
 orders_apart n c = orders_apart_where n c (nat_le c n) refl
 
-numbers_apart : (p q : ℕ → Bool) → ((c : ℕ) → Apart (p c) (q c)) → (c : Option ℕ) → Apart (is_so p c) (is_so q c)
-numbers_apart p q each None = refl
-numbers_apart p q each (Some c) = each c
+numbers_apart : (n : ℕ) (rel : Rel) (c : ℕ) → Apart (compares n rel c) (compares n (opposite rel) c)
+numbers_apart n Eq c = of_opposites (n == c)
+numbers_apart n Ne c = swapped (n == c) (not (n == c)) (of_opposites (n == c))
+numbers_apart n Lt c = orders_apart n c
+numbers_apart n Le c = swapped (nat_lt c n) (nat_le n c) (orders_apart c n)
+numbers_apart n Gt c = orders_apart c n
+numbers_apart n Ge c = swapped (nat_lt n c) (nat_le c n) (orders_apart n c)
 
 relations_apart : (net : Lookup) (width n : ℕ) (rel : Rel) (right : Right) → Apart (relates net width n rel right) (relates net width n (opposite rel) right)
+relations_apart net width n rel (right_of.Item (One c)) = numbers_apart n rel c.value
 relations_apart net width n Eq right = of_opposites (equals net width n right)
-relations_apart net width n Ne right = swapped (equals net width n right) _ (of_opposites (equals net width n right))
-relations_apart net width n Lt right = numbers_apart (λ c. nat_lt n c) (λ c. nat_le c n) (orders_apart n) (number_of right)
-relations_apart net width n Le right = numbers_apart (λ c. nat_le n c) (λ c. nat_lt c n) (λ c. swapped (nat_lt c n) (nat_le n c) (orders_apart c n)) (number_of right)
-relations_apart net width n Gt right = numbers_apart (λ c. nat_lt c n) (λ c. nat_le n c) (λ c. orders_apart c n) (number_of right)
-relations_apart net width n Ge right = numbers_apart (λ c. nat_le c n) (λ c. nat_lt n c) (λ c. swapped (nat_lt n c) (nat_le c n) (orders_apart n c)) (number_of right)
+relations_apart net width n Ne right = swapped (equals net width n right) (not (equals net width n right)) (of_opposites (equals net width n right))
+relations_apart net width n Lt right = refl
+relations_apart net width n Le right = refl
+relations_apart net width n Gt right = refl
+relations_apart net width n Ge right = refl
 
 module _ (net : Lookup) (packet : Values) where
   atom_apart : (a : TypedAtom) → Apart (atom_holds net packet a) (atom_negation_holds net packet a)

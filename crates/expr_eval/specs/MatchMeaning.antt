@@ -1,10 +1,9 @@
 -- What a match means (after ovn-sb(5), 'Logical_Flow TABLE'; what the negation of a predicate means is not from OVN).
 -- There are two meanings: `holds`, that the match holds, and `negation_holds`, that its negation does. A field that a packet does not
 -- have is in no relation: neither holds then.
-use Rattle.std.specs.Prelude.{ℕ, ◌==◌, Bool, not, ◌&&◌, ◌||◌, true, false, List, [], ◌∷◌}
+use Rattle.std.specs.Prelude.{ℕ, ◌==◌, Bool, not, ◌&&◌, ◌||◌, true, false}
 use Rattle.std.specs.List.{list_any, list_all}
 use Rattle.nv_base.specs.declared.field.Field.{Field}
-use Rattle.nv_base.specs.declared.field.Field.TheVariants.{EthDst, EthType, IpProto, Ip4Dst, CtState}
 use Rattle.nv_base.specs.Field.{field_width}
 use Rattle.pkt_core.specs.Packet.{Values, value}
 use Rattle.pkt_core.specs.Prerequisite.{is_there}
@@ -12,55 +11,30 @@ use Rattle.expr_core.specs.Formula.{Formula, Formulas}
 use Rattle.expr_core.specs.Formula.Formula.{Leaf, Not, And, Or}
 use Rattle.expr_core.specs.Formula.Formulas.{Nil, Cons}
 use Rattle.expr_core.specs.Lookup.{Lookup}
+use Rattle.expr_core.specs.Opposite.{opposite}
+use Rattle.expr_core.specs.Tests.{test, tests}
+use Rattle.expr_core.specs.declared.test.Test.{Test}
 use Rattle.expr_core.specs.Width.{bits_of}
 use Rattle.expr_core.specs.declared.part.Bits.{Bits}
-use Rattle.expr_core.specs.declared.part.Bits.TheVariants.{Whole, Bit, Range}
-use Rattle.expr_core.specs.declared.predicate.Pred.{Pred}
-use Rattle.expr_core.specs.declared.predicate.Pred.TheVariants as pred
 use Rattle.expr_core.specs.declared.typed.TypedAtom.{TypedAtom}
 use Rattle.expr_core.specs.declared.typed.TypedAtom.TheVariants.{Truth, Bare, Holds, Compare}
-use Rattle.expr_eval.specs.Relation.{relates, opposite}
-
--- a part of a field, and a number
-pub record Test : Type 0 where
-  pub field : Field
-  pub bits : Bits
-  pub number : ℕ
-
-abbrev pub test : Field → Bits → ℕ → Test
-test field bits number = record { field = field; bits = bits; number = number }
-
--- a predicate holds where one of these tests does (ovn-sb(5), predicates)
-abbrev pub tests : Pred → List Test
-tests pred.EthMcast = test EthDst (Bit 40) 1 ∷ []
-tests pred.EthBcast = test EthDst Whole 0xffff_ffff_ffff ∷ []
-tests pred.Ip4 = test EthType Whole 0x800 ∷ []
-tests pred.Arp = test EthType Whole 0x806 ∷ []
-tests pred.Ip6 = test EthType Whole 0x86dd ∷ []
-tests pred.Ip = test EthType Whole 0x800 ∷ test EthType Whole 0x86dd ∷ []
-tests pred.Tcp = test IpProto Whole 6 ∷ []
-tests pred.Udp = test IpProto Whole 17 ∷ []
-tests pred.Icmp4 = test IpProto Whole 1 ∷ []
-tests pred.Icmp = test IpProto Whole 1 ∷ []
-tests pred.Ip4Mcast = test Ip4Dst (Range 28 31) 0xe ∷ []
-tests pred.CtNew = test CtState (Bit 0) 1 ∷ []
-tests pred.CtEst = test CtState (Bit 1) 1 ∷ []
-tests pred.CtRel = test CtState (Bit 2) 1 ∷ []
-tests pred.CtRpl = test CtState (Bit 3) 1 ∷ []
-tests pred.CtInv = test CtState (Bit 4) 1 ∷ []
-tests pred.CtTrk = test CtState (Bit 5) 1 ∷ []
+use Rattle.expr_eval.specs.Relation.{relates}
 
 -- the number of a part of the packet
 abbrev pub part_of : Values → Field → Bits → ℕ
 part_of packet field bits = bits_of bits (value packet field)
 
+-- the part has the number of the test
+abbrev pub passes : Values → Test → Bool
+passes packet t = part_of packet t.field t.bits == t.number
+
 -- the packet has the field, and the part has this number
 abbrev pub has : Values → Test → Bool
-has packet t = is_there packet t.field && (part_of packet t.field t.bits == t.number)
+has packet t = is_there packet t.field && passes packet t
 
 -- the packet has the field, and the part has another number
 abbrev pub has_not : Values → Test → Bool
-has_not packet t = is_there packet t.field && not (part_of packet t.field t.bits == t.number)
+has_not packet t = is_there packet t.field && not (passes packet t)
 
 -- A part alone is the test for 1. A comparison needs its field, and then the part is in the relation to the right side.
 abbrev pub atom_holds : Lookup → Values → TypedAtom → Bool

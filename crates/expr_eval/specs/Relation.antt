@@ -34,30 +34,18 @@ abbrev pub equals : Lookup → ℕ → ℕ → Right → Bool
 equals net width n (right_of.Item i) = equals_item net width n i
 equals net width n (right_of.Set is) = list_any (equals_item net width n) is
 
--- the one number that a right side is, if it is one
-abbrev pub number_of : Right → Option ℕ
-number_of (right_of.Item (One c)) = Some c.value
-number_of _ = None
+-- the number is in the relation to another
+abbrev pub compares : ℕ → Rel → ℕ → Bool
+compares n Eq c = n == c
+compares n Ne c = not (n == c)
+compares n Lt c = nat_lt n c
+compares n Le c = nat_le n c
+compares n Gt c = nat_lt c n
+compares n Ge c = nat_le c n
 
--- the test holds of the number, where there is one
-abbrev pub is_so : (ℕ → Bool) → Option ℕ → Bool
-is_so test None = false
-is_so test (Some n) = test n
-
--- the number, of a field of this width, is in the relation to the right side
+-- The number, of a field of this width, is in the relation to the right side. Only one number is in an order.
 abbrev pub relates : Lookup → ℕ → ℕ → Rel → Right → Bool
+relates net width n rel (right_of.Item (One c)) = compares n rel c.value
 relates net width n Eq right = equals net width n right
 relates net width n Ne right = not (equals net width n right)
-relates net width n Lt right = is_so (λ c. nat_lt n c) (number_of right)
-relates net width n Le right = is_so (λ c. nat_le n c) (number_of right)
-relates net width n Gt right = is_so (λ c. nat_lt c n) (number_of right)
-relates net width n Ge right = is_so (λ c. nat_le c n) (number_of right)
-
--- the relation that holds where the other does not
-abbrev pub opposite : Rel → Rel
-opposite Eq = Ne
-opposite Ne = Eq
-opposite Lt = Ge
-opposite Le = Gt
-opposite Gt = Le
-opposite Ge = Lt
+relates net width n rel right = false

@@ -12,7 +12,8 @@ use Rattle.expr_parse.specs.Class.{begins_name}
 use Rattle.expr_parse.specs.Token.{Token}
 use Rattle.expr_parse.specs.Token.Token.{And, Or, Open, Close}
 use Rattle.expr_parse.specs.Spelling.{is_in_name, is_name}
-use Rattle.expr_parse.specs.Written.{IsLeaf, AreTwo, IsWellFormed, AreWellFormed, IsLexed, enclosed_tokens, tree_tokens, operand_tokens, more_tokens}
+use Rattle.expr_parse.specs.Written.{IsLeaf, IsLexed, enclosed_tokens, tree_tokens, operand_tokens, more_tokens}
+use Rattle.expr_core.specs.WellFormed.{AreTwo, IsWellFormed, AreWellFormed}
 use Rattle.std.specs.List.{list_all}
 use Rattle.expr_parse.proofs.Classes.{apart}
 use Rattle.expr_parse.proofs.Lexed.{Lexed, respelled, regrouped, three_pieces, nothing}
@@ -48,13 +49,13 @@ enclosed_begins true text begins = (40, text ++ 41 ∷ [], refl, refl)
 enclosed_begins false text begins = and_more text [] begins
 
 mutual
-  tree_begins : (f : Formula Atom) → IsWellFormed f → Begins (formula_text expr_writing f)
+  tree_begins : (f : Formula Atom) → IsWellFormed IsLeaf f → Begins (formula_text expr_writing f)
   tree_begins (Leaf a) is = atom_begins a is
   tree_begins (Negation f) is = (33, enclosed (needs_parentheses expr_writing f) (formula_text expr_writing f), refl, refl)
   tree_begins (Conjunction fs) is = operands_begin (32 ∷ 38 ∷ 38 ∷ 32 ∷ []) fs is.0 is.1
   tree_begins (Disjunction fs) is = operands_begin (32 ∷ 124 ∷ 124 ∷ 32 ∷ []) fs is.0 is.1
 
-  operands_begin : (operator : List ℕ) (fs : Formulas Atom) → AreTwo fs → AreWellFormed fs → Begins (operands_text expr_writing [] operator fs)
+  operands_begin : (operator : List ℕ) (fs : Formulas Atom) → AreTwo fs → AreWellFormed IsLeaf fs → Begins (operands_text expr_writing [] operator fs)
   operands_begin operator Nil two all = absurd two
   operands_begin operator (Cons f fs) two all = and_more (enclosed (is_joined f) (formula_text expr_writing f)) (operands_text expr_writing operator operator fs) (enclosed_begins (is_joined f) (formula_text expr_writing f) (tree_begins f all.0))
 
@@ -91,7 +92,7 @@ operand b text more rest us vs ts lexes stop after =
     regrouped _ _ _ _ (append_assoc (enclosed b text) more rest) (append_assoc (enclosed_tokens b us) vs ts) (in_parentheses b text us lexes (more ++ rest) (vs ++ ts) stop after)
 
 mutual
-  tree : (f : Formula Atom) → IsWellFormed f → Lexes (formula_text expr_writing f) (tree_tokens f)
+  tree : (f : Formula Atom) → IsWellFormed IsLeaf f → Lexes (formula_text expr_writing f) (tree_tokens f)
   tree (Leaf a) is rest ts stop after = atom a rest ts is stop after
   tree (Negation f) is rest ts stop after =
       let b = needs_parentheses expr_writing f in
@@ -100,14 +101,14 @@ mutual
   tree (Conjunction fs) is rest ts stop after = operands (32 ∷ 38 ∷ 38 ∷ 32 ∷ []) And both fs is.1 rest ts stop after
   tree (Disjunction fs) is rest ts stop after = operands (32 ∷ 124 ∷ 124 ∷ 32 ∷ []) Or either fs is.1 rest ts stop after
 
-  operands : (operator : List ℕ) (sign : Token) → IsOperator operator sign → (fs : Formulas Atom) → AreWellFormed fs → Lexes (operands_text expr_writing [] operator fs) (operand_tokens sign fs)
+  operands : (operator : List ℕ) (sign : Token) → IsOperator operator sign → (fs : Formulas Atom) → AreWellFormed IsLeaf fs → Lexes (operands_text expr_writing [] operator fs) (operand_tokens sign fs)
   operands operator sign o Nil all rest ts stop after = after
   operands operator sign o (Cons f fs) all rest ts stop after =
       operand (is_joined f) (formula_text expr_writing f) (operands_text expr_writing operator operator fs) rest (tree_tokens f) (more_tokens sign fs) ts
       (tree f all.0) (operands_stop operator sign fs rest o stop) (more operator sign o fs all.1 rest ts stop after)
 
   -- the operands after the first
-  more : (operator : List ℕ) (sign : Token) → IsOperator operator sign → (fs : Formulas Atom) → AreWellFormed fs → Lexes (operands_text expr_writing operator operator fs) (more_tokens sign fs)
+  more : (operator : List ℕ) (sign : Token) → IsOperator operator sign → (fs : Formulas Atom) → AreWellFormed IsLeaf fs → Lexes (operands_text expr_writing operator operator fs) (more_tokens sign fs)
   more operator sign o Nil all rest ts stop after = after
   more operator sign o (Cons f fs) all rest ts stop after =
       respelled _ _ _ (pieces operator (enclosed (is_joined f) (formula_text expr_writing f)) (operands_text expr_writing operator operator fs) rest)
@@ -117,7 +118,7 @@ mutual
       pieces : (a b c d : List ℕ) → ((a ++ b) ++ c) ++ d ≡ a ++ ((b ++ c) ++ d)
       pieces a b c d = simp append_assoc refl
 
-pub tree_lexed : (f : Formula Atom) → IsWellFormed f → IsLexed f
+pub tree_lexed : (f : Formula Atom) → IsWellFormed IsLeaf f → IsLexed f
 tree_lexed f is =
     let lexed : Lexed (expr_text f) (tree_tokens f) = regrouped (expr_text f) (expr_text f ++ []) (tree_tokens f) (tree_tokens f ++ []) (sym (append-nil (expr_text f))) (sym (append-nil (tree_tokens f))) (tree f is [] [] tt nothing) in
     let here = lexed (length (expr_text f) + 1) 0 (omega arith) in

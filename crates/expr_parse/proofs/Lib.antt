@@ -32,3 +32,5 @@ pub mod TakesRight
 pub mod TreeTokens
 pub mod TokenKinds
 pub mod Whole
+pub mod Spelled
+pub mod WellFormed

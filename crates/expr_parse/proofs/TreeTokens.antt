@@ -21,7 +21,11 @@ use Rattle.expr_parse.specs.GrammarRules.IsMatch.{alone, joined as is_match}
 use Rattle.expr_parse.specs.GrammarRules.AreUnits.{last, more}
 use Rattle.expr_parse.specs.GrammarRules.IsUnit.{plain, comparison}
 use Rattle.expr_parse.specs.GrammarRules.IsOperand.{truth as is_truth, bare as is_bare, negation as is_negation, enclosed as is_enclosed}
-use Rattle.expr_parse.specs.Written.{IsRightSide, IsPartName, IsLeaf, AreTwo, IsWellFormed, AreWellFormed, one_if, levels_of, levels_among, part_tokens, right_tokens, atom_tokens, enclosed_tokens, tree_tokens, operand_tokens, more_tokens, without_offsets, all_without_offsets}
+use Rattle.expr_parse.specs.Written.{IsRightSide, IsPartName, IsLeaf, part_tokens, right_tokens, atom_tokens, enclosed_tokens, tree_tokens, operand_tokens, more_tokens}
+use Rattle.expr_core.specs.Named.{without_offsets}
+use Rattle.expr_core.specs.WellFormed.{AreTwo, IsWellFormed, AreWellFormed, one_if, levels_of, levels_among}
+use Rattle.expr_core.specs.Formula.{formulas_map}
+use Rattle.expr_core.specs.Named.{atom_without_offset}
 use Rattle.expr_parse.proofs.TokenKinds.{kinds_none, kinds_first, kinds_split}
 
 -- The tokens are by this rule a tree that differs from the given one in its offsets at most.
@@ -29,7 +33,7 @@ abbrev Alike : (Formula Atom → Type 0) → Formula Atom → Type 0
 Alike Is f = (g : Formula Atom) × Is g × (without_offsets g ≡ without_offsets f)
 
 abbrev UnitsAlike : ℕ → Operator → Tokens → Formulas Atom → Type 0
-UnitsAlike n o ts fs = (gs : List (Formula Atom)) × AreUnits n o ts gs × (all_without_offsets (formulas gs) ≡ all_without_offsets fs)
+UnitsAlike n o ts fs = (gs : List (Formula Atom)) × AreUnits n o ts gs × (formulas_map atom_without_offset (formulas gs) ≡ formulas_map atom_without_offset fs)
 
 -- by which rules the tokens are a tree
 record ByRules (n : ℕ) (ts : Tokens) (f : Formula Atom) : Type 0 where
@@ -39,7 +43,7 @@ record ByRules (n : ℕ) (ts : Tokens) (f : Formula Atom) : Type 0 where
 
 -- the tree's tokens are the tree by the rules, where enough levels may be opened
 abbrev Ruled : Formula Atom → Type 0
-Ruled f = (n : ℕ) (ts : Tokens) → levels_of f ≤ n → kinds ts ≡ tree_tokens f → ByRules n ts f
+Ruled f = (n : ℕ) (ts : Tokens) → levels_of expr_writing f ≤ n → kinds ts ≡ tree_tokens f → ByRules n ts f
 
 abbrev AllRuled : Formulas Atom → Type 0
 AllRuled Nil = Unit {0}
@@ -91,7 +95,7 @@ leaf_ruled (Compare p r s) is n ts le e =
 
 -- Parentheses
 
-in_parentheses : (n : ℕ) (ts : Tokens) (f : Formula Atom) → Ruled f → levels_of f ≤ n → kinds ts ≡ enclosed_tokens true (tree_tokens f) → Alike (IsOperand (suc n) ts) f
+in_parentheses : (n : ℕ) (ts : Tokens) (f : Formula Atom) → Ruled f → levels_of expr_writing f ≤ n → kinds ts ≡ enclosed_tokens true (tree_tokens f) → Alike (IsOperand (suc n) ts) f
 in_parentheses n ts f ruled le e =
     let opening = kinds_first ts Open (tree_tokens f ++ Close ∷ []) e in
     let cut = kinds_split opening.1 (tree_tokens f) (Close ∷ []) opening.3 in
@@ -102,7 +106,7 @@ in_parentheses n ts f ruled le e =
     (inner.0, is_enclosed opening.0 closing.0 cut.0 whole inner.1, inner.2)
 
 -- what `!` negates
-negated : (b : Bool) (n : ℕ) (ts : Tokens) (f : Formula Atom) → needs_parentheses expr_writing f ≡ b → Ruled f → one_if b + levels_of f ≤ n → kinds ts ≡ enclosed_tokens b (tree_tokens f) → Alike (IsOperand n ts) f
+negated : (b : Bool) (n : ℕ) (ts : Tokens) (f : Formula Atom) → needs_parentheses expr_writing f ≡ b → Ruled f → one_if b + levels_of expr_writing f ≤ n → kinds ts ≡ enclosed_tokens b (tree_tokens f) → Alike (IsOperand n ts) f
 negated true zero ts f needs ruled le e = absurd (omega arith)
 negated true (suc n) ts f needs ruled le e = in_parentheses n ts f ruled (omega arith) e
 negated false n ts f needs ruled le e = (ruled n ts (omega arith) e).as_operand needs
@@ -118,32 +122,32 @@ negation_ruled f ruled (suc n) ts le e =
 -- Operands
 
 -- what an operator joins
-joined : (b : Bool) (n : ℕ) (ts : Tokens) (f : Formula Atom) → is_joined f ≡ b → Ruled f → one_if b + levels_of f ≤ n → kinds ts ≡ enclosed_tokens b (tree_tokens f) → Alike (IsUnit n ts) f
+joined : (b : Bool) (n : ℕ) (ts : Tokens) (f : Formula Atom) → is_joined f ≡ b → Ruled f → one_if b + levels_of expr_writing f ≤ n → kinds ts ≡ enclosed_tokens b (tree_tokens f) → Alike (IsUnit n ts) f
 joined true zero ts f joins ruled le e = absurd (omega arith)
 joined true (suc n) ts f joins ruled le e = a_unit f (in_parentheses n ts f ruled (omega arith) e)
 joined false n ts f joins ruled le e = (ruled n ts (omega arith) e).as_unit joins
 
-units_ruled : (f : Formula Atom) (fs : Formulas Atom) → Ruled f → AllRuled fs → (n : ℕ) (o : Operator) (ts : Tokens) → levels_among (Cons f fs) ≤ n → kinds ts ≡ operand_tokens (sign o) (Cons f fs) → UnitsAlike n o ts (Cons f fs)
+units_ruled : (f : Formula Atom) (fs : Formulas Atom) → Ruled f → AllRuled fs → (n : ℕ) (o : Operator) (ts : Tokens) → levels_among expr_writing (Cons f fs) ≤ n → kinds ts ≡ operand_tokens (sign o) (Cons f fs) → UnitsAlike n o ts (Cons f fs)
 units_ruled f Nil ruled each n o ts le e =
-    let here : one_if (is_joined f) + levels_of f ≤ n = omega (arith, le-max_left (one_if (is_joined f) + levels_of f) 0) in
+    let here : one_if (is_joined f) + levels_of expr_writing f ≤ n = omega (arith, le-max_left (one_if (is_joined f) + levels_of expr_writing f) 0) in
     let u = joined (is_joined f) n ts f refl ruled here (e ∙ append-nil (enclosed_tokens (is_joined f) (tree_tokens f))) in
     (u.0 ∷ [], last u.0 u.1, ap (λ g. Cons g Nil) u.2)
 units_ruled f (Cons g gs) ruled each n o ts le e =
-    let here : one_if (is_joined f) + levels_of f ≤ n = omega (arith, le-max_left (one_if (is_joined f) + levels_of f) (levels_among (Cons g gs))) in
-    let there : levels_among (Cons g gs) ≤ n = omega (arith, le-max_right (one_if (is_joined f) + levels_of f) (levels_among (Cons g gs))) in
+    let here : one_if (is_joined f) + levels_of expr_writing f ≤ n = omega (arith, le-max_left (one_if (is_joined f) + levels_of expr_writing f) (levels_among expr_writing (Cons g gs))) in
+    let there : levels_among expr_writing (Cons g gs) ≤ n = omega (arith, le-max_right (one_if (is_joined f) + levels_of expr_writing f) (levels_among expr_writing (Cons g gs))) in
     let cut = kinds_split ts (enclosed_tokens (is_joined f) (tree_tokens f)) (more_tokens (sign o) (Cons g gs)) e in
     let next = kinds_first cut.1 (sign o) (operand_tokens (sign o) (Cons g gs)) cut.4 in
     let u = joined (is_joined f) n cut.0 f refl ruled here cut.3 in
     let us = units_ruled g gs each.0 each.1 n o next.1 there next.3 in
     let whole : ts ≡ cut.0 ++ (next.0, sign o) ∷ next.1 = cut.2 ∙ ap (λ xs. cut.0 ++ xs) next.2 in
-    (u.0 ∷ us.0, more cut.0 next.0 next.1 whole u.1 us.1, ap (λ h. Cons h (all_without_offsets (formulas us.0))) u.2 ∙ ap (λ hs. Cons (without_offsets f) hs) us.2)
+    (u.0 ∷ us.0, more cut.0 next.0 next.1 whole u.1 us.1, ap (λ h. Cons h (formulas_map atom_without_offset (formulas us.0))) u.2 ∙ ap (λ hs. Cons (without_offsets f) hs) us.2)
 
 -- two operands or more make a tree
-same_joined : (o : Operator) (fs gs : Formulas Atom) → all_without_offsets fs ≡ all_without_offsets gs → without_offsets (join o fs) ≡ without_offsets (join o gs)
+same_joined : (o : Operator) (fs gs : Formulas Atom) → formulas_map atom_without_offset fs ≡ formulas_map atom_without_offset gs → without_offsets (join o fs) ≡ without_offsets (join o gs)
 same_joined operator.And fs gs e = ap (λ hs. Conjunction hs) e
 same_joined operator.Or fs gs e = ap (λ hs. Disjunction hs) e
 
-joined_alike : (o : Operator) (n : ℕ) (ts : Tokens) (gs : List (Formula Atom)) (f g : Formula Atom) (fs : Formulas Atom) → AreUnits n o ts gs → all_without_offsets (formulas gs) ≡ all_without_offsets (Cons f (Cons g fs)) → Alike (IsMatch n ts) (join o (Cons f (Cons g fs)))
+joined_alike : (o : Operator) (n : ℕ) (ts : Tokens) (gs : List (Formula Atom)) (f g : Formula Atom) (fs : Formulas Atom) → AreUnits n o ts gs → formulas_map atom_without_offset (formulas gs) ≡ formulas_map atom_without_offset (Cons f (Cons g fs)) → Alike (IsMatch n ts) (join o (Cons f (Cons g fs)))
 joined_alike o n ts [] f g fs us e = absurd (cc)
 joined_alike o n ts (h ∷ []) f g fs us e = absurd (cc)
 joined_alike o n ts (h ∷ i ∷ hs) f g fs us e = (join o (formulas (h ∷ i ∷ hs)), is_match o h i hs us, same_joined o (formulas (h ∷ i ∷ hs)) (Cons f (Cons g fs)) e)
@@ -163,16 +167,16 @@ disjunction_ruled (Cons f (Cons g fs)) two each n ts le e =
     record { as_match = joined_alike operator.Or n ts us.0 f g fs us.1 us.2; as_unit = λ joins. absurd (cc); as_operand = λ needs. absurd (cc) }
 
 mutual
-  tree_ruled : (f : Formula Atom) → IsWellFormed f → Ruled f
+  tree_ruled : (f : Formula Atom) → IsWellFormed IsLeaf f → Ruled f
   tree_ruled (Leaf a) is = leaf_ruled a is
   tree_ruled (Negation f) is = negation_ruled f (tree_ruled f is)
   tree_ruled (Conjunction fs) is = conjunction_ruled fs is.0 (trees_ruled fs is.1)
   tree_ruled (Disjunction fs) is = disjunction_ruled fs is.0 (trees_ruled fs is.1)
 
-  trees_ruled : (fs : Formulas Atom) → AreWellFormed fs → AllRuled fs
+  trees_ruled : (fs : Formulas Atom) → AreWellFormed IsLeaf fs → AllRuled fs
   trees_ruled Nil each = tt
   trees_ruled (Cons f fs) each = (tree_ruled f each.0, trees_ruled fs each.1)
 
 -- the tokens of a well-formed tree are, by the rules, a match that differs from it in its offsets at most
-pub tokens_are_the_tree : (f : Formula Atom) → IsWellFormed f → (n : ℕ) → levels_of f ≤ n → (ts : Tokens) → kinds ts ≡ tree_tokens f → Alike (IsMatch n ts) f
+pub tokens_are_the_tree : (f : Formula Atom) → IsWellFormed IsLeaf f → (n : ℕ) → levels_of expr_writing f ≤ n → (ts : Tokens) → kinds ts ≡ tree_tokens f → Alike (IsMatch n ts) f
 tokens_are_the_tree f is n le ts e = (tree_ruled f is n ts le e).as_match

@@ -1,8 +1,9 @@
 -- Trees that have a text, and the tokens of that text.
-use Rattle.std.specs.Prelude.{◌≡◌, ℕ, ◌+◌, ◌<◌, ◌^◌, Bool, true, max, List, [], ◌∷◌, ◌++◌, length, if◌then◌else◌}
+use Rattle.std.specs.Prelude.{◌≡◌, ℕ, ◌<◌, ◌^◌, Bool, true, List, [], ◌∷◌, ◌++◌, length, if◌then◌else◌}
 use Rattle.expr_core.specs.Formula.{Formula, Formulas}
 use Rattle.expr_core.specs.Formula.Formula.{Leaf, Not as Negation, And as Conjunction, Or as Disjunction}
 use Rattle.expr_core.specs.Formula.Formulas.{Nil, Cons}
+use Rattle.expr_core.specs.Named.{without_offsets}
 use Rattle.expr_core.specs.Text.{is_joined, needs_parentheses, expr_writing, expr_text}
 use Rattle.expr_core.specs.declared.constant.Const.{Const}
 use Rattle.expr_core.specs.declared.constant.Form.{Form}
@@ -59,40 +60,6 @@ IsLeaf (Truth b) = Unit {0}
 IsLeaf (Bare p) = IsPartName p
 IsLeaf (Compare p r s) = IsPartName p × IsRightSide s
 
--- two or more
-abbrev pub AreTwo : Formulas Atom → Type 0
-AreTwo Nil = ⊥
-AreTwo (Cons f Nil) = ⊥
-AreTwo (Cons f (Cons g fs)) = Unit {0}
-
-abbrev mutual
-  pub IsWellFormed : Formula Atom → Type 0
-  IsWellFormed (Leaf a) = IsLeaf a
-  IsWellFormed (Negation f) = IsWellFormed f
-  IsWellFormed (Conjunction fs) = AreTwo fs × AreWellFormed fs
-  IsWellFormed (Disjunction fs) = AreTwo fs × AreWellFormed fs
-
-  pub AreWellFormed : Formulas Atom → Type 0
-  AreWellFormed Nil = Unit {0}
-  AreWellFormed (Cons f fs) = IsWellFormed f × AreWellFormed fs
-
--- How many levels are open in the canonical text of a tree, where most are open: each `!` and each `(` opens one.
-
--- one more, where there are parentheses
-abbrev pub one_if : Bool → ℕ
-one_if parentheses = if parentheses then 1 else 0
-
-abbrev mutual
-  pub levels_of : Formula Atom → ℕ
-  levels_of (Leaf a) = 0
-  levels_of (Negation f) = 1 + (one_if (needs_parentheses expr_writing f) + levels_of f)
-  levels_of (Conjunction fs) = levels_among fs
-  levels_of (Disjunction fs) = levels_among fs
-
-  pub levels_among : Formulas Atom → ℕ
-  levels_among Nil = 0
-  levels_among (Cons f fs) = max (one_if (is_joined f) + levels_of f) (levels_among fs)
-
 -- The tokens of the canonical text.
 
 abbrev pub part_tokens : Part → List Token
@@ -131,27 +98,6 @@ abbrev mutual
 pub record IsLexed (f : Formula Atom) : Type 0 where
   pub whole : (tokens_of (expr_text f)).1 ≡ length (expr_text f)
   pub tokens : kinds (tokens_of (expr_text f)).0 ≡ tree_tokens f
-
--- Matches without their offsets.
-
-abbrev pub part_without_offset : Part → Part
-part_without_offset p = record { name = p.name; bits = p.bits; offset = 0 }
-
-abbrev pub atom_without_offset : Atom → Atom
-atom_without_offset (Truth b) = Truth b
-atom_without_offset (Bare p) = Bare (part_without_offset p)
-atom_without_offset (Compare p r s) = Compare (part_without_offset p) r s
-
-abbrev mutual
-  pub without_offsets : Formula Atom → Formula Atom
-  without_offsets (Leaf a) = Leaf (atom_without_offset a)
-  without_offsets (Negation f) = Negation (without_offsets f)
-  without_offsets (Conjunction fs) = Conjunction (all_without_offsets fs)
-  without_offsets (Disjunction fs) = Disjunction (all_without_offsets fs)
-
-  pub all_without_offsets : Formulas Atom → Formulas Atom
-  all_without_offsets Nil = Nil
-  all_without_offsets (Cons f fs) = Cons (without_offsets f) (all_without_offsets fs)
 
 -- The text of a tree is read as the tree, without offsets.
 abbrev pub IsReadAgain : Formula Atom → Type 0

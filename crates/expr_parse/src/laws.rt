@@ -5,7 +5,9 @@ ghost use Rattle.expr_core.specs.declared.expr.Atom.{Atom};
 ghost use Rattle.expr_parse.specs.Grammar.{level_limit, reading};
 ghost use Rattle.expr_parse.specs.Grammar.Reading.{Read};
 ghost use Rattle.expr_parse.specs.GrammarRules.{IsText};
-ghost use Rattle.expr_parse.specs.Written.{IsWellFormed, IsLexed, IsReadAgain, levels_of};
+ghost use Rattle.expr_parse.specs.Written.{IsLexed, IsReadAgain, IsLeaf};
+ghost use Rattle.expr_core.specs.WellFormed.{IsWellFormed, levels_of};
+ghost use Rattle.expr_core.specs.Text.{expr_writing};
 
 /// What is read of a text is a match by the rules of the grammar.
 pub fn what_is_read_is_a_match()
@@ -17,12 +19,17 @@ pub fn a_match_is_read()
     ensures { (text : List ℕ) (f : Formula Atom) → IsText text f → reading text ≡ Read f [] }
 {}
 
+/// What is read is well-formed, and its canonical text opens at most 64 levels.
+pub fn what_is_read_is_well_formed()
+    ensures { (text : List ℕ) (f : Formula Atom) → reading text ≡ Read f [] → IsWellFormed IsLeaf f × (levels_of expr_writing f ≤ level_limit) }
+{}
+
 /// The tokens of a well-formed match's canonical text are the match's, and reach the end of the text.
 pub fn written_matches_have_their_tokens()
-    ensures { (f : Formula Atom) → IsWellFormed f → IsLexed f }
+    ensures { (f : Formula Atom) → IsWellFormed IsLeaf f → IsLexed f }
 {}
 
 /// The canonical text of a well-formed match, where it opens at most 64 levels, is read as the match, without offsets.
 pub fn written_matches_are_read()
-    ensures { (f : Formula Atom) → IsWellFormed f → levels_of f ≤ level_limit → IsReadAgain f }
+    ensures { (f : Formula Atom) → IsWellFormed IsLeaf f → levels_of expr_writing f ≤ level_limit → IsReadAgain f }
 {}

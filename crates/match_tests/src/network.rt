@@ -1,4 +1,4 @@
-ghost use Rattle.std.specs.Prelude.{◌&&◌, ◌==◌, false, Some, None, codes, nat_eq, if◌then◌else◌};
+ghost use Rattle.std.specs.Prelude.{◌&&◌, ◌==◌, false, Some, None, codes, nat_eq, refl, if◌then◌else◌};
 ghost use Rattle.std.specs.Cmp.Lexicographic.{pointwise};
 
 use expr_core::Env;
@@ -34,4 +34,6 @@ impl Env for Few {
     fn is_switch(&self, _dp: ObjId) -> bool {
         false
     }
+
+    ghost multicast_is_no_port = { λ _. (refl, refl) };
 }

@@ -12,7 +12,7 @@ use Rattle.nv_serve.specs.declared.stop.Stop.TheVariants as stops
 use Rattle.nv_serve.specs.Network.{Tables}
 use Rattle.nv_serve.specs.Reply.{reply}
 use Rattle.nv_serve.specs.Output.{output, complete_output, input_limit}
-use Rattle.nv_serve.specs.Calls.{IsPrefix, Gave, Took, Moved, told_left, Point, start_at, IsReady, piece_limit, Calls, no_call, and_take, and_puts, LastTakeGivesNothing}
+use Rattle.nv_serve.specs.Calls.{IsPrefix, BeginsDue, Gave, Took, Moved, told_left, Point, start_at, IsReady, piece_limit, Calls, no_call, and_take, and_puts, LastTakeGivesNothing}
 use Rattle.nv_serve.specs.inner.Pieces.{IsDue, BeginsOutput}
 use Rattle.nv_serve.specs.inner.StateAfter.{IsStateAfter}
 use Rattle.nv_serve.specs.inner.Writing.{Wrote, PutFailed, StopsWithin}
@@ -123,6 +123,13 @@ module _ {S K : Type 0} (takes : S → List ℕ → Result ℕ SourceFailed → 
             ∙ append_assoc (complete_output so_far.given ++ part) after_it more,
       )
 
+      -- both of what was given and of the whole input
+      begins_due : (bytes rest : List ℕ) → take n into ≡ bytes ++ rest → (text part : List ℕ) → IsPrefix part text → BeginsOutput so_far.given bytes text → BeginsDue output (so_far.given ++ take n into) (told_left (source_state u).left) (complete_output so_far.given ++ part)
+      begins_due bytes rest cut text part begins due = (
+        subst (λ input. IsPrefix (complete_output so_far.given ++ part) (output input)) (append-nil (so_far.given ++ take n into)) (begins_within bytes rest [] cut text part begins (due (rest ++ []))),
+        begins_within bytes rest (told_left (source_state u).left) cut text part begins (due (rest ++ told_left (source_state u).left)),
+      )
+
       -- what is within the limit of a piece
       shorter : room ≤ n → take room (take n into) ≡ take room into
       shorter fits = take-take room n into fits
@@ -132,7 +139,7 @@ module _ {S K : Type 0} (takes : S → List ℕ → Result ℕ SourceFailed → 
 
       -- a put failed after a part, or memory ran out
       put_failed : (m : K) (given part : List ℕ) → Calls takes puts (start_at s k) (at_point u l given (complete_output so_far.given)) → Gave (source_state s) (source_state u) given
-          → IsPrefix (complete_output so_far.given ++ part) (output (given ++ told_left (source_state u).left)) → PutFailed puts sink_state l m part → StopsAt s k u m stops.WriteFault
+          → BeginsDue output given (told_left (source_state u).left) (complete_output so_far.given ++ part) → PutFailed puts sink_state l m part → StopsAt s k u m stops.WriteFault
       put_failed m given part calls gave begins failed = (
         given,
         complete_output so_far.given ++ part,
@@ -145,7 +152,7 @@ module _ {S K : Type 0} (takes : S → List ℕ → Result ℕ SourceFailed → 
       )
 
       no_memory : (m : K) (given part : List ℕ) → Calls takes puts (start_at s k) (at_point u l given (complete_output so_far.given)) → Gave (source_state s) (source_state u) given
-          → IsPrefix (complete_output so_far.given ++ part) (output (given ++ told_left (source_state u).left)) → Wrote puts sink_state l m part → StopsAt s k u m stops.OutOfMemory
+          → BeginsDue output given (told_left (source_state u).left) (complete_output so_far.given ++ part) → Wrote puts sink_state l m part → StopsAt s k u m stops.OutOfMemory
       no_memory m given part calls gave begins wrote = (
         given,
         complete_output so_far.given ++ part,
@@ -160,9 +167,9 @@ module _ {S K : Type 0} (takes : S → List ℕ → Result ℕ SourceFailed → 
       -- stopped within a piece
       pub stopped_within : (m : K) (bytes rest : List ℕ) (stop : Stop) → take n into ≡ bytes ++ rest → Stopped l m bytes stop → StopsAt s k u m stop
       stopped_within m bytes rest stops.WriteFault cut (text, due, (part, begins, failed)) =
-          put_failed m _ part taken_calls gave_in_all (begins_within bytes rest _ cut text part begins (due (rest ++ told_left (source_state u).left))) failed
+          put_failed m _ part taken_calls gave_in_all (begins_due bytes rest cut text part begins due) failed
       stopped_within m bytes rest stops.OutOfMemory cut (text, due, (part, begins, wrote)) =
-          no_memory m _ part taken_calls gave_in_all (begins_within bytes rest _ cut text part begins (due (rest ++ told_left (source_state u).left))) wrote
+          no_memory m _ part taken_calls gave_in_all (begins_due bytes rest cut text part begins due) wrote
       stopped_within m bytes rest stops.ReadFault cut (text, due, none) = absurd none
       stopped_within m bytes rest stops.InputTooLong cut (text, due, none) = absurd none
 
@@ -225,16 +232,20 @@ module _ {S K : Type 0} (takes : S → List ℕ → Result ℕ SourceFailed → 
       )
 
       -- a part of the last reply begins the output
-      begins_at_end : IsAtEnd (source_state u).left → (part : List ℕ) → IsPrefix part (reply network line).text → IsPrefix (complete_output so_far.given ++ part) (output (so_far.given ++ told_left (source_state u).left))
-      begins_at_end at_end part (after_it, part_of) = (
-        after_it,
-        ap output (ap (λ b. so_far.given ++ b) (none_left (source_state u).left at_end) ∙ append-nil so_far.given)
-            ∙ written_end network line refused so_far.given so_far.stands ∙ ap (λ t. complete_output so_far.given ++ t) part_of
-            ∙ sym (append_assoc (complete_output so_far.given) part after_it),
+      begins_at_end : (part : List ℕ) → IsPrefix part (reply network line).text → IsPrefix (complete_output so_far.given ++ part) (output so_far.given)
+      begins_at_end part (following, part_of) = (
+        following,
+        written_end network line refused so_far.given so_far.stands ∙ ap (λ t. complete_output so_far.given ++ t) part_of ∙ sym (append_assoc (complete_output so_far.given) part following),
       )
 
+      begins_due_at_end : IsAtEnd (source_state u).left → (part : List ℕ) → IsPrefix part (reply network line).text → BeginsDue output so_far.given (told_left (source_state u).left) (complete_output so_far.given ++ part)
+      begins_due_at_end at_end part begins =
+          let part_begins = begins_at_end part begins in
+          let nothing_left : so_far.given ++ told_left (source_state u).left ≡ so_far.given = ap (λ b. so_far.given ++ b) (none_left (source_state u).left at_end) ∙ append-nil so_far.given in
+          (part_begins, subst (λ input. IsPrefix (complete_output so_far.given ++ part) (output input)) (sym nothing_left) part_begins)
+
       pub stopped_at_end : (m : K) (stop : Stop) → n ≡ 0 → IsAtEnd (source_state u).left → StopsWithin (Wrote puts sink_state l m) (PutFailed puts sink_state l m) (reply network line).text stop → StopsAt s k u m stop
-      stopped_at_end m stops.WriteFault none at_end (part, begins, failed) = put_failed m so_far.given part (calls_none none) (gave_none none) (begins_at_end at_end part begins) failed
-      stopped_at_end m stops.OutOfMemory none at_end (part, begins, wrote) = no_memory m so_far.given part (calls_none none) (gave_none none) (begins_at_end at_end part begins) wrote
+      stopped_at_end m stops.WriteFault none at_end (part, begins, failed) = put_failed m so_far.given part (calls_none none) (gave_none none) (begins_due_at_end at_end part begins) failed
+      stopped_at_end m stops.OutOfMemory none at_end (part, begins, wrote) = no_memory m so_far.given part (calls_none none) (gave_none none) (begins_due_at_end at_end part begins) wrote
       stopped_at_end m stops.ReadFault none at_end stops = absurd stops
       stopped_at_end m stops.InputTooLong none at_end stops = absurd stops

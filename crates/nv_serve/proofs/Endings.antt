@@ -11,7 +11,7 @@ use Rattle.nv_io.specs.declared.source.SourceFailed.{SourceFailed}
 use Rattle.nv_serve.specs.declared.status.Status.{Status}
 use Rattle.nv_serve.specs.declared.status.Status.TheVariants.{Done, SomeRefused, Usage, ReadFault, WriteFault, InputTooLong, OutOfMemory}
 use Rattle.nv_serve.specs.Output.{output, output_for, complete_output, usage_line, is_refused, lines_of, input_limit}
-use Rattle.nv_serve.specs.Calls.{IsPrefix, Moved, told_left, start_at, no_call, and_puts}
+use Rattle.nv_serve.specs.Calls.{IsPrefix, BeginsDue, Moved, told_left, start_at, no_call, and_puts}
 use Rattle.nv_serve.specs.Run.{IsFinished, NothingFollowsAFault}
 use Rattle.nv_serve.specs.Traced.{FramesAreMeant}
 use Rattle.nv_serve.specs.inner.Writing.{Wrote, PutFailed}
@@ -26,8 +26,15 @@ due_of_many : (count : ℕ) → 1 < count → (given : List ℕ) → output_for 
 due_of_many count many given = ap (λ b. if b then usage_line else output given) (lt-ltb 1 count many)
 
 -- and where there are none
-pub due_of_few : (count : ℕ) → count ≤ 1 → (given : List ℕ) → output given ≡ output_for count given
+due_of_few : (count : ℕ) → count ≤ 1 → (given : List ℕ) → output given ≡ output_for count given
 due_of_few count few given = sym (ap (λ b. if b then usage_line else output given) (le-ltb 1 count few))
+
+-- a part of what is due
+usage_part : (count : ℕ) → 1 < count → (given part : List ℕ) → IsPrefix part usage_line → IsPrefix part (output_for count given)
+usage_part count many given part begins = subst (λ due. IsPrefix part due) (sym (due_of_many count many given)) begins
+
+output_part : (count : ℕ) → count ≤ 1 → (given part : List ℕ) → IsPrefix part (output given) → IsPrefix part (output_for count given)
+output_part count few given part begins = subst (λ due. IsPrefix part due) (due_of_few count few given) begins
 
 -- no more is given than was left
 given_within : (told still : Option (List ℕ)) (given : List ℕ) → Consumes told still given → IsSomeAnd told (λ input. length input ≤ input_limit) → length given ≤ input_limit
@@ -60,7 +67,7 @@ module _ {S K : Type 0} (takes : S → List ℕ → Result ℕ SourceFailed → 
       gave_nothing (source_state s),
       failed.took,
       (
-        record { rose = failed.rose; begins = subst (λ due. IsPrefix part due) (sym (due_of_many count many (told_left (source_state s).left))) begins },
+        record { rose = failed.rose; begins = (usage_part count many [] part begins, usage_part count many (told_left (source_state s).left) part begins) },
         record { last = record { source = s; sink = failed.before; given = []; written = part }; calls = and_puts part no_call failed.puts; offered = failed.offered; failed = failed.failed; same = refl },
       ),
     ),
@@ -86,7 +93,7 @@ module _ {S K : Type 0} (takes : S → List ℕ → Result ℕ SourceFailed → 
       gave,
       took,
       (
-        record { rose = ends.rose; begins = subst (λ due. IsPrefix written due) (due_of_few count few (given ++ told_left (source_state t).left)) ends.begins },
+        record { rose = ends.rose; begins = (output_part count few given written ends.begins.0, output_part count few (given ++ told_left (source_state t).left) written ends.begins.1) },
         calls,
       ),
     )
@@ -144,10 +151,10 @@ module _ {S K : Type 0} (takes : S → List ℕ → Result ℕ SourceFailed → 
     pub read_fault_cause : (status : Status) → EndedAt s k t l status → status ≡ ReadFault → Rose (source_state s).faults (source_state t).faults
     read_fault_cause status ends is = (subst (EndedAt s k t l) is ends).4.0.1.rose
 
-    pub write_fault : (status : Status) → EndedAt s k t l status → status ≡ WriteFault → MovedTo s k t l (λ given written. IsPrefix written (output_for count (given ++ told_left (source_state t).left)))
+    pub write_fault : (status : Status) → EndedAt s k t l status → status ≡ WriteFault → MovedTo s k t l (λ given written. BeginsDue (output_for count) given (told_left (source_state t).left) written)
     write_fault status ends is = by (subst (EndedAt s k t l) is ends)
       where
-        by : EndedAt s k t l WriteFault → MovedTo s k t l (λ given written. IsPrefix written (output_for count (given ++ told_left (source_state t).left)))
+        by : EndedAt s k t l WriteFault → MovedTo s k t l (λ given written. BeginsDue (output_for count) given (told_left (source_state t).left) written)
         by (given, written, gave, took, (ends, calls)) = (given, written, gave, took, ends.begins)
 
     pub write_fault_cause : (status : Status) → EndedAt s k t l status → status ≡ WriteFault → Rose (sink_state k).faults (sink_state l).faults
@@ -165,10 +172,10 @@ module _ {S K : Type 0} (takes : S → List ℕ → Result ℕ SourceFailed → 
         by : EndedAt s k t l InputTooLong → count_after (source_state s).given (input_limit + 1) ≤ (source_state t).given
         by (given, written, gave, took, ((few, ends), calls)) = omega (arith, gave.amount, ends.over)
 
-    pub out_of_memory : (status : Status) → EndedAt s k t l status → status ≡ OutOfMemory → MovedTo s k t l (λ given written. IsPrefix written (output (given ++ told_left (source_state t).left)))
+    pub out_of_memory : (status : Status) → EndedAt s k t l status → status ≡ OutOfMemory → MovedTo s k t l (λ given written. BeginsDue output given (told_left (source_state t).left) written)
     out_of_memory status ends is = by (subst (EndedAt s k t l) is ends)
       where
-        by : EndedAt s k t l OutOfMemory → MovedTo s k t l (λ given written. IsPrefix written (output (given ++ told_left (source_state t).left)))
+        by : EndedAt s k t l OutOfMemory → MovedTo s k t l (λ given written. BeginsDue output given (told_left (source_state t).left) written)
         by (given, written, gave, took, ((few, ends), calls)) = (given, written, gave, took, ends.begins)
 
     pub usage : (status : Status) → EndedAt s k t l status → status ≡ Usage → MovedTo s k t l (λ given written. (given ≡ []) × (written ≡ usage_line))

@@ -26,6 +26,10 @@ abbrev pub Moved : {S K : Type 0} → (S → SourceState) → (K → SinkState) 
 Moved source_state sink_state old new P =
     (given : List ℕ) × (written : List ℕ) × Gave (source_state old.0) (source_state new.0) given × Took (sink_state old.1) (sink_state new.1) written × P given written
 
+-- a text that begins what is due both for the bytes given and for these with those that follow
+abbrev pub BeginsDue : (List ℕ → List ℕ) → List ℕ → List ℕ → List ℕ → Type 0
+BeginsDue due given following written = IsPrefix written (due given) × IsPrefix written (due (given ++ following))
+
 -- the bytes still to come, where the source tells them
 abbrev pub told_left : Option (List ℕ) → List ℕ
 told_left None = []

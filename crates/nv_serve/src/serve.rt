@@ -1,7 +1,7 @@
 ghost use Rattle.std.specs.Prelude.{◌≡◌, ◌<◌, ◌≤◌, ◌↔◌, ◌⊎◌, ◌+◌, ◌++◌, ℕ, List, [], IsTrue, IsSomeAnd, length, take, true};
 ghost use Rattle.std.specs.Io.KnownBytes.{IsAtEnd};
 ghost use Rattle.nv_io.specs.Counts.{Rose, count_after};
-ghost use Rattle.nv_serve.specs.Calls.{IsPrefix, Moved, told_left, start_at};
+ghost use Rattle.nv_serve.specs.Calls.{BeginsDue, Moved, told_left, start_at};
 ghost use Rattle.nv_serve.specs.Output.{lines_of, output, output_for, complete_output, usage_line, is_refused, input_limit};
 ghost use Rattle.nv_serve.specs.Run.{IsFinished, NothingFollowsAFault};
 ghost use Rattle.nv_serve.specs.Traced.{FramesAreMeant};
@@ -37,11 +37,11 @@ pub fn run<S: Source, K: Sink>(
     ensures read_fault { result ≡ Status.ReadFault → Moved S.state K.state (source.old, sink.old) (source.new, sink.new) (λ given written.
         written ≡ complete_output given) }
     ensures write_fault { result ≡ Status.WriteFault → Moved S.state K.state (source.old, sink.old) (source.new, sink.new) (λ given written.
-        IsPrefix written (output_for (length arguments.now) (given ++ told_left (S.state source.new).left))) }
+        BeginsDue (output_for (length arguments.now)) given (told_left (S.state source.new).left) written) }
     ensures input_too_long { result ≡ Status.InputTooLong → Moved S.state K.state (source.old, sink.old) (source.new, sink.new) (λ given written.
         (input_limit < length given) × (written ≡ complete_output (take input_limit given))) }
     ensures out_of_memory { result ≡ Status.OutOfMemory → Moved S.state K.state (source.old, sink.old) (source.new, sink.new) (λ given written.
-        IsPrefix written (output (given ++ told_left (S.state source.new).left))) }
+        BeginsDue output given (told_left (S.state source.new).left) written) }
 
     ensures usage { result ≡ Status.Usage → Moved S.state K.state (source.old, sink.old) (source.new, sink.new) (λ given written.
         (given ≡ []) × (written ≡ usage_line)) }

@@ -1,4 +1,4 @@
-ghost use Rattle.std.specs.Prelude.{false, None};
+ghost use Rattle.std.specs.Prelude.{false, None, refl};
 
 use expr_core::Env;
 use nv_base::ObjId;
@@ -24,4 +24,6 @@ impl Env for Nothing {
     fn is_switch(&self, _dp: ObjId) -> bool {
         false
     }
+
+    ghost multicast_is_no_port = { λ _. (refl, refl) };
 }

@@ -1,6 +1,7 @@
-use nv_base::{Field, Kept, Mac, Name, ObjId};
+use nv_base::{Field, Kept, Mac, Name, ObjId, OutOfMemory};
 use pkt_core::Packet;
 use sb_rows::{Pipeline, PlainAction, PlainMatch, Row, Rows, Stage, put_listing};
+use std::alloc::Global;
 use std::cmp::Ordering;
 use std::test::Fail;
 
@@ -363,5 +364,33 @@ fn a_copied_row_is_equal(rt: HostRuntime) -> Result<(), Fail> {
     let port = PlainAction::To(Name::from_slice(rt.alloc(), b"vm-2")?);
     let other = row(1, Stage::LsInL2Lkup, 50, PlainMatch::DstIs(Mac(7)), port);
     assert!(rt; copied != other);
+    Ok(())
+}
+
+// A store with these two rows, put at once into one that has none. `None` where they agree in their order.
+#[tactic(auto, using(crate::proofs::Apart::two_apart))]
+fn put_at_once(alloc: Global, first: Row, second: Row) -> Result<Option<Rows>, OutOfMemory> {
+    let mut rows = Rows::new(alloc);
+    if first.order(&second) == Ordering::Equal {
+        return Ok(None);
+    }
+    let mut both = Vec::new(alloc);
+    both.push(first)?;
+    both.push(second)?;
+    rows.put_all(both)?;
+    Ok(Some(rows))
+}
+
+#[test]
+fn rows_put_at_once_are_in_row_order(rt: HostRuntime) -> Result<(), Fail> {
+    let low = row(1, Stage::LsInLb, 10, PlainMatch::Any, PlainAction::Next);
+    let high = row(1, Stage::LsInLb, 20, PlainMatch::Any, PlainAction::Drop);
+    match put_at_once(rt.alloc(), low, high)? {
+        Some(rows) => {
+            assert_eq!(rt; rows.len(), 2);
+            assert_eq!(rt; rows.as_slice()[0].priority, 20);
+        }
+        None => panic!(rt; "they agree in their order"),
+    }
     Ok(())
 }

@@ -1,5 +1,4 @@
 -- Parts are equal by `==` in an equivalence.
-use Rattle.std.specs.Prelude.{nat_eq}
 use Rattle.std.specs.Cmp.{IsPartialEquivalence, IsEquivalence, partial_equiv_from_equiv, and_equiv, on_equiv, nat_eq_equiv}
 use Rattle.std.specs.Cmp.Lexicographic.{lists_equiv}
 use Rattle.expr_core.specs.EqualParts.{part_eq}

@@ -5,7 +5,8 @@ use Rattle.pkt_core.specs.Packet.{Values}
 use Rattle.expr_core.specs.Formula.{Formula}
 use Rattle.expr_core.specs.Lookup.{Lookup}
 use Rattle.expr_core.specs.declared.typed.TypedAtom.{TypedAtom}
-use Rattle.expr_eval.specs.MatchMeaning.{Test, has, has_not, atom_holds, atom_negation_holds, holds, negation_holds}
+use Rattle.expr_core.specs.declared.test.Test.{Test}
+use Rattle.expr_eval.specs.MatchMeaning.{has, has_not, atom_holds, atom_negation_holds, holds, negation_holds}
 
 abbrev pub meant_test : Bool → Values → Test → Bool
 meant_test true packet t = has packet t

@@ -1,5 +1,5 @@
 -- What is true at the end of a run: by what the source and the sink told before and after it, the bytes given and the bytes written.
-use Rattle.std.specs.Prelude.{◌≡◌, ℕ, ◌<◌, ◌≤◌, Bool, true, false, List, [], ◌++◌, length, take, Result}
+use Rattle.std.specs.Prelude.{◌≡◌, ℕ, ◌<◌, ◌≤◌, Bool, true, false, List, [], length, take, Result}
 use Rattle.std.specs.Io.KnownBytes.{IsAtEnd}
 use Rattle.nv_io.specs.Counts.{Rose}
 use Rattle.nv_io.specs.State.{SourceState, SinkState}
@@ -10,7 +10,7 @@ use Rattle.nv_serve.specs.declared.status.Status.TheVariants.{Done, SomeRefused,
 use Rattle.nv_serve.specs.declared.stop.Stop.{Stop}
 use Rattle.nv_serve.specs.declared.stop.Stop.TheVariants as stops
 use Rattle.nv_serve.specs.Output.{output, output_for, complete_output, usage_line, is_refused, input_limit}
-use Rattle.nv_serve.specs.Calls.{Point, Calls, IsPrefix, told_left, LastTakeFails, LastPutFails}
+use Rattle.nv_serve.specs.Calls.{Point, Calls, IsPrefix, BeginsDue, told_left, LastTakeFails, LastPutFails}
 
 -- what the source and the sink tell
 abbrev pub States : Type 0
@@ -39,7 +39,7 @@ pub record ReadFaulted (old new : States) (given written : List ℕ) : Type 0 wh
 -- a put failed, where this text is due for an input
 pub record WriteFaulted (due : List ℕ → List ℕ) (old new : States) (given written : List ℕ) : Type 0 where
   pub rose : Rose old.1.faults new.1.faults
-  pub begins : IsPrefix written (due (given ++ told_left new.0.left))
+  pub begins : BeginsDue due given (told_left new.0.left) written
 
 -- the source gave more bytes than an input may have
 pub record TooLong (old new : States) (given written : List ℕ) : Type 0 where
@@ -50,7 +50,7 @@ pub record TooLong (old new : States) (given written : List ℕ) : Type 0 where
 -- memory ran out
 pub record NoMemory (old new : States) (given written : List ℕ) : Type 0 where
   pub quiet : IsQuiet old new
-  pub begins : IsPrefix written (output (given ++ told_left new.0.left))
+  pub begins : BeginsDue output given (told_left new.0.left) written
 
 -- the status of a run that is stopped
 abbrev pub status_of : Stop → Status

@@ -1,0 +1,5 @@
+use Rattle.expr_check.proofs.ReadBack.{read_back}
+use Rattle.expr_check.proofs.laws.a_printed_match_is_checked_as_itself.Goals as goal
+
+pub returns : goal.returns
+returns c = read_back

@@ -1,6 +1,6 @@
 //! The laws of the reader: it reads exactly what is written of well-formed lists.
 ghost use Rattle.std.specs.Prelude.{◌≡◌, true, ℕ, List, Ok};
-ghost use Rattle.act_core.specs.Text.{step_text, actions_text};
+ghost use Rattle.act_core.specs.Text.{actions_text};
 ghost use Rattle.act_core.specs.WellFormed.{is_well_formed};
 ghost use Rattle.act_core.specs.declared.action.Action.{Action};
 ghost use Rattle.act_parse.specs.Reading.{answer};

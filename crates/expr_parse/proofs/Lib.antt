@@ -12,6 +12,9 @@ pub mod LexedQuotes
 pub mod LexedSigns
 pub mod LexedTrees
 pub mod LexedWords
+pub mod LateFaults
+pub mod UpTo
+pub mod SameFaults
 pub mod Lexing
 pub mod Longest
 pub mod NameFronts

@@ -5,4 +5,5 @@ pub mod Tokens
 pub mod Grammar
 pub mod GrammarRules
 pub mod Written
+pub mod Faults
 pub mod inner

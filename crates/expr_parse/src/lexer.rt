@@ -1,6 +1,7 @@
 //! The tokens of a text.
-ghost use Rattle.std.specs.Prelude.{◌≡◌, ◌+◌, ◌<◌, ◌≤◌, ◌^◌, drop, length, map, option_map, IfOk};
+ghost use Rattle.std.specs.Prelude.{◌≡◌, ◌+◌, ◌++◌, ◌<◌, ◌≤◌, ◌^◌, ℕ, drop, length, map, option_map, IfOk};
 ghost use Rattle.expr_parse.specs.inner.Borrowed.{front_token, token_at};
+ghost use Rattle.expr_parse.specs.Token.{Tokens};
 ghost use Rattle.expr_parse.specs.Tokens.{blanks, first_token, is_blank, tokens_of};
 
 use crate::class::{Class, class_of};
@@ -58,6 +59,30 @@ pub(crate) fn tokens(alloc: Global, text: &[u8]) -> Result<(Vec<TokenAt<'_>>, u3
     let mut tokens = Vec::new(alloc);
     let mut at = after_blanks(text, 0);
     while let Some(found) = first_token(&text[at..]) {
+        tokens.push(TokenAt {
+            offset: at as u32,
+            token: found.token,
+        })?;
+        at = after_blanks(text, at + found.len);
+    }
+    Ok((tokens, at as u32))
+}
+
+/// The first tokens of a text, at most so many, and the offset of the first byte after them that is no blank, or of the end.
+pub(crate) fn first_tokens(
+    alloc: Global,
+    text: &[u8],
+    most: usize,
+) -> Result<(Vec<TokenAt<'_>>, u32), OutOfMemory>
+    requires { length text.now < 2 ^ 32 }
+    ensures { IfOk result (λ lexed. (others : Tokens × ℕ) × ((map token_at lexed.0.items ++ others.0, others.1) ≡ tokens_of text.now)) }
+{
+    let mut tokens = Vec::new(alloc);
+    let mut at = after_blanks(text, 0);
+    while let Some(found) = first_token(&text[at..]) {
+        if tokens.len() == most {
+            break;
+        }
         tokens.push(TokenAt {
             offset: at as u32,
             token: found.token,

@@ -20,7 +20,7 @@ mod token;
 
 pub use fault::MatchFault;
 pub use laws::{
-    a_match_is_read, what_is_read_is_a_match, what_is_read_is_well_formed,
-    written_matches_are_read, written_matches_have_their_tokens,
+    a_match_is_read, faults_stay, faulty_tokens_are_no_match, what_is_read_is_a_match,
+    what_is_read_is_well_formed, written_matches_are_read, written_matches_have_their_tokens,
 };
 pub use reader::parse_match;

@@ -3,7 +3,7 @@ use Rattle.std.proofs.Common.{◌≡◌, refl, ap, ◌∙◌, eqb}
 use Rattle.std.proofs.lemmas.Bool.{false≢true, and_parts}
 use Rattle.nv_base.specs.inner.Exact as tells
 use Rattle.nv_base.specs.inner.Exact.{Tells}
-use Rattle.expr_core.specs.Exact as parts
+use Rattle.expr_core.specs.inner.Exact as parts
 use Rattle.act_core.specs.contracts.step.TargetPartialEq.TheImpl as target_eq
 use Rattle.act_core.specs.contracts.step.StepPartialEq.TheImpl as step_eq
 use Rattle.act_core.specs.contracts.action.ActionPartialEq.TheImpl as action_eq

@@ -3,16 +3,18 @@ ghost use Rattle.std.specs.List.{list_any, list_all};
 ghost use Rattle.nv_base.specs.Field.{field_width};
 ghost use Rattle.pkt_core.specs.Prerequisite.{is_there};
 ghost use Rattle.expr_core.specs.Tests.{test};
+ghost use Rattle.expr_core.specs.Width.{bits_of};
 ghost use Rattle.expr_eval.specs.Relation.{relates};
 ghost use Rattle.expr_eval.specs.MatchMeaning.{part_of, has, has_not, holds};
-ghost use Rattle.expr_eval.specs.inner.Wanted.{meant_test, meant_tests, meant_atom, meant};
+ghost use Rattle.expr_eval.specs.inner.Wanted.{meant_test, meant_tests, meant_number, meant_atom, meant};
 
-use crate::relation::relates;
-use expr_core::{Bits, Env, Node, Rel, Right, Test, Typed, TypedAtom};
+use crate::relation::{compares, relates};
+use expr_core::{Bits, Env, Item, Node, Rel, Right, Test, Typed, TypedAtom};
 use nv_base::Field;
 use pkt_core::Packet;
 
 // Whether the packet has the field.
+#[inline(always)]
 fn is_there(packet: &Packet, field: Field) -> bool
     ensures { result ≡ is_there packet.now field }
 {
@@ -72,22 +74,59 @@ fn is_bit_meant(packet: &Packet, wanted: bool, field: Field, bits: Bits) -> bool
     }
 }
 
+// Some bits of a field's number.
+#[inline(never)]
+fn some_bits(bits: Bits, number: u128) -> u128
+    ensures { result ≡ bits_of bits number }
+{
+    bits.of(number)
+}
+
+// The number of a part. Most parts are whole fields, and then the bits are not copied.
+#[inline(always)]
+fn part_of(packet: &Packet, field: Field, bits: &Bits) -> u128
+    ensures { result ≡ part_of packet.now field bits.now }
+{
+    let number = packet.get(field);
+    match bits {
+        Bits::Whole => number,
+        _ => some_bits(*bits, number),
+    }
+}
+
+// Whether the packet has the field, and the part is in the relation to the number where that is wanted, and else not.
+#[inline(always)]
+#[tactic(auto, using(crate::proofs::Opposites::opposed))]
+fn is_number_meant(
+    packet: &Packet,
+    wanted: bool,
+    field: Field,
+    bits: &Bits,
+    rel: Rel,
+    number: u128,
+) -> bool
+    ensures { result ≡ meant_number wanted packet.now field bits.now rel number }
+{
+    is_there(packet, field) && compares(part_of(packet, field, bits), rel, number) == wanted
+}
+
 // Whether the packet has the field, and the part is in the relation to the right side.
-fn compares<E: Env>(
+fn is_related<E: Env>(
     env: &E,
     packet: &Packet,
     field: Field,
-    bits: Bits,
+    bits: &Bits,
     rel: Rel,
     right: &Right,
 ) -> bool
-    ensures { result ≡ (is_there packet.now field && relates (E.lookup env.now) (field_width field) (part_of packet.now field bits) rel right.now) }
+    ensures { result ≡ (is_there packet.now field && relates (E.lookup env.now) (field_width field) (part_of packet.now field bits.now) rel right.now) }
 {
-    is_there(packet, field) && relates(env, field, bits.of(packet.get(field)), rel, right)
+    is_there(packet, field) && relates(env, field, part_of(packet, field, bits), rel, right)
 }
 
-// Whether the atom holds where that is wanted, and else its negation.
-fn is_atom_meant<E: Env>(atom: &TypedAtom, packet: &Packet, env: &E, wanted: bool) -> bool
+// The same of an atom as `is_atom_meant` says, whatever it is.
+#[inline(never)]
+fn is_any_atom_meant<E: Env>(atom: &TypedAtom, packet: &Packet, env: &E, wanted: bool) -> bool
     ensures { result ≡ meant_atom wanted (E.lookup env.now) packet.now atom.now }
 {
     match atom {
@@ -96,12 +135,27 @@ fn is_atom_meant<E: Env>(atom: &TypedAtom, packet: &Packet, env: &E, wanted: boo
         TypedAtom::Holds(predicate) => is_meant(packet, wanted, predicate.tests()),
         TypedAtom::Compare(field, bits, rel, right) => {
             let rel = if wanted { *rel } else { rel.opposite() };
-            compares(env, packet, *field, *bits, rel, right)
+            is_related(env, packet, *field, bits, rel, right)
         }
     }
 }
 
+// Whether the atom holds where that is wanted, and else its negation. Most atoms compare a part with one number: that
+// is short, and stands in the loops over operands.
+#[inline(always)]
+fn is_atom_meant<E: Env>(atom: &TypedAtom, packet: &Packet, env: &E, wanted: bool) -> bool
+    ensures { result ≡ meant_atom wanted (E.lookup env.now) packet.now atom.now }
+{
+    match atom {
+        TypedAtom::Compare(field, bits, rel, Right::Item(Item::One(constant))) => {
+            is_number_meant(packet, wanted, *field, bits, *rel, constant.value)
+        }
+        _ => is_any_atom_meant(atom, packet, env, wanted),
+    }
+}
+
 // The same of an operand. Most are atoms, which need no further call.
+#[inline(always)]
 #[cycle(meant)]
 fn is_operand_meant<E: Env>(operand: &Typed, packet: &Packet, env: &E, wanted: bool) -> bool
     ensures { result ≡ meant wanted (E.lookup env.now) packet.now operand.now }

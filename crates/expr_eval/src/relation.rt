@@ -53,8 +53,9 @@ fn equals<E: Env>(env: &E, field: Field, number: u128, right: &Right) -> bool
     }
 }
 
-// Whether the number is in the relation to another.
-fn compares(number: u128, rel: Rel, other: u128) -> bool
+/// Whether the number is in the relation to another.
+#[inline(always)]
+pub(crate) fn compares(number: u128, rel: Rel, other: u128) -> bool
     ensures { result ≡ compares number rel other }
 {
     match rel {

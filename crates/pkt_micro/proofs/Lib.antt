@@ -1,0 +1,3 @@
+pub mod Fitting
+pub mod Judged
+pub mod Lists

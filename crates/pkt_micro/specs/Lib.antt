@@ -1,0 +1,2 @@
+pub mod Microflow
+pub mod inner

@@ -1,10 +1,11 @@
 use crate::nothing::Nothing;
-use expr_check::{Role, TypeFault, check};
-use expr_core::{Typed, put_tree};
+use expr_check::{Role, TypeFault, a_checked_match_is_well_typed, check};
+use expr_core::{Expr, Typed, put_tree};
 use expr_eval::holds;
 use expr_parse::{MatchFault, parse_match};
-use nv_base::{Field, OutOfMemory, put_dec};
-use pkt_core::Packet;
+use nv_base::{Field, OutOfMemory, put_dec, put_field};
+use pkt_core::{Packet, put_packet};
+use pkt_micro::{Micro, MicroFault, packet_of};
 use std::alloc::Global;
 
 /// What is asked of a match.
@@ -14,6 +15,8 @@ enum Question {
     Read,
     /// Whether it is allowed in this role too.
     Check(Role),
+    /// Which port and packet it says, as a microflow.
+    Packet,
 }
 
 /// Why the answer to a line is no match.
@@ -22,6 +25,8 @@ enum Fault {
     At(&'static str, u32),
     /// The match has 4 GiB or more.
     TooLong,
+    /// It is no microflow.
+    Micro(MicroFault),
     /// There was no memory.
     Memory,
 }
@@ -55,6 +60,15 @@ impl From<TypeFault> for Fault {
     }
 }
 
+impl From<MicroFault> for Fault {
+    fn from(fault: MicroFault) -> Self {
+        match fault {
+            MicroFault::Memory => Fault::Memory,
+            fault => Fault::Micro(fault),
+        }
+    }
+}
+
 /// What a line asks, and of which match. Without a word the question is whether a row may have the match.
 fn split_question(line: &[u8]) -> (Question, &[u8]) {
     if let Some(text) = line.strip_prefix(b"%read ") {
@@ -65,6 +79,8 @@ fn split_question(line: &[u8]) -> (Question, &[u8]) {
         (Question::Check(Role::AclTo), text)
     } else if let Some(text) = line.strip_prefix(b"%microflow ") {
         (Question::Check(Role::Micro), text)
+    } else if let Some(text) = line.strip_prefix(b"%packet ") {
+        (Question::Packet, text)
     } else {
         (Question::Check(Role::Row), line)
     }
@@ -95,7 +111,22 @@ fn put_match(out: &mut Vec<u8>, typed: &Typed, times: u32) -> Result<(), OutOfMe
     Ok(())
 }
 
-/// Appends the canonical text of the match, and how often it held if that was asked.
+/// The port and the packet that the match says.
+fn microflow(alloc: Global, expr: &Expr) -> Result<Micro, Fault> {
+    let typed = check(alloc, expr, Role::Micro)?;
+    a_checked_match_is_well_typed();
+    Ok(packet_of(alloc, &typed)?)
+}
+
+/// Appends the port and the packet, as a match that says them.
+fn put_microflow(out: &mut Vec<u8>, micro: &Micro) -> Result<(), OutOfMemory> {
+    out.extend_from_slice(b"inport == \"")?;
+    out.extend_from_slice(micro.inport.as_slice())?;
+    out.extend_from_slice(b"\" && ")?;
+    put_packet(out, &micro.packet)
+}
+
+/// Appends the canonical text of the match, and how often it held if that was asked, or what it says as a microflow.
 fn put_text(alloc: Global, out: &mut Vec<u8>, line: &[u8], times: u32) -> Result<(), Fault> {
     let (question, text) = split_question(line);
     if text.len() > u32::MAX as usize {
@@ -105,6 +136,7 @@ fn put_text(alloc: Global, out: &mut Vec<u8>, line: &[u8], times: u32) -> Result
     match question {
         Question::Read => put_tree(out, &expr)?,
         Question::Check(role) => put_match(out, &check(alloc, &expr, role)?, times)?,
+        Question::Packet => put_microflow(out, &microflow(alloc, &expr)?)?,
     }
     Ok(())
 }
@@ -116,7 +148,21 @@ fn put_fault(out: &mut Vec<u8>, name: &str, offset: u32) -> Result<(), OutOfMemo
     Ok(())
 }
 
-/// Appends the answer to a line: the match's canonical text, and how often it held if that was asked; or its fault.
+fn put_micro_fault(out: &mut Vec<u8>, fault: MicroFault) -> Result<(), OutOfMemory> {
+    match fault {
+        MicroFault::NotConjunction => out.extend_from_slice(b"NotConjunction")?,
+        MicroFault::Contradiction(field) => {
+            out.extend_from_slice(b"Contradiction ")?;
+            put_field(out, field)?;
+        }
+        MicroFault::NoInport => out.extend_from_slice(b"NoInport")?,
+        MicroFault::Memory => return Err(OutOfMemory),
+    }
+    Ok(())
+}
+
+/// Appends the answer to a line: the match's canonical text, and how often it held if that was asked; or what it says as
+/// a microflow; or its fault.
 pub(crate) fn put_answer(
     alloc: Global,
     out: &mut Vec<u8>,
@@ -127,6 +173,7 @@ pub(crate) fn put_answer(
         Ok(()) => {}
         Err(Fault::At(name, offset)) => put_fault(out, name, offset)?,
         Err(Fault::TooLong) => out.extend_from_slice(b"too-long")?,
+        Err(Fault::Micro(fault)) => put_micro_fault(out, fault)?,
         Err(Fault::Memory) => return Err(OutOfMemory),
     }
     out.push(b'\n')?;

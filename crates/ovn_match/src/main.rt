@@ -1,4 +1,5 @@
-//! `ovn_match`: reads a match a line on standard input, and answers each by its canonical text or its first fault.
+//! `ovn_match`: reads a match a line on standard input, and answers each by its canonical text or its first fault, or by
+//! what it says as a microflow.
 //! With a number as its argument it also evaluates each match of so many packets, for measuring.
 #![tactic(auto)]
 

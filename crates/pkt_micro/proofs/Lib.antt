@@ -1,3 +1,4 @@
 pub mod Fitting
 pub mod Judged
 pub mod Lists
+pub mod Told

@@ -4,8 +4,10 @@
 mod equality;
 mod fault;
 mod judge;
+mod laws;
 mod microflow;
 mod said;
 
 pub use fault::MicroFault;
+pub use laws::a_packet_has_what_is_said;
 pub use microflow::{Micro, packet_of};

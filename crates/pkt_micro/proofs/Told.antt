@@ -1,7 +1,7 @@
 -- The packet of a microflow has each number that is said, whatever the order.
-use Rattle.std.proofs.Common.{◌≡◌, ◌≢◌, ℕ, zero, suc, ◌+◌, ◌-◌, ◌<◌, ◌==◌, Bool, true, false, not, ◌&&◌, if◌then◌else◌, List, [], ◌∷◌, length, map, get_or, set, Option, Some, None, Result, Ok, Err, refl, sym, ap, subst, ◌∙◌, arith}
+use Rattle.std.proofs.Common.{◌≡◌, ◌≢◌, ℕ, zero, suc, ◌+◌, ◌-◌, ◌<◌, Bool, true, false, not, ◌&&◌, if◌then◌else◌, List, [], ◌∷◌, length, map, get_or, set, Option, Some, None, Result, Ok, Err, refl, sym, ap, subst, ◌∙◌, arith}
 use Rattle.std.specs.List.{find, list_any, All}
-use Rattle.std.proofs.lemmas.Bool.{eqb-true, eqb-false, eq-eqb, or_parts, and_parts, not-false, true≢false}
+use Rattle.std.proofs.lemmas.Bool.{eqb-true, eqb-false, eq-eqb, or_parts, not-false, true≢false}
 use Rattle.std.proofs.lemmas.List.{get_or-set_same, get_or-set_other, length-set}
 use Rattle.nv_base.specs.declared.field.Field.{Field}
 use Rattle.nv_base.specs.declared.field.Field.TheVariants.{Inport}
@@ -109,7 +109,7 @@ none_is test [] k d none within = absurd (omega (arith, within))
 none_is test (x ∷ xs) k d none within = none_where test x xs k d (test x) refl none within (λ i others inside. none_is test xs i d others inside)
 
 -- no field is given two values
-none_contradicted : (es : List Equality) (field : Field) → find (is_contradicted es) all_fields ≡ None → is_contradicted es field ≡ false
+pub none_contradicted : (es : List Equality) (field : Field) → find (is_contradicted es) all_fields ≡ None → is_contradicted es field ≡ false
 none_contradicted es field none =
     let inside : place field < length all_fields = rw counted (place_within field) in
     subst (λ (f : Field). is_contradicted es f ≡ false) (field_at field field) (none_is (is_contradicted es) all_fields (place field) field none inside)
@@ -152,7 +152,7 @@ accepted es None None m e = cc
 accepted es None (Some name) m e = (refl, ap packet_in e)
 
 module _ (t : Formula TypedAtom) (m : Micro) (es : List Equality) (says : said t ≡ Some es) (made : microflow t ≡ Ok m) where
-  parts : (find (is_contradicted es) all_fields ≡ None) × (packet_said es ≡ m.packet)
+  pub parts : (find (is_contradicted es) all_fields ≡ None) × (packet_said es ≡ m.packet)
   parts = accepted es (find (is_contradicted es) all_fields) (port_said es) m (sym (ap microflow_of says) ∙ made)
 
   pub packet_has : All (λ e. value m.packet e.field ≡ number_of e.value) es

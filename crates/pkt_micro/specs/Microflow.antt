@@ -1,5 +1,5 @@
--- Microflows (ovn-trace(8), 'MICROFLOW'): a conjunction that says, by equalities, which packet comes in by which port. ovn-trace takes
--- any match, and makes up a packet for it; that a microflow is a conjunction of equalities, and what it may say, is not from OVN.
+-- Microflows: the match that says which packet is traced, and by which port it comes in (ovn-trace(8), the argument `microflow`). That
+-- it is a conjunction of equalities, and what these may be, is not from OVN.
 use Rattle.std.specs.Prelude.{ℕ, ◌==◌, Bool, true, false, not, ◌&&◌, List, [], ◌∷◌, ◌++◌, map, Option, Some, None, Result, Ok, Err, nat_eq}
 use Rattle.std.specs.List.{find, flat_map, list_any}
 use Rattle.std.specs.Option.{option_map, option_and_then}

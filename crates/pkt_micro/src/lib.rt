@@ -9,5 +9,5 @@ mod microflow;
 mod said;
 
 pub use fault::MicroFault;
-pub use laws::a_packet_has_what_is_said;
+pub use laws::{a_microflow_holds_of_its_packet, a_packet_has_what_is_said};
 pub use microflow::{Micro, packet_of};

@@ -21,7 +21,7 @@ pub struct Micro {
 }
 
 /// The packet that the match says, which is well-typed in a microflow, and the port that it comes in by
-/// (ovn-trace(8), 'MICROFLOW'; which matches are microflows is not from OVN).
+/// (ovn-trace(8), the argument `microflow`; which matches are microflows is not from OVN).
 ///
 /// The match is a conjunction, nested at will, of `f == c` with one number without a mask on a whole field, or with the
 /// name of a port; of the predicates `ip4`, `arp`, `tcp`, `udp` and `icmp4`; and of `1`. What a field or predicate needs

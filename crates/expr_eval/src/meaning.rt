@@ -2,14 +2,14 @@ ghost use Rattle.std.specs.Prelude.{◌≡◌, ◌&&◌};
 ghost use Rattle.std.specs.List.{list_any, list_all};
 ghost use Rattle.nv_base.specs.Field.{field_width};
 ghost use Rattle.pkt_core.specs.Prerequisite.{is_there};
-ghost use Rattle.expr_core.specs.Tests.{test};
+ghost use Rattle.expr_core.specs.Tests.{test, tests};
 ghost use Rattle.expr_core.specs.Width.{bits_of};
 ghost use Rattle.expr_eval.specs.Relation.{relates};
 ghost use Rattle.expr_eval.specs.MatchMeaning.{part_of, has, has_not, holds};
 ghost use Rattle.expr_eval.specs.inner.Wanted.{meant_test, meant_tests, meant_number, meant_atom, meant};
 
 use crate::relation::{compares, relates};
-use expr_core::{Bits, Env, Item, Node, Rel, Right, Test, Typed, TypedAtom};
+use expr_core::{Bits, Env, Item, Node, Pred, Rel, Right, Test, Typed, TypedAtom};
 use nv_base::Field;
 use pkt_core::Packet;
 
@@ -19,6 +19,26 @@ fn is_there(packet: &Packet, field: Field) -> bool
     ensures { result ≡ is_there packet.now field }
 {
     packet.meets(field.prerequisite())
+}
+
+// Some bits of a field's number.
+#[inline(never)]
+fn some_bits(bits: Bits, number: u128) -> u128
+    ensures { result ≡ bits_of bits number }
+{
+    bits.of(number)
+}
+
+// The number of a part. Most parts are whole fields, and then the bits are not copied.
+#[inline(always)]
+fn part_of(packet: &Packet, field: Field, bits: &Bits) -> u128
+    ensures { result ≡ part_of packet.now field bits.now }
+{
+    let number = packet.get(field);
+    match bits {
+        Bits::Whole => number,
+        _ => some_bits(*bits, number),
+    }
 }
 
 // Whether the packet has the field, and the part has the number.
@@ -47,14 +67,35 @@ fn has_none(packet: &Packet, tests: &[Test]) -> bool
     tests.iter().all(|test| has_not(packet, test))
 }
 
+// Whether the test holds where that is wanted, and else its negation.
+#[inline(always)]
+fn is_test_meant(packet: &Packet, wanted: bool, test: &Test) -> bool
+    ensures { result ≡ meant_test wanted packet.now test.now }
+{
+    is_there(packet, test.field)
+        && (part_of(packet, test.field, &test.bits) == test.number) == wanted
+}
+
 // Whether one of the tests holds where that is wanted, and else the negation of each.
-fn is_meant(packet: &Packet, wanted: bool, tests: &[Test]) -> bool
+#[inline(never)]
+fn are_tests_meant(packet: &Packet, wanted: bool, tests: &[Test]) -> bool
     ensures { result ≡ meant_tests wanted packet.now tests.now }
 {
     if wanted {
         has_one(packet, tests)
     } else {
         has_none(packet, tests)
+    }
+}
+
+// Whether the predicate holds where that is wanted, and else its negation. Most are one test.
+#[inline(never)]
+fn is_predicate_meant(packet: &Packet, wanted: bool, predicate: Pred) -> bool
+    ensures { result ≡ meant_tests wanted packet.now (tests predicate) }
+{
+    match predicate.tests() {
+        [test] => is_test_meant(packet, wanted, test),
+        tests => are_tests_meant(packet, wanted, tests),
     }
 }
 
@@ -67,31 +108,7 @@ fn is_bit_meant(packet: &Packet, wanted: bool, field: Field, bits: Bits) -> bool
         bits,
         number: 1,
     };
-    if wanted {
-        has(packet, &test)
-    } else {
-        has_not(packet, &test)
-    }
-}
-
-// Some bits of a field's number.
-#[inline(never)]
-fn some_bits(bits: Bits, number: u128) -> u128
-    ensures { result ≡ bits_of bits number }
-{
-    bits.of(number)
-}
-
-// The number of a part. Most parts are whole fields, and then the bits are not copied.
-#[inline(always)]
-fn part_of(packet: &Packet, field: Field, bits: &Bits) -> u128
-    ensures { result ≡ part_of packet.now field bits.now }
-{
-    let number = packet.get(field);
-    match bits {
-        Bits::Whole => number,
-        _ => some_bits(*bits, number),
-    }
+    is_test_meant(packet, wanted, &test)
 }
 
 // Whether the packet has the field, and the part is in the relation to the number where that is wanted, and else not.
@@ -132,7 +149,7 @@ fn is_any_atom_meant<E: Env>(atom: &TypedAtom, packet: &Packet, env: &E, wanted:
     match atom {
         TypedAtom::Truth(holds) => *holds == wanted,
         TypedAtom::Bare(field, bits) => is_bit_meant(packet, wanted, *field, *bits),
-        TypedAtom::Holds(predicate) => is_meant(packet, wanted, predicate.tests()),
+        TypedAtom::Holds(predicate) => is_predicate_meant(packet, wanted, *predicate),
         TypedAtom::Compare(field, bits, rel, right) => {
             let rel = if wanted { *rel } else { rel.opposite() };
             is_related(env, packet, *field, bits, rel, right)
@@ -150,6 +167,7 @@ fn is_atom_meant<E: Env>(atom: &TypedAtom, packet: &Packet, env: &E, wanted: boo
         TypedAtom::Compare(field, bits, rel, Right::Item(Item::One(constant))) => {
             is_number_meant(packet, wanted, *field, bits, *rel, constant.value)
         }
+        TypedAtom::Holds(predicate) => is_predicate_meant(packet, wanted, *predicate),
         _ => is_any_atom_meant(atom, packet, env, wanted),
     }
 }

@@ -18,6 +18,7 @@ pub fn a_checked_match_is_well_typed()
 {}
 
 /// A match that by its names is a well-typed one is checked as that one.
+#[tactic(auto, using(crate::proofs::Passed::is_checked))]
 pub fn a_well_typed_match_is_checked()
     ensures { (role : Role) (e : Formula Atom) (t : Formula TypedAtom) → named t ≡ without_offsets e → IsTyped role t → checked role e ≡ Ok t }
 {}
@@ -28,6 +29,7 @@ pub fn a_printed_match_is_checked_as_itself()
 {}
 
 /// Two matches that are written alike are one match.
+#[tactic(auto, using(crate::proofs::Passed::apart))]
 pub fn printed_matches_tell_matches_apart()
     ensures { (role : Role) (s t : Formula TypedAtom) → IsPrintable role s → IsPrintable role t → typed_text s ≡ typed_text t → s ≡ t }
 {}

@@ -1,16 +1,13 @@
--- How far the reading of units that one operator joins has come.
+-- How far the reading of units that one operator joins, or of a set, has come.
 use Rattle.std.proofs.Common.{◌≡◌, ◌<◌, ◌≤◌, ℕ, zero, suc, List, [], ◌∷◌, ◌++◌, length, Some, None, ap, ◌∙◌, sym, arith, refl}
-use Rattle.std.proofs.lemmas.List.{length-map}
-use Rattle.expr_core.specs.Formula.{Formula}
-use Rattle.expr_core.specs.declared.expr.Atom.{Atom}
-use Rattle.expr_parse.specs.declared.fault.MatchFault.{MatchFault}
-use Rattle.expr_parse.specs.declared.operator.Operator.{Operator}
-use Rattle.expr_parse.specs.declared.token.TokenAt.{TokenAt}
-use Rattle.expr_parse.specs.Token.{Tokens}
-use Rattle.expr_parse.specs.inner.Borrowed.{token_at}
-use Rattle.expr_parse.specs.inner.Gives.{seen}
-use Rattle.expr_parse.specs.Grammar.{Reading, and_then, after_operator, chain_end, one_more, chain}
-use Rattle.expr_parse.specs.Grammar.Reading.{Read, Fails}
+use Rattle.expr_parse.specs.declared.operator.Operator.TheVariants as operator
+use Rattle.expr_parse.proofs.Words.{length-map, Formula, Atom, MatchFault, Operator, TokenAt, Tokens, token_at, seen, Item, Right, Reading, and_then}
+use Rattle.expr_parse.proofs.Words.{item, items, sign, after_operator, chain_end, one_more, chain, Read, Fails}
+
+-- the operator's sign is the next token
+sign_after : (o : Operator) (p : ℕ) (ts : Tokens) → after_operator o ((p, sign o) ∷ ts) ≡ Some ts
+sign_after operator.And p ts = refl
+sign_after operator.Or p ts = refl
 
 module _ (unit : Tokens → Reading (Formula Atom)) (o : Operator) where
   -- the chain after its first unit and the first operator
@@ -33,6 +30,11 @@ module _ (unit : Tokens → Reading (Formula Atom)) (o : Operator) where
   step n units f left rest after there reads =
       ap (one_more unit (λ g more. chain unit o n (units ++ g ∷ []) more) (chain_end o units left)) there ∙ ap (λ r. and_then r (λ g more. chain unit o n (units ++ g ∷ []) more)) reads
 
+  pub signed_step : (n : ℕ) (units : List (Formula Atom)) (p : ℕ) (ts : Tokens)
+      → chain unit o (suc n) units ((p, sign o) ∷ ts) ≡ and_then (unit ts) (λ g more. chain unit o n (units ++ g ∷ []) more)
+  signed_step n units p ts =
+      ap (one_more unit (λ g more. chain unit o n (units ++ g ∷ []) more) (chain_end o units ((p, sign o) ∷ ts))) (sign_after o p ts)
+
   pub goes_on : (first : Formula Atom) (units more : List (Formula Atom)) (f : Formula Atom) (tokens left rest after : List TokenAt) → SoFar first tokens units left → after_operator o (seen left) ≡ Some (seen rest) → length rest < length left → unit (seen rest) ≡ Read f (seen after) → length after ≤ length rest → more ≡ units ++ f ∷ [] → SoFar first tokens more after
   goes_on first units more f tokens left rest after (shorter, (zero, few, goes)) there less reads fewer pushed = absurd (omega arith)
   goes_on first units more f tokens left rest after (shorter, (suc n, few, goes)) there less reads fewer pushed =
@@ -51,3 +53,18 @@ module _ (unit : Tokens → Reading (Formula Atom)) (o : Operator) where
 
   pub ended : (first : Formula Atom) (units : List (Formula Atom)) (tokens left : List TokenAt) → SoFar first tokens units left → after_operator o (seen left) ≡ None → chain_end o units (seen left) ≡ from_second first (seen tokens)
   ended first units tokens left (shorter, (n, few, goes)) gone = sym (ends n units (seen left) gone) ∙ goes
+
+-- the set that is here
+abbrev pub set : ℕ → Tokens → Reading Right
+set end ts = and_then (item end ts) (λ i after. items end (length ts) (i ∷ []) after)
+
+-- what is left is the rest of the set, whose items so far are these
+abbrev pub SetSoFar : ℕ → List TokenAt → List Item → List TokenAt → Type 0
+SetSoFar end tokens before left = (length left ≤ length tokens) × ((n : ℕ) × (length left ≤ n) × (items end n before (seen left) ≡ set end (seen tokens)))
+
+pub begins_set : (end : ℕ) (tokens left : List TokenAt) (first : Item) (none before : List Item) → none ≡ [] → before ≡ none ++ first ∷ [] → length left ≤ length tokens → item end (seen tokens) ≡ Read first (seen left) → SetSoFar end tokens before left
+begins_set end tokens left first none before e p shorter reads =
+    let one : before ≡ first ∷ [] = p ∙ ap (λ xs. xs ++ first ∷ []) e in
+    let same : length (seen tokens) ≡ length tokens = length-map tokens token_at in
+    let goes : items end (length (seen tokens)) before (seen left) ≡ set end (seen tokens) = ap (λ xs. items end (length (seen tokens)) xs (seen left)) one ∙ sym (ap (λ r. and_then r (λ i after. items end (length (seen tokens)) (i ∷ []) after)) reads) in
+    (shorter, (length (seen tokens), omega arith, goes))

@@ -1,12 +1,8 @@
 -- Reading a text, token by token.
 use Rattle.std.proofs.Common.{◌≡◌, ℕ, suc, zero, ◌+◌, ◌-◌, ◌<◌, ◌≤◌, List, [], ◌∷◌, ◌++◌, length, map, take, drop, Option, Some, None, ap, sym, ◌∙◌, arith, append_assoc}
-use Rattle.std.proofs.lemmas.List.{append-nil, drop-drop, length-drop, map_push, take_rest}
-use Rattle.std.proofs.lemmas.List.Sums.{prefix_len-le-length}
-use Rattle.expr_parse.specs.declared.token.TokenAt.{TokenAt}
-use Rattle.expr_parse.specs.Token.{Token, Tokens}
-use Rattle.expr_parse.specs.inner.Borrowed.{token_of, token_at}
-use Rattle.expr_parse.specs.Spelling.{spelled}
-use Rattle.expr_parse.specs.Tokens.{is_blank, blanks, first_token, in_front, tokens_at, tokens_from, tokens_of}
+use Rattle.std.proofs.lemmas.List.{append-nil, drop-drop, length-drop, map_push}
+use Rattle.expr_parse.proofs.Words.{take_rest, prefix_len-le-length, TokenAt, Token, Tokens, token_of, token_at, spelled, is_blank, blanks}
+use Rattle.expr_parse.proofs.Words.{first_token, in_front, tokens_at, tokens_from, tokens_of}
 use Rattle.expr_parse.proofs.Longest.{bounds}
 
 -- blanks are within the text

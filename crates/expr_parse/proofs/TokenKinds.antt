@@ -1,7 +1,6 @@
 -- Tokens, from what they are without their offsets.
 use Rattle.std.proofs.Common.{◌≡◌, ℕ, List, [], ◌∷◌, ◌++◌, refl, ap, ◌∙◌}
-use Rattle.expr_parse.specs.Token.{Token, Tokens}
-use Rattle.expr_parse.specs.GrammarRules.{kinds}
+use Rattle.expr_parse.proofs.Words.{Token, Tokens, kinds}
 
 pub kinds_append : (front back : Tokens) → kinds (front ++ back) ≡ kinds front ++ kinds back
 kinds_append [] back = refl
@@ -16,6 +15,9 @@ kinds_first [] k ks e = absurd (cc)
 kinds_first ((p, l) ∷ ts) k ks e =
     let same : l ≡ k = cc in
     (p, ts, ap (λ m. ◌∷◌ (p, m) ts) same, cc)
+
+pub kinds_one : (ts : Tokens) (k : Token) → kinds ts ≡ k ∷ [] → (p : ℕ) × (ts ≡ (p, k) ∷ [])
+kinds_one ts k e = let f = kinds_first ts k [] e in (f.0, f.2 ∙ ap (λ xs. (f.0, k) ∷ xs) (kinds_none f.1 f.3))
 
 pub kinds_split : (ts : Tokens) (ks ls : List Token) → kinds ts ≡ ks ++ ls → (us : Tokens) × (vs : Tokens) × (ts ≡ us ++ vs) × (kinds us ≡ ks) × (kinds vs ≡ ls)
 kinds_split ts [] ls e = ([], ts, refl, refl, e)

@@ -1,30 +1,161 @@
--- What the rules of the grammar read is well-formed, and opens no more levels than they allow.
-use Rattle.std.proofs.Common.{◌≡◌, ℕ, ◌+◌, ◌≤◌, Bool, true, false, List, [], ◌∷◌, ◌++◌, refl, ap, subst, ◌∙◌, arith}
+-- What is read is well-formed: what a token spells can be part of a well-formed match, and the rules make no other of it.
+use Rattle.std.proofs.Common.{◌≡◌, ℕ, zero, suc, ◌+◌, ◌==◌, ◌<◌, ◌^◌, Bool, true, false, cond, List, [], ◌∷◌, length, map, take, drop, Option, Some}
+use Rattle.std.proofs.Common.{None, unwrap_or, nat_eq, refl, sym, ap, subst, ◌∙◌, arith, ◌≤◌, ◌++◌}
+use Rattle.std.specs.Str.Parse.{digits_value, AllDigits}
+use Rattle.std.specs.Int.Digits.{AllBelowBase, number_from_digits}
+use Rattle.std.proofs.lemmas.Int.Digits.{number_lt, digits_value-lt}
+use Rattle.expr_parse.specs.Spelling.{inside, spelled}
 use Rattle.std.proofs.Math.Nat.{max-le}
-use Rattle.expr_core.specs.Formula.{Formula, formulas}
-use Rattle.expr_core.specs.Formula.Formula.{Leaf, Not as Negation, And as Conjunction, Or as Disjunction}
-use Rattle.expr_core.specs.Text.{is_joined, needs_parentheses, expr_writing}
-use Rattle.expr_core.specs.WellFormed.{IsWellFormed, AreWellFormed, one_if, levels_of, levels_among}
-use Rattle.expr_core.specs.declared.comparison.Item.{Item}
+use Rattle.expr_core.specs.declared.constant.Form.TheVariants as form
 use Rattle.expr_core.specs.declared.comparison.Item.TheVariants as item_of
-use Rattle.expr_core.specs.declared.comparison.Right.{Right}
 use Rattle.expr_core.specs.declared.comparison.Right.TheVariants as right_of
-use Rattle.expr_core.specs.declared.expr.Atom.{Atom}
-use Rattle.expr_core.specs.declared.expr.Atom.TheVariants.{Truth, Bare, Compare}
-use Rattle.expr_core.specs.declared.part.Part.{Part}
-use Rattle.expr_parse.specs.declared.operator.Operator.{Operator}
 use Rattle.expr_parse.specs.declared.operator.Operator.TheVariants as operator
-use Rattle.expr_parse.specs.Grammar.{sign, join}
-use Rattle.expr_parse.specs.Token.{Token, Tokens}
-use Rattle.expr_parse.specs.Token.Token.{Relation, Close, CloseBrace, Comma}
-use Rattle.expr_parse.specs.GrammarRules.{kinds, item_tokens, items_tokens, IsPart, IsRight, IsAtom, IsMatch, AreUnits, IsUnit, IsOperand}
-use Rattle.expr_parse.specs.GrammarRules.IsMatch.{alone, joined as is_match}
-use Rattle.expr_parse.specs.GrammarRules.AreUnits.{last, more}
-use Rattle.expr_parse.specs.GrammarRules.IsUnit.{plain, comparison}
-use Rattle.expr_parse.specs.GrammarRules.IsOperand.{truth, bare, negation, enclosed}
-use Rattle.expr_parse.specs.Written.{IsItem, AreItems, IsRightSide, IsPartName, IsLeaf}
-use Rattle.expr_parse.proofs.Spelled.{AreSpelled}
+use Rattle.expr_parse.proofs.Words.{option_map, pointwise, ltb-true, eqb-true, and_parts, length-map, list_all, slice_split, cond_some}
+use Rattle.expr_parse.proofs.Words.{some_pair_parts, is_digit, octet_of, pair_of, number_of_parts, address, ip4_of, Ip4, mac_of, digits_number}
+use Rattle.expr_parse.proofs.Words.{decimal_of, hexadecimal_of, Const, Token, Name, Number, Text, AddrSet, Group, or_else, is_name, name_after}
+use Rattle.expr_parse.proofs.Words.{is_quotable, quoted_of, constant, number_after_0x, constant_of, signs, sign_among, blanks, longest, first_token}
+use Rattle.expr_parse.proofs.Words.{tokens_at, tokens_from, kinds, IsConst, Formula, formulas, Leaf, Negation, Conjunction, Disjunction, is_joined}
+use Rattle.expr_parse.proofs.Words.{needs_parentheses, expr_writing, IsWellFormed, AreWellFormed, one_if, levels_of, levels_among, Item, Right, Atom}
+use Rattle.expr_parse.proofs.Words.{Truth, Bare, Compare, Part, Operator, level_limit, sign, join, reading, Read, Tokens, Relation, Close, CloseBrace}
+use Rattle.expr_parse.proofs.Words.{Comma, item_tokens, items_tokens, IsPart, IsRight, IsAtom, IsMatch, AreUnits, IsUnit, IsOperand, alone, is_match}
+use Rattle.expr_parse.proofs.Words.{last, more, plain, comparison, is_truth as truth, is_bare as bare, is_negation as negation}
+use Rattle.expr_parse.proofs.Words.{is_enclosed as enclosed, IsItem, AreItems, IsRightSide, IsPartName, IsLeaf}
+use Rattle.expr_parse.proofs.Longest.{guarded, mapped, chosen}
+use Rattle.expr_parse.proofs.Shapes.{below_parts, digits_parts}
+use Rattle.expr_parse.proofs.Traces.{what_is_read}
 use Rattle.expr_parse.proofs.TokenKinds.{kinds_append}
+
+-- Constants fit the spelling of their form.
+
+digits_fit : (radix : ℕ) (text : List ℕ) (n : ℕ) → digits_number radix text ≡ Some n → n < 2 ^ 128
+digits_fit radix text n e = let c = cond_some _ (digits_value radix text) n e in rw (← c.1) (ltb-true _ _ (and_parts _ _ c.0).1)
+
+all_below : (byte : List ℕ → Option ℕ) → ((p : List ℕ) (m : ℕ) → byte p ≡ Some m → m < 256) → (parts : List (List ℕ)) → AllBelowBase 256 (map (λ p. unwrap_or (byte p) 0) parts)
+all_below byte small [] = tt
+all_below byte small (p ∷ ps) = (one (byte p) refl, all_below byte small ps)
+  where
+    one : (o : Option ℕ) → byte p ≡ o → unwrap_or o 0 < 256
+    one None e = omega arith
+    one (Some m) e = small p m e
+
+bytes_fit : (byte : List ℕ → Option ℕ) (count : ℕ) (parts : List (List ℕ)) (n : ℕ) → ((p : List ℕ) (m : ℕ) → byte p ≡ Some m → m < 256) → number_of_parts byte count parts ≡ Some n → n < 256 ^ count
+bytes_fit byte count parts n small e =
+    let c = cond_some _ (number_from_digits 256 (map (λ p. unwrap_or (byte p) 0) parts)) n e in
+    let many : length (map (λ p. unwrap_or (byte p) 0) parts) ≡ count = length-map parts (λ p. unwrap_or (byte p) 0) ∙ eqb-true _ _ (and_parts _ _ c.0).0 in
+    rw (← c.1, ← many) (number_lt 256 (map (λ p. unwrap_or (byte p) 0) parts) (all_below byte small parts))
+
+all_digits : (radix : ℕ) (text : List ℕ) → list_all (λ b. is_digit b radix) text ≡ true → AllDigits radix text
+all_digits radix [] all = tt
+all_digits radix (b ∷ bs) all = let parts = and_parts _ _ all in (ltb-true _ _ parts.0, all_digits radix bs parts.1)
+
+pair_fits : (p : List ℕ) (m : ℕ) → pair_of p ≡ Some m → m < 256
+pair_fits p m e =
+    let outer = guarded _ (digits_number 16 p) m e in
+    let c = cond_some _ (digits_value 16 p) m outer.1 in
+    let two : length p ≡ 2 = eqb-true _ _ outer.0 in
+    let small : digits_value 16 p < 16 ^ length p = digits_value-lt 16 p (all_digits 16 p (digits_parts 16 p m outer.1)) in
+    let squared : digits_value 16 p < 16 ^ 2 = rw two at small in
+    omega (arith, squared, c.1)
+
+octet_fits : (p : List ℕ) (m : ℕ) → octet_of p ≡ Some m → m < 256
+octet_fits p m e = (below_parts 256 (decimal_of p) m e).1
+
+module _ (text : List ℕ) (c : Const) where
+  of_dec : option_map (constant form.Dec) (decimal_of text) ≡ Some c → IsConst c
+  of_dec e = let m = mapped (constant form.Dec) (decimal_of text) c e in subst IsConst m.2
+      (digits_fit 10 text m.0 (guarded _ (digits_number 10 text) m.0 m.1).1)
+
+  of_hex : option_map (constant form.Hex) (number_after_0x text) ≡ Some c → IsConst c
+  of_hex e =
+      let m = mapped (constant form.Hex) (number_after_0x text) c e in
+      let inner = guarded _ (hexadecimal_of (drop 2 text)) m.0 m.1 in
+      subst IsConst m.2 (digits_fit 16 (drop 2 text) m.0 (guarded _ (digits_number 16 (drop 2 text)) m.0 inner.1).1)
+
+  of_mac : option_map (constant form.Mac) (mac_of text) ≡ Some c → IsConst c
+  of_mac e = let m = mapped (constant form.Mac) (mac_of text) c e in subst IsConst m.2
+      (bytes_fit pair_of 6 (slice_split (λ b. b == 58) text) m.0 pair_fits m.1)
+
+  of_ip4 : option_map (λ a. constant form.Ip4 a.0) (ip4_of text) ≡ Some c → IsConst c
+  of_ip4 e =
+      let m = mapped (λ (a : Ip4). constant form.Ip4 a.0) (ip4_of text) c e in
+      let k = mapped address (number_of_parts octet_of 4 (slice_split (λ b. b == 46) text)) m.0 m.1 in
+      let P : Ip4 → Type 0 = λ a. IsConst (constant form.Ip4 a.0) in
+      subst IsConst m.2 (subst P k.2 (bytes_fit octet_of 4 (slice_split (λ b. b == 46) text) k.0 octet_fits k.1))
+
+  constant_fits : constant_of text ≡ Some c → IsConst c
+  constant_fits e = chosen _ _ c e of_dec (λ e. chosen _ _ c e of_hex (λ e. chosen _ _ c e of_mac of_ip4))
+
+-- Tokens.
+
+-- what a token must be to be part of a well-formed match
+abbrev pub IsSpelled : Token → Type 0
+IsSpelled (Name name) = is_name name ≡ true
+IsSpelled (Number c) = IsConst c
+IsSpelled (Text name) = is_quotable name ≡ true
+IsSpelled (AddrSet name) = is_name name ≡ true
+IsSpelled (Group name) = is_name name ≡ true
+IsSpelled _ = Unit {0}
+
+abbrev pub AreSpelled : List Token → Type 0
+AreSpelled [] = Unit {0}
+AreSpelled (t ∷ ts) = IsSpelled t × AreSpelled ts
+
+sign_spelled : (ss : List (List ℕ × Token)) (text : List ℕ) (t : Token) → AreSpelled (map (λ s. s.1) ss) → sign_among ss text ≡ Some t → IsSpelled t
+sign_spelled [] text t all e = absurd cc
+sign_spelled (s ∷ ss) text t all e = by_test (pointwise nat_eq s.0 text) (sign_spelled ss text t all.1) e
+  where
+    by_test : (b : Bool) → (sign_among ss text ≡ Some t → IsSpelled t) → cond b (Some s.1) (sign_among ss text) ≡ Some t → IsSpelled t
+    by_test true others h = let same : s.1 ≡ t = cc in subst IsSpelled same all.0
+    by_test false others h = others h
+
+name_spelled : (mark : ℕ) (text : List ℕ) (name : List ℕ) → name_after mark text ≡ Some name → is_name name ≡ true
+name_spelled mark [] name e = absurd cc
+name_spelled mark (b ∷ bs) name e = let c = cond_some _ bs name e in ap is_name (sym c.1) ∙ (and_parts _ _ c.0).1
+
+module _ (text : List ℕ) (t : Token) where
+  of_group : option_map Group (name_after 64 text) ≡ Some t → IsSpelled t
+  of_group e = let m = mapped Group (name_after 64 text) t e in subst IsSpelled m.2 (name_spelled 64 text m.0 m.1)
+
+  of_set : option_map AddrSet (name_after 36 text) ≡ Some t → IsSpelled t
+  of_set e = let m = mapped AddrSet (name_after 36 text) t e in subst IsSpelled m.2 (name_spelled 36 text m.0 m.1)
+
+  of_quoted : option_map Text (quoted_of text) ≡ Some t → IsSpelled t
+  of_quoted e =
+      let m = mapped Text (quoted_of text) t e in
+      let c = cond_some _ (inside text) m.0 m.1 in
+      subst IsSpelled m.2 (ap is_quotable (sym c.1) ∙ (and_parts _ _ c.0).1)
+
+  of_number : option_map Number (constant_of text) ≡ Some t → IsSpelled t
+  of_number e = let m = mapped Number (constant_of text) t e in subst IsSpelled m.2 (constant_fits text m.0 m.1)
+
+  of_name : cond (is_name text) (Some (Name text)) None ≡ Some t → IsSpelled t
+  of_name e = let c = cond_some (is_name text) (Name text) t e in subst IsSpelled c.1 c.0
+
+  of_sign : sign_among signs text ≡ Some t → IsSpelled t
+  of_sign e = sign_spelled signs text t (tt, (tt, (tt, (tt, (tt, (tt, (tt, (tt, (tt, (tt, (tt, (tt, (tt, (tt, (tt, (tt, (tt, (tt, tt)))))))))))))))))) e
+
+  spelled_is : spelled text ≡ Some t → IsSpelled t
+  unfolding spelled
+  spelled_is e = chosen _ _ t e of_sign (λ e. chosen _ _ t e of_name
+      (λ e. chosen _ _ t e of_number (λ e. chosen _ _ t e of_quoted (λ e. chosen _ _ t e of_set of_group))))
+
+longest_is : (n : ℕ) (text : List ℕ) (t : Token) (m : ℕ) → longest spelled n text ≡ Some (t, m) → IsSpelled t
+longest_is zero text t m e = absurd cc
+longest_is (suc n) text t m e = by_front (spelled (take (suc n) text)) refl (longest_is n text t m) e
+  where
+    by_front : (o : Option Token) → spelled (take (suc n) text) ≡ o → (longest spelled n text ≡ Some (t, m) → IsSpelled t) → or_else (option_map (λ u. (u, suc n)) o) (longest spelled n text) ≡ Some (t, m) → IsSpelled t
+    by_front None is others h = others h
+    by_front (Some u) is others h = let same = some_pair_parts u t (suc n) m h in spelled_is (take (suc n) text) t (is ∙ ap Some same.0)
+
+pub tokens_spelled : (n offset : ℕ) (text : List ℕ) → AreSpelled (kinds (tokens_from n offset text).0)
+tokens_spelled zero offset text = tt
+tokens_spelled (suc n) offset text = by_first (first_token (drop (blanks text) text)) refl (tokens_spelled n)
+  where
+    by_first : (o : Option (Token × ℕ)) → first_token (drop (blanks text) text) ≡ o → ((at : ℕ) (rest : List ℕ) → AreSpelled (kinds (tokens_from n at rest).0)) → AreSpelled (kinds (tokens_at (tokens_from n) (offset + blanks text) (drop (blanks text) text) o).0)
+    by_first None is others = tt
+    by_first (Some found) is others = (longest_is (length (drop (blanks text) text)) (drop (blanks text) text) found.0 found.1 is, others (offset + blanks text + found.1) (drop found.1 (drop (blanks text) text)))
+
+-- What the rules of the grammar read is well-formed, and opens no more levels than they allow.
 
 -- tokens before and after others
 left_of : (ts us : List Token) → AreSpelled (ts ++ us) → AreSpelled ts
@@ -84,7 +215,7 @@ joined_formed operator.And n f g fs h = ((tt, h.0), h.1)
 joined_formed operator.Or n f g fs h = ((tt, h.0), h.1)
 
 mutual
-  pub match_formed : {n : ℕ} {ts : Tokens} {f : Formula Atom} → IsMatch n ts f → AreSpelled (kinds ts) → IsWellFormed IsLeaf f × (levels_of expr_writing f ≤ n)
+  match_formed : {n : ℕ} {ts : Tokens} {f : Formula Atom} → IsMatch n ts f → AreSpelled (kinds ts) → IsWellFormed IsLeaf f × (levels_of expr_writing f ≤ n)
   match_formed (alone u) all = let h = unit_formed u all in (h.0, omega (arith, h.1))
   match_formed {n = n} (is_match o f g fs us) all = joined_formed o n f g fs (units_formed us all)
 
@@ -108,3 +239,6 @@ mutual
       let inside : AreSpelled (kinds inner) = (split (inner ++ (closing, Close) ∷ []) inner closing Close [] refl (subst AreSpelled (ap kinds e) all).1).0 in
       let h = match_formed m inside in
       (h.0, omega (arith, h.1, at_most_one (needs_parentheses expr_writing f)))
+
+pub formed : (text : List ℕ) (f : Formula Atom) → reading text ≡ Read f [] → IsWellFormed IsLeaf f × (levels_of expr_writing f ≤ level_limit)
+formed text f e = match_formed (what_is_read text f e).1 (tokens_spelled (length text + 1) 0 text)

@@ -51,37 +51,22 @@ fn first_token(text: &[u8]) -> Option<FrontToken<'_>>
     }
 }
 
-/// The tokens of a text, and the offset of the first byte that begins none, or of the end.
-pub(crate) fn tokens(alloc: Global, text: &[u8]) -> Result<(Vec<TokenAt<'_>>, u32), OutOfMemory>
-    requires { length text.now < 2 ^ 32 }
-    ensures { IfOk result (λ lexed. (map token_at lexed.0.items, lexed.1) ≡ tokens_of text.now) }
-{
-    let mut tokens = Vec::new(alloc);
-    let mut at = after_blanks(text, 0);
-    while let Some(found) = first_token(&text[at..]) {
-        tokens.push(TokenAt {
-            offset: at as u32,
-            token: found.token,
-        })?;
-        at = after_blanks(text, at + found.len);
-    }
-    Ok((tokens, at as u32))
-}
-
 /// The first tokens of a text, at most so many, and the offset of the first byte after them that is no blank, or of the end.
+/// As many as there are bytes are all: then the byte begins no token.
 pub(crate) fn first_tokens(
     alloc: Global,
     text: &[u8],
     most: usize,
 ) -> Result<(Vec<TokenAt<'_>>, u32), OutOfMemory>
     requires { length text.now < 2 ^ 32 }
-    ensures { IfOk result (λ lexed. (others : Tokens × ℕ) × ((map token_at lexed.0.items ++ others.0, others.1) ≡ tokens_of text.now)) }
+    ensures first { IfOk result (λ lexed. (others : Tokens × ℕ) × ((map token_at lexed.0.items ++ others.0, others.1) ≡ tokens_of text.now)) }
+    ensures all { length text.now ≤ most → IfOk result (λ lexed. (map token_at lexed.0.items, lexed.1) ≡ tokens_of text.now) }
 {
     let mut tokens = Vec::new(alloc);
     let mut at = after_blanks(text, 0);
     while let Some(found) = first_token(&text[at..]) {
         if tokens.len() == most {
-            break;
+            return Ok((tokens, at as u32));
         }
         tokens.push(TokenAt {
             offset: at as u32,

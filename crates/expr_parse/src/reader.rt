@@ -6,7 +6,7 @@ ghost use Rattle.expr_parse.specs.Grammar.Reading.{Read, Fails};
 
 use crate::MatchFault;
 use crate::formula::whole;
-use crate::lexer::{first_tokens, tokens};
+use crate::lexer::first_tokens;
 use crate::tail::stuck;
 use crate::token::TokenAt;
 use expr_core::Expr;
@@ -75,6 +75,6 @@ pub fn parse_match(alloc: Global, text: &[u8]) -> Result<Expr, MatchFault>
             return Err(fault);
         }
     }
-    let (tokens, end) = tokens(alloc, text)?;
+    let (tokens, end) = first_tokens(alloc, text, text.len())?;
     match_of(alloc, &tokens, end, text.len())
 }

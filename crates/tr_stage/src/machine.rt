@@ -16,7 +16,7 @@ const FLOOD_GROUP: u32 = 4_294_967_295;
 
 /// Runs a packet through one pipeline of a switch, and appends a hit to `hits` for each row that acted on it, in
 /// order. After `OutOfMemory` nothing is said of the hits.
-#[tactic(auto, using(crate::proofs::Runs::pipeline_never_stuck))]
+#[tactic(auto, using(crate::proofs::Longest::pipeline_never_stuck))]
 pub fn run_pipeline(
     rows: &Rows,
     dp: ObjId,

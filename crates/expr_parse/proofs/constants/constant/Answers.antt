@@ -1,5 +1,5 @@
 use Rattle.std.proofs.Common.{◌∙◌, arith}
-use Rattle.expr_parse.proofs.ConstantFronts.{begins, goes_on, ends}
+use Rattle.expr_parse.proofs.TokenFronts.{begins, goes_on, ends}
 use Rattle.expr_parse.proofs.constants.constant.Goals as goal
 
 pub loop-len-init : goal.loop-len-init

@@ -1,6 +1,5 @@
 use Rattle.std.proofs.Common.{◌≡◌, ◌≤◌, length}
-use Rattle.expr_parse.specs.Spelling.{spelled}
-use Rattle.expr_parse.specs.Tokens.{first_token, longest}
+use Rattle.expr_parse.proofs.Words.{spelled, first_token, longest}
 use Rattle.expr_parse.proofs.constants.constant.Given as goal
 
 abbrev pub invariant-loop-len : goal.invariant-loop-len

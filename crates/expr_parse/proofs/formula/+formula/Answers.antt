@@ -1,9 +1,7 @@
 use Rattle.std.proofs.Common.{arith, subst}
 use Rattle.std.proofs.lemmas.Result.{err_from_is_err_and}
-use Rattle.expr_core.specs.Formula.{Formula}
-use Rattle.expr_core.specs.declared.expr.Atom.{Atom}
 use Rattle.expr_parse.specs.inner.Gives.{Reads}
-use Rattle.expr_parse.specs.Grammar.{Reading, levels, unit}
+use Rattle.expr_parse.proofs.Words.{Formula, Atom, Reading, levels, unit}
 use Rattle.expr_parse.proofs.Chains.{begins, goes_on, fails, ended}
 use Rattle.expr_parse.proofs.formula.+formula.Goals as goal
 

@@ -1,4 +1,4 @@
-use Rattle.std.proofs.Common.{◌-◌, length, refl, ◌∙◌, arith}
+use Rattle.std.proofs.Common.{◌-◌, [], ◌∷◌, length, length-append, refl, ap, ◌∙◌, arith}
 use Rattle.expr_parse.specs.inner.Borrowed.{token_of}
 use Rattle.expr_parse.proofs.Lexing.{token_within, begins, goes_on}
 use Rattle.expr_parse.proofs.lexer.first_tokens.Goals as goal
@@ -8,6 +8,7 @@ loop-found-init c =
     let text = c.args.text.now in
     record {
       within = c.after_blanks-at.ensures.within;
+      few = omega (arith, ap length c.new-tokens.ensures.items);
       same = (length text, omega arith, begins c.new-tokens.result.items text c.after_blanks-at.result c.new-tokens.ensures.items c.after_blanks-at.ensures.value);
     }
 
@@ -34,6 +35,15 @@ loop-found-preserved c =
     let rest = l.invariant.same in
     record {
       within = next.ensures.within;
+      few = omega (
+        arith,
+        l.invariant.few,
+        room.1,
+        next.ensures.value,
+        ap length c.in_ok-push.ensures.items,
+        length-append l.tokens.items
+            (record { offset = l.at; token = f.token } ∷ []),
+      );
       same = (rest.0 - 1, omega (arith, rest.1, room.1, room.2, next.ensures.value), goes_on l.tokens.items c.push.new.self.items (record { offset = l.at; token = f.token }) text l.at next.result rest.0 f.len room.0 refl (omega (arith, rest.1, room.1, room.2)) c.in_ok-push.ensures.items next.ensures.value ∙ rest.2);
     }
 

@@ -6,6 +6,7 @@ use Rattle.expr_parse.proofs.lexer.first_tokens.Given as goal
 abbrev pub invariant-loop-found : goal.invariant-loop-found
 invariant-loop-found l = record {
   within : l.at ≤ length l.text;
+  few : length l.tokens.items ≤ l.at;
   same : (n : ℕ) × (length l.text - l.at ≤ n) × (after l.tokens.items (standing n l.at (drop l.at l.text)) ≡ tokens_of l.text);
 }
 

@@ -1,10 +1,9 @@
 use Rattle.std.proofs.Common.{◌<◌, ◌∙◌, arith}
-use Rattle.std.specs.List.{prefix_len}
 use Rattle.std.proofs.lemmas.Option.{none-some, same_Some}
-use Rattle.expr_parse.specs.Spelling.{is_in_name}
-use Rattle.expr_parse.proofs.NameFronts.{mac_wins, name_wins, letter_name, name_length}
-use Rattle.expr_parse.proofs.names.name_or_mac.Goals as goal
+use Rattle.expr_parse.proofs.Words.{prefix_len, is_in_name}
+use Rattle.expr_parse.proofs.TokenFronts.{mac_wins, name_wins, letter_name, name_length}
 use Rattle.expr_parse.proofs.names.name_or_mac.Goals.{then-name-lt-MAC_LEN+in_default, else-name-lt-MAC_LEN}
+use Rattle.expr_parse.proofs.names.name_or_mac.Goals as goal
 
 pub returns-in_err-name : goal.returns-in_err-name
 returns-in_err-name c = absurd (none-some _ (c.in_err-name.ensures ∙ letter_name c.args.text.now c.requires.some c.requires.first))

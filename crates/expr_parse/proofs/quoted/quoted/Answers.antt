@@ -1,6 +1,6 @@
 use Rattle.std.proofs.Common.{◌-◌, length, take, drop, arith}
 use Rattle.std.proofs.lemmas.List.{take_rest}
-use Rattle.expr_parse.proofs.QuotedFronts.{rest_found, rest_missing}
+use Rattle.expr_parse.proofs.TokenFronts.{rest_found, rest_missing}
 use Rattle.expr_parse.proofs.quoted.quoted.Goals as goal
 use Rattle.expr_parse.proofs.quoted.quoted.Goals.{else-end-rest-via-then-end-rest+else-is_quotable, else-end-rest-via-else-end-rest}
 

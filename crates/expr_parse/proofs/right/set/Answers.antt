@@ -1,4 +1,4 @@
-use Rattle.expr_parse.proofs.Sets.{begins_set}
+use Rattle.expr_parse.proofs.Chains.{begins_set}
 use Rattle.expr_parse.proofs.right.set.Goals as goal
 
 pub loop-rest-init : goal.loop-rest-init

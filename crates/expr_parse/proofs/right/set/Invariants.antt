@@ -1,5 +1,5 @@
 use Rattle.std.proofs.Common.{length}
-use Rattle.expr_parse.proofs.Sets.{SetSoFar}
+use Rattle.expr_parse.proofs.Chains.{SetSoFar}
 use Rattle.expr_parse.proofs.right.set.Given as goal
 
 abbrev pub invariant-loop-rest : goal.invariant-loop-rest

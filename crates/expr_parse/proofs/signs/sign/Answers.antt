@@ -1,6 +1,6 @@
 use Rattle.std.proofs.Common.{arith}
 use Rattle.expr_parse.specs.inner.Borrowed.{token_of}
-use Rattle.expr_parse.proofs.SignFronts.{pair_found, single_found, none_found}
+use Rattle.expr_parse.proofs.TokenFronts.{pair_found, single_found, none_found}
 use Rattle.expr_parse.proofs.signs.sign.Goals as goal
 use Rattle.expr_parse.proofs.signs.sign.Goals.{then-text-gt1+in_default, else-text-gt1}
 

@@ -9,7 +9,7 @@ use Rattle.nv_io.specs.declared.sink.SinkFailed.{SinkFailed}
 use Rattle.nv_io.specs.declared.source.SourceFailed.{SourceFailed}
 use Rattle.nv_serve.specs.declared.stop.Stop.{Stop}
 use Rattle.nv_serve.specs.declared.stop.Stop.TheVariants as stops
-use Rattle.nv_serve.specs.Network.{Tables}
+use Rattle.nb_model.specs.Network.{Tables}
 use Rattle.nv_serve.specs.Reply.{reply}
 use Rattle.nv_serve.specs.Output.{output, complete_output, input_limit}
 use Rattle.nv_serve.specs.Calls.{IsPrefix, BeginsDue, Gave, Took, Moved, told_left, Point, start_at, IsReady, piece_limit, Calls, no_call, and_take, and_puts, LastTakeGivesNothing}

@@ -1,7 +1,7 @@
 -- How the output of an input goes on with the input.
 use Rattle.std.proofs.Common.{◌≡◌, ℕ, ◌-◌, List, [], ◌∷◌, ◌++◌, length, take, refl, sym, ap, ◌∙◌, subst}
 use Rattle.std.proofs.lemmas.List.{append-nil}
-use Rattle.nv_serve.specs.Network.{Tables, empty_network}
+use Rattle.nb_model.specs.Network.{Tables, empty_network}
 use Rattle.nv_serve.specs.Reply.{reply, network_after, some_refused}
 use Rattle.nv_serve.specs.Output.{is_newline, lines_of, complete_lines, output, complete_output}
 use Rattle.nv_serve.specs.Calls.{IsPrefix}

@@ -8,7 +8,7 @@ use Rattle.nv_serve.specs.declared.line.Line.TheVariants.{Nothing, AddSwitch, Ad
 use Rattle.nv_serve.specs.declared.stop.Stop.{Stop}
 use Rattle.nv_serve.specs.declared.stop.Stop.TheVariants.{OutOfMemory}
 use Rattle.nv_serve.specs.Line.{said}
-use Rattle.nv_serve.specs.Network.{Tables, switch_named, port_named, with_switch, with_port}
+use Rattle.nb_model.specs.Network.{Tables, switch_named, port_named, with_switch, with_port}
 use Rattle.nv_serve.specs.Reply.{Reply, where_named, where_new, reply, reply_to}
 use Rattle.nv_serve.specs.Output.{output, complete_output}
 use Rattle.nv_serve.specs.inner.Writing.{Wrote, PutFailed, StopsWithin}

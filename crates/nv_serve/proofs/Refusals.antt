@@ -2,8 +2,8 @@
 use Rattle.std.proofs.Common.{◌≡◌, ℕ, true, false, Option, Some, None, List, [], ◌∷◌, ◌++◌, refl}
 use Rattle.std.specs.Prelude.{codes, nat_eq}
 use Rattle.std.specs.List.{starts_with, flat_map}
-use Rattle.nv_serve.specs.declared.event.Event.{Event}
-use Rattle.nv_serve.specs.declared.event.Event.TheVariants as events
+use Rattle.tr_walk.specs.declared.event.Event.{Event}
+use Rattle.tr_walk.specs.declared.event.Event.TheVariants as events
 use Rattle.nv_serve.specs.declared.line.Line.{Line}
 use Rattle.nv_serve.specs.declared.line.Line.TheVariants.{Nothing, AddSwitch, AddPort, SetAddress, ListFlows, Frame, Refused}
 use Rattle.nv_serve.specs.declared.refusal.Refusal.{Refusal}
@@ -12,11 +12,11 @@ use Rattle.sb_rows.specs.declared.row.Row.{Row}
 use Rattle.sb_rows.specs.Row.{rows_of}
 use Rattle.sb_rows.specs.Listing.{datapath_listing}
 use Rattle.nv_serve.specs.Events.{event_line}
-use Rattle.nv_serve.specs.FullBuild.{full_build, flows}
+use Rattle.nd_full.specs.FullBuild.{full_build}
 use Rattle.nv_serve.specs.Line.{said}
-use Rattle.nv_serve.specs.Network.{Switch, Tables, switch_named, port_named, with_switch, with_port}
-use Rattle.nv_serve.specs.Reply.{Reply, ok_line, refusal_line, where_named, where_new, reply, reply_to}
-use Rattle.nv_serve.specs.Walk.{machine}
+use Rattle.nb_model.specs.Network.{Switch, Tables, switch_named, port_named, with_switch, with_port}
+use Rattle.nv_serve.specs.Reply.{flows, Reply, ok_line, refusal_line, where_named, where_new, reply, reply_to}
+use Rattle.tr_walk.specs.Walk.{machine}
 
 -- a reply that says whether it is a refusal
 abbrev Says : Reply → Type 0

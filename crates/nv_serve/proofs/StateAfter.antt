@@ -2,7 +2,7 @@
 use Rattle.std.proofs.Common.{◌≡◌, ℕ, ◌-◌, Bool, true, false, ◌||◌, List, [], ◌∷◌, ◌++◌, length, take, refl, sym, ap, ◌∙◌, append_assoc}
 use Rattle.std.proofs.lemmas.List.{append-nil}
 use Rattle.std.specs.List.{slice_split}
-use Rattle.nv_serve.specs.Network.{Tables, empty_network}
+use Rattle.nb_model.specs.Network.{Tables, empty_network}
 use Rattle.nv_serve.specs.Reply.{reply, replies, some_refused, network_after}
 use Rattle.nv_serve.specs.Output.{is_newline, lines_of, complete_lines, output, complete_output, is_refused}
 use Rattle.nv_serve.specs.inner.StateAfter.{IsStateAfter}

@@ -7,13 +7,13 @@ use Rattle.std.proofs.lemmas.Option.{none-some, same_Some}
 use Rattle.nv_serve.specs.declared.line.Line.{Line}
 use Rattle.nv_serve.specs.declared.line.Line.TheVariants.{Nothing, AddSwitch, AddPort, SetAddress, ListFlows, Frame, Refused}
 use Rattle.nv_serve.specs.declared.refusal.Refusal.TheVariants.{UnknownCommand, BadName}
-use Rattle.nv_serve.specs.declared.port.Port.{Port}
+use Rattle.nb_model.specs.declared.port.Port.{Port}
 use Rattle.nv_base.specs.Mac.{mac_of}
 use Rattle.nv_base.specs.Name.{is_object_name}
-use Rattle.sb_rows.specs.Match.{is_multicast}
+use Rattle.nb_model.specs.Address.{is_multicast}
 use Rattle.nv_serve.specs.Address.{unicast, unicast_of}
 use Rattle.nv_serve.specs.Line.{words_of, is_comment, are_unquoted, said, said_by, command_of, command_of_one, command_of_two, named, addressed}
-use Rattle.nv_serve.specs.Network.{Tables, empty_network, port_named}
+use Rattle.nb_model.specs.Network.{Tables, empty_network, port_named}
 use Rattle.nv_serve.specs.Reply.{reply, reply_to, network_after}
 use Rattle.nv_serve.specs.Traced.{TellsMeaning, FramesAreMeant}
 use Rattle.nv_serve.proofs.Reached.{each_refined}

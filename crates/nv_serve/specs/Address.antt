@@ -1,7 +1,7 @@
 -- Unicast addresses.
 use Rattle.std.specs.Prelude.{ℕ, ◌==◌, ◌||◌, List, Option, Some, None, if◌then◌else◌}
 use Rattle.nv_base.specs.Mac.{mac_of}
-use Rattle.sb_rows.specs.Match.{is_multicast}
+use Rattle.nb_model.specs.Address.{is_multicast}
 
 -- a unicast MAC: neither zero nor multicast
 abbrev pub unicast : Option ℕ → Option ℕ

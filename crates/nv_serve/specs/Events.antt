@@ -1,22 +1,13 @@
 -- How the events of a trace are written.
-use Rattle.std.specs.Prelude.{ℕ, ◌==◌, List, [], ◌++◌, Option, Some, None, codes, decimal}
-use Rattle.std.specs.List.{find}
+use Rattle.std.specs.Prelude.{ℕ, List, [], ◌++◌, Option, Some, None, codes, decimal}
 use Rattle.nv_base.specs.declared.object.ObjId.{ObjId}
 use Rattle.pkt_core.specs.Text.{packet_text}
 use Rattle.sb_rows.specs.Stage.{stage_name}
-use Rattle.tr_stage.specs.Outcome.{cause_name}
-use Rattle.nv_serve.specs.declared.event.Event.{Event}
-use Rattle.nv_serve.specs.declared.event.Event.TheVariants.{Hit, Output, Drop}
-use Rattle.nv_serve.specs.declared.port.Port.{Port}
-use Rattle.nv_serve.specs.Network.{Switch, Tables}
-
--- the switch of this number
-abbrev pub switch_numbered : List Switch → ObjId → Option Switch
-switch_numbered switches number = find (λ switch. switch.0.0 == number.0) switches
-
--- the port of this number
-abbrev pub port_numbered : List Port → ObjId → Option Port
-port_numbered ports number = find (λ port. port.id.0 == number.0) ports
+use Rattle.net_meaning.specs.Cause.{cause_name}
+use Rattle.tr_walk.specs.declared.event.Event.{Event}
+use Rattle.tr_walk.specs.declared.event.Event.TheVariants.{Hit, Output, Drop}
+use Rattle.nb_model.specs.declared.port.Port.{Port}
+use Rattle.nb_model.specs.Network.{Switch, Tables, switch_numbered, port_numbered}
 
 -- a switch's name, or nothing where there is none
 abbrev pub name_of_switch : Option Switch → List ℕ

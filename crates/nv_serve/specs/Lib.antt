@@ -1,15 +1,10 @@
 pub mod Address
 pub mod Calls
 pub mod Events
-pub mod FullBuild
 pub mod Line
-pub mod Network
 pub mod Output
 pub mod Reply
 pub mod Run
-pub mod Sound
 pub mod Status
-pub mod SwitchMeaning
 pub mod Traced
-pub mod Walk
 pub mod inner

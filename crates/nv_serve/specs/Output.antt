@@ -1,7 +1,7 @@
 -- The output of a run.
 use Rattle.std.specs.Prelude.{ℕ, ◌-◌, Bool, ◌==◌, if◌then◌else◌, List, length, take, nat_lt, codes}
 use Rattle.std.specs.List.{slice_split}
-use Rattle.nv_serve.specs.Network.{empty_network}
+use Rattle.nb_model.specs.Network.{empty_network}
 use Rattle.nv_serve.specs.Reply.{replies, some_refused}
 
 abbrev pub is_newline : ℕ → Bool

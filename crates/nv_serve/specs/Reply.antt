@@ -5,11 +5,12 @@ use Rattle.nv_serve.specs.declared.line.Line.{Line}
 use Rattle.nv_serve.specs.declared.line.Line.TheVariants.{Nothing, AddSwitch, AddPort, SetAddress, ListFlows, Frame, Refused}
 use Rattle.nv_serve.specs.declared.refusal.Refusal.{Refusal}
 use Rattle.nv_serve.specs.declared.refusal.Refusal.TheVariants.{UnknownCommand, BadName, BadMac, NoSuchObject, Exists}
-use Rattle.nv_serve.specs.Network.{Tables, switch_named, port_named, with_switch, with_port, with_address}
+use Rattle.nb_model.specs.Network.{Tables, switch_named, port_named, with_switch, with_port, with_address}
 use Rattle.nv_serve.specs.Line.{said}
-use Rattle.nv_serve.specs.FullBuild.{full_build, flows}
+use Rattle.sb_rows.specs.Listing.{listing}
+use Rattle.nd_full.specs.FullBuild.{full_build}
 use Rattle.nv_serve.specs.Events.{event_line}
-use Rattle.nv_serve.specs.Walk.{machine}
+use Rattle.tr_walk.specs.Walk.{machine}
 
 -- the text of a reply, whether it is a refusal, and the network after the line
 pub record Reply : Type 0 where
@@ -46,6 +47,10 @@ where_named tables name (Some object) reply_for = reply_for object
 abbrev pub where_new : {X : Type 0} → Tables → List ℕ → Option X → Tables → Reply
 where_new tables name None after = accept [] after
 where_new tables name (Some object) after = refuse tables (Exists name)
+
+-- the listing of all flows
+unfoldable pub flows : Tables → List ℕ
+flows tables = listing (full_build tables) tables.switches None
 
 -- the reply to what a line says
 abbrev pub reply_to : Tables → Line → Reply

@@ -2,13 +2,13 @@
 use Rattle.std.specs.Prelude.{◌≡◌, ℕ, List, ◌∷◌, ◌++◌, Some}
 use Rattle.std.specs.List.{flat_map}
 use Rattle.nv_serve.specs.declared.line.Line.TheVariants.{Frame}
-use Rattle.nv_serve.specs.declared.port.Port.{Port}
-use Rattle.nv_serve.specs.FullBuild.{full_build}
+use Rattle.nb_model.specs.declared.port.Port.{Port}
+use Rattle.nd_full.specs.FullBuild.{full_build}
 use Rattle.nv_serve.specs.Line.{said}
-use Rattle.nv_serve.specs.Network.{Tables, empty_network, port_named}
+use Rattle.nb_model.specs.Network.{Tables, empty_network, port_named}
 use Rattle.nv_serve.specs.Events.{event_line}
-use Rattle.nv_serve.specs.SwitchMeaning.{meaning}
-use Rattle.nv_serve.specs.Walk.{machine, without_hits}
+use Rattle.net_meaning.specs.SwitchMeaning.{meaning}
+use Rattle.tr_walk.specs.Walk.{machine, without_hits}
 use Rattle.nv_serve.specs.Reply.{ok_line, reply, network_after}
 
 -- the text is the lines of the machine's events, and `ok`; and the events are, hits left out, what the switch does with the frame

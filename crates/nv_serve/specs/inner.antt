@@ -1,7 +1,5 @@
 -- What private contracts and proofs cite. No clause of a public call does, so a reader need not believe it.
 pub mod Endings
-pub mod Exact
-pub mod Index
 pub mod KeptRows
 pub mod Pieces
 pub mod StateAfter

@@ -1,13 +1,13 @@
 ghost use Rattle.std.specs.Prelude.{◌≡◌, ◌++◌, List, ℕ, OnOk};
 ghost use Rattle.std.specs.List.{flat_map};
 ghost use Rattle.nv_serve.specs.Events.{switch_name, port_name, event_line};
-ghost use Rattle.nv_serve.specs.declared.event.Event.TheVariants.{Hit, Output, Drop};
+ghost use Rattle.tr_walk.specs.declared.event.Event.TheVariants.{Hit, Output, Drop};
 
-use crate::Event;
-use crate::network::Network;
+use nb_model::Network;
+use net_meaning::Cause;
 use nv_base::{ObjId, OutOfMemory, put_dec};
 use pkt_core::{Packet, put_packet};
-use tr_stage::Cause;
+use tr_walk::Event;
 
 // Writes the lines of events.
 pub fn put_events(network: &Network, events: &[Event], out: &mut Vec<u8>) -> Result<(), OutOfMemory>

@@ -1,16 +1,10 @@
 ghost use Rattle.std.specs.Prelude.{◌≡◌, ◌++◌, ℕ, List, [], ◌∷◌, codes, nat_eq};
 ghost use Rattle.std.specs.List.{starts_with};
 ghost use Rattle.nv_serve.specs.Calls.{IsPrefix};
-ghost use Rattle.nv_serve.specs.Network.{Tables, empty_network};
+ghost use Rattle.nb_model.specs.Network.{Tables, empty_network};
 ghost use Rattle.nv_serve.specs.Output.{output, complete_output};
 ghost use Rattle.nv_serve.specs.Reply.{reply, network_after};
-ghost use Rattle.nv_serve.specs.Sound.{IsSound};
-ghost use Rattle.nv_serve.specs.Walk.{IsRefined};
-
-/// In each sound network the rows do with each frame for a unicast MAC what the switch does with it.
-pub fn sound_networks_are_refined()
-    ensures { (tables : Tables) → IsSound tables → IsRefined tables }
-{}
+ghost use Rattle.nb_model.specs.Sound.{IsSound};
 
 /// Each network that lines leave is sound.
 pub fn lines_leave_sound_networks()

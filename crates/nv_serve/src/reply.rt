@@ -1,9 +1,8 @@
 ghost use Rattle.std.specs.Prelude.{◌≡◌, ◌++◌, ◌+◌, ◌<◌, ◌≤◌, ◌^◌, ℕ, List, IfOk, OnOk, true, false};
-ghost use Rattle.nv_serve.specs.FullBuild.{flows};
-ghost use Rattle.nv_serve.specs.Reply.{ok_line, refusal_line, reply_to, reply};
+ghost use Rattle.nv_serve.specs.Reply.{flows, ok_line, refusal_line, reply_to, reply};
 
 use crate::events::put_events;
-use crate::full_build::put_flows;
+use crate::flows::put_flows;
 use crate::line::{Line, read_line};
 use crate::refusal::Refusal;
 use crate::session::Session;

@@ -1,5 +1,5 @@
 ghost use Rattle.std.specs.Prelude.{◌≡◌, ◌++◌, ◌+◌, ◌<◌, ◌≤◌, ◌^◌, ◌||◌, ℕ, List, [], ◌∷◌, OnOk, IfErr, length, false};
-ghost use Rattle.nv_serve.specs.Network.{empty_network};
+ghost use Rattle.nb_model.specs.Network.{empty_network};
 ghost use Rattle.nv_serve.specs.Reply.{reply};
 ghost use Rattle.nv_serve.specs.inner.Pieces.{IsDue, BeginsOutput};
 ghost use Rattle.nv_serve.specs.inner.StateAfter.{IsStateAfter};

@@ -1,7 +1,7 @@
 ghost use Rattle.std.specs.Prelude.{◌≡◌, ◌+◌, ◌<◌, ◌^◌, None, OnOk, OnErr, IfOk, IsSome};
 ghost use Rattle.std.specs.List.{Contains};
-ghost use Rattle.nv_serve.specs.FullBuild.{full_build};
-ghost use Rattle.nv_serve.specs.Network.{
+ghost use Rattle.nd_full.specs.FullBuild.{full_build};
+ghost use Rattle.nb_model.specs.Network.{
   empty_network,
   switch_named,
   port_named,
@@ -9,18 +9,17 @@ ghost use Rattle.nv_serve.specs.Network.{
   with_port,
   with_address,
 };
-ghost use Rattle.nv_serve.specs.Sound.{switch_numbers};
+ghost use Rattle.nb_model.specs.Sound.{switch_numbers};
 ghost use Rattle.nv_serve.specs.inner.KeptRows.{AreRowsOf};
-ghost use Rattle.nv_serve.specs.Walk.{machine, IsRefined};
+ghost use Rattle.tr_walk.specs.Walk.{machine, IsRefined};
 
-use crate::Event;
-use crate::full_build::full_build;
-use crate::network::Network;
-use crate::walk::trace;
+use nb_model::Network;
+use nd_full::full_build;
 use nv_base::{Mac, Name, ObjId, OutOfMemory};
 use sb_rows::Rows;
 use std::alloc::Global;
 use std::marker::Model;
+use tr_walk::{Event, trace};
 
 // The network, and its rows where they were made since it last changed.
 #[derive(Drop)]
@@ -30,7 +29,7 @@ pub struct Session {
 }
 
 impl Model for Session {
-    ghost use Rattle.nv_serve.specs.Network.{Tables};
+    ghost use Rattle.nb_model.specs.Network.{Tables};
 
     ghost Value = { Tables };
 
@@ -114,6 +113,7 @@ impl Session {
         if let Some(rows) = self.rows.take() {
             return Ok(rows);
         }
-        full_build(alloc, &self.network)
+        let rows = full_build(alloc, &self.network)?;
+        Ok(rows)
     }
 }

@@ -8,7 +8,7 @@ use Rattle.sb_rows.specs.declared.row.PlainAction.TheVariants.{Next, Drop}
 use Rattle.sb_rows.specs.declared.row.Row.{Row}
 use Rattle.sb_rows.specs.Stage.{next_stage}
 use Rattle.sb_rows.specs.Match.{select}
-use Rattle.tr_stage.specs.declared.outcome.Cause.{Cause}
+use Rattle.net_meaning.specs.declared.cause.Cause.{Cause}
 use Rattle.tr_stage.specs.declared.outcome.Hit.{Hit}
 use Rattle.tr_stage.specs.Machine.{cause_at, PipelineEnd, PipelineRun, at_end, after_hit, run_from}
 use Rattle.tr_stage.specs.Machine.PipelineEnd.{Stuck}

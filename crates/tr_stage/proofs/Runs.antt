@@ -13,7 +13,7 @@ use Rattle.sb_rows.specs.declared.row.Row.{Row}
 use Rattle.sb_rows.specs.Stage.{stage_place, next_stage, is_of_switch, is_last}
 use Rattle.sb_rows.specs.Match.{select}
 use Rattle.sb_rows.proofs.Stages.{place_below, next_of_switch}
-use Rattle.tr_stage.specs.declared.outcome.Cause.{Cause}
+use Rattle.net_meaning.specs.declared.cause.Cause.{Cause}
 use Rattle.tr_stage.specs.declared.outcome.Outcome.{Outcome}
 use Rattle.tr_stage.specs.Machine.{cause_at, run_from, run_pipeline, IsRunnable}
 use Rattle.tr_stage.specs.Machine.PipelineEnd.{Ended, Stuck}

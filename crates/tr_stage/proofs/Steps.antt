@@ -11,7 +11,7 @@ use Rattle.sb_rows.specs.declared.stage.Stage.TheVariants.{LsInCheckPortSec, LsO
 use Rattle.sb_rows.specs.declared.stage.Pipeline.TheVariants.{Ingress, Egress}
 use Rattle.sb_rows.specs.Stage.{all_stages, pipeline_of, stage_at, first_stage, next_stage}
 use Rattle.sb_rows.specs.Match.{select}
-use Rattle.tr_stage.specs.declared.outcome.Cause.{Cause}
+use Rattle.net_meaning.specs.declared.cause.Cause.{Cause}
 use Rattle.tr_stage.specs.declared.outcome.Outcome.TheVariants as outcomes
 use Rattle.tr_stage.specs.Machine.{cause_at, flood_group, bound_for, sent, at_end, hit_of, after_hit, run_next, run_stage, run_from, step_budget, run_pipeline}
 use Rattle.tr_stage.specs.Machine.PipelineEnd.{Ended, Stuck}

@@ -14,8 +14,8 @@ use Rattle.sb_rows.specs.declared.row.PlainAction.TheVariants.{Next, Drop, Outpu
 use Rattle.sb_rows.specs.declared.row.Row.{Row}
 use Rattle.sb_rows.specs.Stage.{pipeline_of, first_stage, next_stage, is_last, is_of_switch}
 use Rattle.sb_rows.specs.Match.{select}
-use Rattle.tr_stage.specs.declared.outcome.Cause.{Cause}
-use Rattle.tr_stage.specs.declared.outcome.Cause.TheVariants.{PortSec, Unknown}
+use Rattle.net_meaning.specs.declared.cause.Cause.{Cause}
+use Rattle.net_meaning.specs.declared.cause.Cause.TheVariants.{PortSec, Unknown}
 use Rattle.tr_stage.specs.declared.outcome.Hit.{Hit}
 use Rattle.tr_stage.specs.declared.outcome.Outcome.{Outcome}
 use Rattle.tr_stage.specs.declared.outcome.Outcome.TheVariants as outcomes

@@ -7,5 +7,6 @@ mod machine;
 mod outcome;
 
 pub use machine::run_pipeline;
-pub use outcome::{Cause, Hit, Outcome};
+pub use net_meaning::Cause;
+pub use outcome::{Hit, Outcome};
 pub use sb_rows::Pipeline;

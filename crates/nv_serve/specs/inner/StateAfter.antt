@@ -1,7 +1,7 @@
 -- The state of the program after a part of its input.
 use Rattle.std.specs.Prelude.{◌≡◌, ℕ, Bool, List, [], ◌∷◌, ◌++◌}
 use Rattle.std.specs.List.{slice_split}
-use Rattle.nv_serve.specs.Network.{Tables, empty_network}
+use Rattle.nb_model.specs.Network.{Tables, empty_network}
 use Rattle.nv_serve.specs.Reply.{network_after, some_refused}
 use Rattle.nv_serve.specs.Output.{is_newline, lines_of, complete_lines}
 

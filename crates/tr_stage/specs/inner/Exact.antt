@@ -1,19 +1,14 @@
--- Hits, causes and outcomes that are equal by `==` are one value.
-use Rattle.std.proofs.Common.{◌≡◌, true, ap, ◌∙◌}
+-- Hits and outcomes that are equal by `==` are one value.
+use Rattle.std.proofs.Common.{◌≡◌, ap, ◌∙◌}
 use Rattle.std.proofs.lemmas.Bool.{eqb-true, false≢true, and_parts}
-use denote.Enum.Bare.{sameb, same_true}
 use Rattle.nv_base.specs.inner.Exact as tells
 use Rattle.nv_base.specs.inner.Exact.{Tells}
+use Rattle.net_meaning.specs.inner.Exact as of_meaning
 use Rattle.pkt_core.specs.Packet.{Values}
 use Rattle.sb_rows.specs.inner.Exact as of_rows
-use Rattle.tr_stage.specs.contracts.outcome.Cause as causes
 use Rattle.tr_stage.specs.contracts.outcome.HitPartialEq.TheImpl as hit_eq
 use Rattle.tr_stage.specs.contracts.outcome.OutcomePartialEq.TheImpl as outcome_eq
-use Rattle.tr_stage.specs.declared.outcome.Cause.{Cause}
 use Rattle.tr_stage.specs.declared.outcome.Outcome.TheVariants.{Leave, Deliver, Drop}
-
-pub cause : (a b : Cause) → sameb causes.the_type a b ≡ true → a ≡ b
-cause = same_true causes.the_type tt
 
 pub hit : Tells ((hit_eq.ghosts).eq)
 hit a b e =
@@ -37,4 +32,4 @@ outcome (Deliver a) (Deliver b) e = ap Deliver (tells.list _ tells.number a b e)
 outcome (Deliver a) (Drop d) e = absurd (false≢true e)
 outcome (Drop c) (Leave b n) e = absurd (false≢true e)
 outcome (Drop c) (Deliver b) e = absurd (false≢true e)
-outcome (Drop c) (Drop d) e = ap Drop (cause _ _ e)
+outcome (Drop c) (Drop d) e = ap Drop (of_meaning.cause _ _ e)

@@ -1,5 +1,5 @@
 use Rattle.std.proofs.Common.{rules}
-use Rattle.nv_serve.proofs.Index.{switch_there}
+use Rattle.nb_model.proofs.Index.{switch_there}
 use Rattle.nv_serve.proofs.reply.run_lsp_add.Goals as goal
 
 -- a name leads to a switch of the network

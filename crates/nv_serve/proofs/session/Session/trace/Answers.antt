@@ -1,9 +1,11 @@
-use Rattle.nv_serve.proofs.Refinement.{refinement}
+use Rattle.tr_walk.proofs.Refinement.{sound_refined}
+use Rattle.tr_walk.proofs.Runnable.{runnable}
 use Rattle.nv_serve.proofs.session.Session.trace.Goals as goal
 
+-- each packet comes to an end in the rows of the network
 pub trace-requires : goal.trace-requires
-trace-requires c = c.in_ok-rows.ensures.rows.runnable c.args.dp c.requires
+trace-requires c = rw c.in_ok-rows.ensures.rows.built (runnable c.args.self.now c.args.dp c.requires)
 
 -- the rows do what the switch does
 pub returns-clause-refinement : goal.returns-clause-refinement
-returns-clause-refinement c = λ arrival mac there one. refinement c.args.self.now arrival mac c.in_ok-rows.ensures.rows.numbered there one
+returns-clause-refinement c = sound_refined c.args.self.now c.in_ok-rows.ensures.rows.sound

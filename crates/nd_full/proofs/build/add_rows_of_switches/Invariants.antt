@@ -1,0 +1,8 @@
+use Rattle.std.proofs.Common.{◌≡◌, ◌++◌, take}
+use Rattle.std.specs.List.{flat_map}
+use Rattle.nd_full.specs.FullBuild.{switch_rows}
+use Rattle.nd_full.proofs.build.add_rows_of_switches.Given as goal
+
+-- the rows of the switches so far are after what was there
+abbrev pub invariant-loop-switch : goal.invariant-loop-switch
+invariant-loop-switch l = l.rows.items ≡ l.initial.rows.items ++ flat_map switch_rows (take l.switch-index l.switches)

@@ -1,0 +1,10 @@
+-- The words of a trace for why a packet is dropped.
+use Rattle.std.specs.Prelude.{ℕ, List, codes}
+use Rattle.net_meaning.specs.declared.cause.Cause.{Cause}
+use Rattle.net_meaning.specs.declared.cause.Cause.TheVariants.{PortSec, Unknown, SamePort}
+
+-- the cause's name
+abbrev pub cause_name : Cause → List ℕ
+cause_name PortSec = codes "port_sec"
+cause_name Unknown = codes "unknown"
+cause_name SamePort = codes "same_port"

@@ -1,0 +1,3 @@
+pub mod Cause
+pub mod SwitchMeaning
+pub mod inner

@@ -1,0 +1,12 @@
+use crate::Cause;
+use nv_base::ObjId;
+use pkt_core::Packet;
+
+/// What becomes of a packet.
+#[derive(Clone, Copy, Debug, PartialEq, Eq)]
+pub enum PlainEvent {
+    /// It goes out by the port of this number.
+    Output(ObjId, Packet),
+    /// It is dropped, on the datapath of this number.
+    Drop(ObjId, Cause),
+}

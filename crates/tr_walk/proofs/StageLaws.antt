@@ -1,0 +1,262 @@
+-- What a packet for a unicast MAC meets at each stage of a switch.
+use Rattle.std.proofs.Common.{◌≡◌, ℕ, ◌<◌, Bool, true, false, cond, List, [], ◌∷◌, eqb, sym, ap, refl, ◌∙◌, subst, ◌⊎◌, inl, inr, arith}
+use Rattle.std.specs.Prelude.{Option, Some, None}
+use Rattle.std.specs.declared.cmp.Ordering.TheVariants.{Equal, Greater}
+use Rattle.std.specs.Ordering.{is_gt, nat_cmp}
+use Rattle.std.specs.List.{Contains, AllByRecursion, find}
+use Rattle.std.proofs.lemmas.Bool.{false≢true, eqb-true, eq-eqb, and_parts, and_from}
+use Rattle.std.proofs.lemmas.Bool.Decides.{nat_tests}
+use Rattle.std.proofs.lemmas.Option.{same_Some, none-some}
+use Rattle.nv_base.specs.declared.object.ObjId.{ObjId}
+use Rattle.nv_base.specs.declared.field.Field.TheVariants.{EthSrc, EthDst}
+use Rattle.pkt_core.specs.Packet.{Values, value}
+use Rattle.sb_rows.specs.declared.stage.Stage.{Stage}
+use Rattle.sb_rows.specs.declared.stage.Stage.TheVariants.{LsInCheckPortSec, LsInPreAcl, LsInPreStateful, LsInAclEval, LsInLb, LsInStateful, LsInArpRsp, LsInL2Lkup, LsInL2Unknown, LsOutPreAcl, LsOutPreStateful, LsOutAclEval, LsOutStateful, LsOutCheckPortSec}
+use Rattle.sb_rows.specs.declared.row.PlainMatch.TheVariants.{Any, SrcMcast, DstMcast}
+use Rattle.sb_rows.specs.declared.row.PlainAction.{PlainAction}
+use Rattle.sb_rows.specs.declared.row.PlainAction.TheVariants.{Next, Drop, Output, Flood}
+use Rattle.sb_rows.specs.declared.row.Row.{Row}
+use Rattle.sb_rows.specs.Row.{row_cmp}
+use Rattle.sb_rows.specs.Stage.{stage_place}
+use Rattle.sb_rows.specs.Match.{holds, select}
+use Rattle.nb_model.specs.Address.{is_multicast}
+use Rattle.nd_full.specs.declared.build.FixedRow.{FixedRow}
+use Rattle.nb_model.specs.declared.port.Port.{Port}
+use Rattle.nb_model.specs.Network.{Switch, Tables}
+use Rattle.nb_model.specs.Sound.{IsRising, port_numbers}
+use Rattle.net_meaning.specs.SwitchMeaning.{is_its_address, leads_to, port_to}
+use Rattle.nd_full.specs.FullBuild.{row_on, lookup_row, full_build}
+use Rattle.nd_full.proofs.Elements.{one_of, one_of_none, one_first, one_later}
+use Rattle.nd_full.proofs.Units.{full_build-in_order, full_build-lookup}
+use Rattle.tr_walk.proofs.Selected.{fixed_at, IsFixedAt, IsLookupAt, table-gives, first_of_takers, stage_law}
+
+-- a fixed row of priority 0 that takes each packet
+abbrev pub last_row : Stage → PlainAction → FixedRow
+last_row stage actions = record { stage = stage; priority = 0; matching = Any; actions = actions }
+
+-- the row that leads each packet on
+abbrev pub next_row : Stage → FixedRow
+next_row stage = last_row stage Next
+
+-- whether a stage has no lookup rows
+abbrev pub has_no_lookup : Stage → Bool
+has_no_lookup stage = cond (eqb (stage_place stage) (stage_place LsInL2Lkup)) false true
+
+-- of a stage that has none, its place is another
+stage_not : (a b : ℕ) → cond (eqb a b) false true ≡ true → a ≡ b → ⊥
+stage_not a b apart same = false≢true (sym (ap (λ t. cond t false true) (eq-eqb a b same)) ∙ apart)
+
+module _ (tables : Tables) (switch : Switch) (among : Contains tables.switches switch) (packet : Values) where
+  -- a stage that has one fixed row, which takes each packet, and no lookup rows
+  pub single_law : (stage : Stage) (actions : PlainAction) → fixed_at stage ≡ last_row stage actions ∷ [] → has_no_lookup stage ≡ true
+      → select switch.0 stage packet (full_build tables) ≡ Some (row_on switch.0 (last_row stage actions))
+  single_law stage actions are apart =
+      let fixed = last_row stage actions in
+      stage_law tables switch among stage packet [] fixed are refl refl tt
+      (λ row lookup. absurd (stage_not (stage_place stage) (stage_place LsInL2Lkup) apart (ap stage_place lookup.of_stage)))
+
+  -- a stage that has one more fixed row before that, which does not take the packet
+  pub second_law : (stage : Stage) (first : FixedRow) (actions : PlainAction) → fixed_at stage ≡ first ∷ last_row stage actions ∷ [] → has_no_lookup stage ≡ true → holds first.matching packet ≡ false
+      → select switch.0 stage packet (full_build tables) ≡ Some (row_on switch.0 (last_row stage actions))
+  second_law stage first actions are apart quiet =
+      let fixed = last_row stage actions in
+      stage_law tables switch among stage packet (first ∷ []) fixed are refl refl (quiet, tt)
+      (λ row lookup. absurd (stage_not (stage_place stage) (stage_place LsInL2Lkup) apart (ap stage_place lookup.of_stage)))
+
+  -- ---- ingress
+
+  pub at-LsInPreAcl : select switch.0 LsInPreAcl packet (full_build tables) ≡ Some (row_on switch.0 (next_row LsInPreAcl))
+  unfolding stage_place
+  at-LsInPreAcl = single_law LsInPreAcl Next refl refl
+
+  pub at-LsInPreStateful : select switch.0 LsInPreStateful packet (full_build tables) ≡ Some (row_on switch.0 (next_row LsInPreStateful))
+  unfolding stage_place
+  at-LsInPreStateful = single_law LsInPreStateful Next refl refl
+
+  pub at-LsInAclEval : select switch.0 LsInAclEval packet (full_build tables) ≡ Some (row_on switch.0 (next_row LsInAclEval))
+  unfolding stage_place
+  at-LsInAclEval = single_law LsInAclEval Next refl refl
+
+  pub at-LsInLb : select switch.0 LsInLb packet (full_build tables) ≡ Some (row_on switch.0 (next_row LsInLb))
+  unfolding stage_place
+  at-LsInLb = single_law LsInLb Next refl refl
+
+  pub at-LsInStateful : select switch.0 LsInStateful packet (full_build tables) ≡ Some (row_on switch.0 (next_row LsInStateful))
+  unfolding stage_place
+  at-LsInStateful = single_law LsInStateful Next refl refl
+
+  pub at-LsInArpRsp : select switch.0 LsInArpRsp packet (full_build tables) ≡ Some (row_on switch.0 (next_row LsInArpRsp))
+  unfolding stage_place
+  at-LsInArpRsp = single_law LsInArpRsp Next refl refl
+
+  -- each packet that reaches the last stage is dropped
+  pub at-LsInL2Unknown : select switch.0 LsInL2Unknown packet (full_build tables) ≡ Some (row_on switch.0 (last_row LsInL2Unknown Drop))
+  unfolding stage_place
+  at-LsInL2Unknown = single_law LsInL2Unknown Drop refl refl
+
+  -- a packet whose sender has a unicast MAC is let in
+  pub at-LsInCheckPortSec : is_multicast (value packet EthSrc) ≡ false → select switch.0 LsInCheckPortSec packet (full_build tables) ≡ Some (row_on switch.0 (next_row LsInCheckPortSec))
+  unfolding stage_place
+  at-LsInCheckPortSec from_one = second_law LsInCheckPortSec (record { stage = LsInCheckPortSec; priority = 100; matching = SrcMcast; actions = Drop }) Next refl refl from_one
+
+  -- ---- egress
+
+  pub at-LsOutPreAcl : select switch.0 LsOutPreAcl packet (full_build tables) ≡ Some (row_on switch.0 (next_row LsOutPreAcl))
+  unfolding stage_place
+  at-LsOutPreAcl = single_law LsOutPreAcl Next refl refl
+
+  pub at-LsOutPreStateful : select switch.0 LsOutPreStateful packet (full_build tables) ≡ Some (row_on switch.0 (next_row LsOutPreStateful))
+  unfolding stage_place
+  at-LsOutPreStateful = single_law LsOutPreStateful Next refl refl
+
+  pub at-LsOutAclEval : select switch.0 LsOutAclEval packet (full_build tables) ≡ Some (row_on switch.0 (next_row LsOutAclEval))
+  unfolding stage_place
+  at-LsOutAclEval = single_law LsOutAclEval Next refl refl
+
+  pub at-LsOutStateful : select switch.0 LsOutStateful packet (full_build tables) ≡ Some (row_on switch.0 (next_row LsOutStateful))
+  unfolding stage_place
+  at-LsOutStateful = single_law LsOutStateful Next refl refl
+
+  -- a packet for a unicast MAC is let out
+  pub at-LsOutCheckPortSec : is_multicast (value packet EthDst) ≡ false → select switch.0 LsOutCheckPortSec packet (full_build tables) ≡ Some (row_on switch.0 (last_row LsOutCheckPortSec Output))
+  unfolding stage_place
+  at-LsOutCheckPortSec to_one = second_law LsOutCheckPortSec (record { stage = LsOutCheckPortSec; priority = 100; matching = DstMcast; actions = Output }) Output refl refl to_one
+
+-- ---- the lookup of a port
+
+-- the fixed rows of the lookup
+flood_row : FixedRow
+flood_row = record { stage = LsInL2Lkup; priority = 100; matching = DstMcast; actions = Flood }
+
+-- and no others
+fixed_at-lookup : fixed_at LsInL2Lkup ≡ flood_row ∷ next_row LsInL2Lkup ∷ []
+unfolding stage_place flood_row
+fixed_at-lookup = refl
+
+-- switches and ports of one number are one
+pub id_one : (a b : ObjId) → a.0 ≡ b.0 → a ≡ b
+id_one a b e = ap (λ (n : ℕ). record { 0 = n }) e
+
+-- what leads to an address: a port of the switch that was given it
+pub leads_to-gives : (dp : ObjId) (mac : ℕ) (port : Port) → leads_to dp mac port ≡ true → (port.switch ≡ dp) × (port.address ≡ Some mac)
+leads_to-gives dp mac port leads = by port.address refl (and_parts (eqb port.switch.0 dp.0) (is_its_address mac port.address) leads)
+  where
+    by : (address : Option ℕ) → port.address ≡ address → (eqb port.switch.0 dp.0 ≡ true) × (is_its_address mac port.address ≡ true) → (port.switch ≡ dp) × (port.address ≡ Some mac)
+    by None is parts = absurd (false≢true (sym (ap (is_its_address mac) is) ∙ parts.1))
+    by (Some own) is parts =
+        let same : own ≡ mac = eqb-true own mac (sym (ap (is_its_address mac) is) ∙ parts.1) in
+        (id_one port.switch dp (eqb-true _ _ parts.0), is ∙ ap Some same)
+
+pub leads_to-from : (dp : ObjId) (mac : ℕ) (port : Port) → port.switch ≡ dp → port.address ≡ Some mac → leads_to dp mac port ≡ true
+leads_to-from dp mac port of_switch has =
+    and_from (eqb port.switch.0 dp.0) (is_its_address mac port.address) (eq-eqb _ _ (ap (λ (o : ObjId). o.0) of_switch)) (ap (is_its_address mac) has ∙ eq-eqb mac mac refl)
+
+-- the number of each later port is above the first's
+number_above : (x y : Port) (xs : List Port) → AllByRecursion (λ n. x.id.0 < n) (port_numbers xs) → Contains xs y → x.id.0 < y.id.0
+number_above x y [] above there = absurd (one_of_none y there)
+number_above x y (z ∷ zs) above there = by (one_of z zs y there) (number_above x y zs above.1)
+  where
+    by : (z ≡ y) ⊎ Contains zs y → (Contains zs y → x.id.0 < y.id.0) → x.id.0 < y.id.0
+    by (inl same) rest = subst (λ (q : Port). x.id.0 < q.id.0) same above.0
+    by (inr later) rest = rest later
+
+module _ (p : Port → Bool) where
+  -- what is found is among the ports, and passes
+  pub find_gives : (ports : List Port) (port : Port) → find p ports ≡ Some port → Contains ports port × (p port ≡ true)
+  find_gives [] port found = absurd (none-some port found)
+  find_gives (x ∷ xs) port found = by (p x) refl found (find_gives xs port)
+    where
+      by : (b : Bool) → p x ≡ b → cond b (Some x) (find p xs) ≡ Some port → (find p xs ≡ Some port → Contains xs port × (p port ≡ true)) → Contains (x ∷ xs) port × (p port ≡ true)
+      by true is at rest = let same = same_Some x port at in (one_first x xs port same, sym (ap p same) ∙ is)
+      by false is at rest = let later = rest at in (one_later x xs port later.0, later.1)
+
+  -- where none is found, none passes
+  pub find_none : (ports : List Port) (port : Port) → find p ports ≡ None → Contains ports port → p port ≡ true → ⊥
+  find_none [] port none there passes = one_of_none port there
+  find_none (x ∷ xs) port none there passes = by (p x) refl none (one_of x xs port there) (λ at later. find_none xs port at later passes)
+    where
+      by : (b : Bool) → p x ≡ b → cond b (Some x) (find p xs) ≡ None → (x ≡ port) ⊎ Contains xs port → (find p xs ≡ None → Contains xs port → ⊥) → ⊥
+      by true is at here rest = none-some x (sym at)
+      by false is at (inl same) rest = false≢true (sym is ∙ ap p same ∙ passes)
+      by false is at (inr later) rest = rest at later
+
+  -- of ports whose numbers rise, the one that is found has the lowest number of those that pass
+  pub find_lowest : (ports : List Port) (port other : Port) → IsRising (port_numbers ports) → find p ports ≡ Some port → Contains ports other → p other ≡ true → (other ≡ port) ⊎ (port.id.0 < other.id.0)
+  find_lowest [] port other rising found there passes = absurd (one_of_none other there)
+  find_lowest (x ∷ xs) port other rising found there passes = by (p x) refl found (one_of x xs other there) (λ at later. find_lowest xs port other rising.1 at later passes)
+    where
+      by : (b : Bool) → p x ≡ b → cond b (Some x) (find p xs) ≡ Some port → (x ≡ other) ⊎ Contains xs other → (find p xs ≡ Some port → Contains xs other → (other ≡ port) ⊎ (port.id.0 < other.id.0)) → (other ≡ port) ⊎ (port.id.0 < other.id.0)
+      by true is at (inl same) rest = inl (sym same ∙ same_Some x port at)
+      by true is at (inr later) rest = inr (subst (λ (q : Port). q.id.0 < other.id.0) (same_Some x port at) (number_above x other xs rising.0 later))
+      by false is at (inl same) rest = absurd (false≢true (sym is ∙ ap p same ∙ passes))
+      by false is at (inr later) rest = rest at later
+
+-- how numbers compare
+cmp_itself : (n : ℕ) → nat_cmp n n ≡ Equal
+cmp_itself n = grind (arith, nat_tests)
+
+cmp_above : (a b : ℕ) → b < a → nat_cmp a b ≡ Greater
+cmp_above a b above = grind (arith, nat_tests)
+
+-- a lookup row of the table with a higher number is after another
+later_lookup : (a b : Port) (m n : ℕ) → a.switch ≡ b.switch → b.id.0 < a.id.0 → is_gt (row_cmp (lookup_row a m) (lookup_row b n)) ≡ true
+unfolding row_cmp
+later_lookup a b m n same above = rw (same, cmp_itself b.switch.0, cmp_itself (stage_place LsInL2Lkup), cmp_itself 50, cmp_above a.id.0 b.id.0 above) refl
+
+-- the last fixed row is after each lookup row of the table
+last_after : (port : Port) (mac : ℕ) → is_gt (row_cmp (row_on port.switch (next_row LsInL2Lkup)) (lookup_row port mac)) ≡ true
+unfolding row_cmp
+last_after port mac = rw (cmp_itself port.switch.0, cmp_itself (stage_place LsInL2Lkup)) refl
+
+module _ (tables : Tables) (rising : IsRising (port_numbers tables.ports)) (dp : ObjId) (packet : Values) (mac : ℕ) (for : value packet EthDst ≡ mac) (to_one : is_multicast mac ≡ false) where
+  -- it is not for all
+  quiet : holds flood_row.matching packet ≡ false
+  unfolding flood_row
+  quiet = ap is_multicast for ∙ to_one
+
+  -- a packet for a port's address meets the lookup row of the port, of those that have it the one of the lowest number
+  pub at-LsInL2Lkup-port : (port : Port) → port_to tables.ports dp mac ≡ Some port → select dp LsInL2Lkup packet (full_build tables) ≡ Some (lookup_row port mac)
+  unfolding IsFixedAt
+  at-LsInL2Lkup-port port found =
+      let there = find_gives (leads_to dp mac) tables.ports port found in
+      let of = leads_to-gives dp mac port there.1 in
+      first_of_takers dp LsInL2Lkup packet (lookup_row port mac) (full_build tables) (full_build-in_order tables) (full_build-lookup tables port mac there.0 of.1) of.0 refl (eq-eqb _ _ for)
+      (λ x at in_it takes. by of.0 x takes (table-gives tables dp LsInL2Lkup x at in_it))
+    where
+      fixed : port.switch ≡ dp → (x : Row) → holds x.matching packet ≡ true → (f : FixedRow) → x ≡ row_on dp f → (flood_row ≡ f) ⊎ Contains (next_row LsInL2Lkup ∷ []) f → (x ≡ lookup_row port mac) ⊎ (is_gt (row_cmp x (lookup_row port mac)) ≡ true)
+      fixed of x takes f is (inl first) = absurd (false≢true (sym quiet ∙ ap (λ (g : FixedRow). holds g.matching packet) first ∙ ap (λ (r : Row). holds r.matching packet) (sym is) ∙ takes))
+      fixed of x takes f is (inr later) = last (one_of (next_row LsInL2Lkup) [] f later)
+        where
+          last : (next_row LsInL2Lkup ≡ f) ⊎ Contains [] f → (x ≡ lookup_row port mac) ⊎ (is_gt (row_cmp x (lookup_row port mac)) ≡ true)
+          last (inl same) =
+              let x_is : x ≡ row_on port.switch (next_row LsInL2Lkup) = is ∙ ap (row_on dp) (sym same) ∙ ap (λ d. row_on d (next_row LsInL2Lkup)) (sym of) in
+              inr (ap (λ (r : Row). is_gt (row_cmp r (lookup_row port mac))) x_is ∙ last_after port mac)
+          last (inr none) = absurd (one_of_none f none)
+
+      other : port.switch ≡ dp → (x : Row) (q : Port) (m : ℕ) → q.switch ≡ dp → x ≡ lookup_row q m → m ≡ mac → (q ≡ port) ⊎ (port.id.0 < q.id.0) → (x ≡ lookup_row port mac) ⊎ (is_gt (row_cmp x (lookup_row port mac)) ≡ true)
+      other of x q m of_q is same (inl one) = inl (is ∙ ap (λ p. lookup_row p m) one ∙ ap (lookup_row port) same)
+      other of x q m of_q is same (inr above) = inr (ap (λ (r : Row). is_gt (row_cmp r (lookup_row port mac))) is ∙ later_lookup q port m mac (of_q ∙ sym of) above)
+
+      by : port.switch ≡ dp → (x : Row) → holds x.matching packet ≡ true → IsFixedAt dp LsInL2Lkup x ⊎ IsLookupAt tables dp LsInL2Lkup x → (x ≡ lookup_row port mac) ⊎ (is_gt (row_cmp x (lookup_row port mac)) ≡ true)
+      by of x takes (inl (f, there, is)) = fixed of x takes f is (one_of flood_row (next_row LsInL2Lkup ∷ []) f (subst (λ fs. Contains fs f) fixed_at-lookup there))
+      by of x takes (inr lookup) =
+          let hit : eqb (value packet EthDst) lookup.mac ≡ true = sym (ap (λ (r : Row). holds r.matching packet) lookup.is) ∙ takes in
+          let same : lookup.mac ≡ mac = sym (eqb-true _ _ hit) ∙ for in
+          other of x lookup.port lookup.mac lookup.of_switch lookup.is same
+          (find_lowest (leads_to dp mac) tables.ports port lookup.port rising found lookup.among (leads_to-from dp mac lookup.port lookup.of_switch (lookup.address ∙ ap Some same)))
+
+-- a packet for an address that no port has is led on
+pub at-LsInL2Lkup-none : (tables : Tables) (switch : Switch) → Contains tables.switches switch → (packet : Values) (mac : ℕ) → value packet EthDst ≡ mac → is_multicast mac ≡ false
+    → port_to tables.ports switch.0 mac ≡ None → select switch.0 LsInL2Lkup packet (full_build tables) ≡ Some (row_on switch.0 (next_row LsInL2Lkup))
+unfolding flood_row
+at-LsInL2Lkup-none tables switch among packet mac for to_one none =
+    let fixed = next_row LsInL2Lkup in
+    stage_law tables switch among LsInL2Lkup packet (flood_row ∷ []) fixed fixed_at-lookup
+    refl refl (ap is_multicast for ∙ to_one, tt) (λ row lookup. by row lookup (holds row.matching packet) refl)
+  where
+    by : (row : Row) → IsLookupAt tables switch.0 LsInL2Lkup row → (b : Bool) → holds row.matching packet ≡ b → holds row.matching packet ≡ false
+    by row lookup false is = is
+    by row lookup true is =
+        let hit : eqb (value packet EthDst) lookup.mac ≡ true = sym (ap (λ (r : Row). holds r.matching packet) lookup.is) ∙ is in
+        let same : lookup.mac ≡ mac = sym (eqb-true _ _ hit) ∙ for in
+        absurd (find_none (leads_to switch.0 mac) tables.ports lookup.port none lookup.among (leads_to-from switch.0 mac lookup.port lookup.of_switch (lookup.address ∙ ap Some same)))

@@ -1,7 +1,7 @@
 ghost use Rattle.std.specs.Prelude.{◌≡◌, None, codes};
 ghost use Rattle.expr_core.specs.Lookup.{Lookup};
 
-use nv_base::ObjId;
+use nv_base::{Name, ObjId};
 
 /// What a match looks up: the ports of the network, and its address sets and port groups. None of these takes memory.
 pub trait Env {
@@ -9,7 +9,7 @@ pub trait Env {
     ghost lookup: { Self → Lookup };
 
     /// The port of this name.
-    fn port(&self, name: &[u8]) -> Option<ObjId>
+    fn port(&self, name: &Name) -> Option<ObjId>
         ensures { result ≡ (lookup self.now).port name.now };
 
     /// Whether the address set of this name has a value, of a field that is so many bits wide.

@@ -212,8 +212,9 @@ fn is_match_meant<E: Env>(typed: &Typed, packet: &Packet, env: &E, wanted: bool)
 }
 
 /// Whether the match holds of the packet, where names, sets and groups are what `env` says. It takes no memory.
+#[inline]
 pub fn holds<E: Env>(typed: &Typed, packet: &Packet, env: &E) -> bool
     ensures { result ≡ holds (E.lookup env.now) packet.now typed.now }
 {
-    is_match_meant(typed, packet, env, true)
+    is_operand_meant(typed, packet, env, true)
 }

@@ -5,7 +5,7 @@ ghost use Rattle.nv_base.specs.Field.{field_width};
 ghost use Rattle.expr_eval.specs.Relation.{is_of_port, equals_item, equals, compares, relates};
 
 use expr_core::{Const, Env, Item, Rel, Right};
-use nv_base::{Field, ObjId};
+use nv_base::{Field, Name, ObjId};
 
 fn equals_masked(number: u128, base: Const, mask: Const) -> bool
     ensures { result ≡ (bit_and number (mask_of base mask) == bit_and base.value (mask_of base mask)) }
@@ -15,7 +15,7 @@ fn equals_masked(number: u128, base: Const, mask: Const) -> bool
 }
 
 // Whether it is the number of the port of this name.
-fn is_of_port<E: Env>(env: &E, number: u128, name: &[u8]) -> bool
+fn is_of_port<E: Env>(env: &E, number: u128, name: &Name) -> bool
     ensures { result ≡ is_of_port number ((E.lookup env.now).port name.now) }
 {
     match env.port(name) {
@@ -30,7 +30,7 @@ fn equals_item<E: Env>(env: &E, field: Field, number: u128, item: &Item) -> bool
     match item {
         Item::One(constant) => number == constant.value,
         Item::Masked(base, mask) => equals_masked(number, *base, *mask),
-        Item::Text(name) => is_of_port(env, number, name.as_slice()),
+        Item::Text(name) => is_of_port(env, number, name),
         Item::AddrSet(name) => env.in_set(name.as_slice(), field.width(), number),
         Item::Group(name) => env.in_group(name.as_slice(), ObjId((number % (1 << 32)) as u32)),
     }

@@ -2,7 +2,7 @@ ghost use Rattle.std.specs.Prelude.{◌&&◌, ◌==◌, false, Some, None, codes
 ghost use Rattle.std.specs.Cmp.Lexicographic.{pointwise};
 
 use expr_core::Env;
-use nv_base::ObjId;
+use nv_base::{Name, ObjId};
 
 /// A network of the port `p1` of number 5, the address set `s1` of 10.0.0.1, and the port group `g1` of port 5.
 pub(crate) struct Few;
@@ -15,8 +15,8 @@ impl Env for Few {
       is_switch = λ _. false;
     } };
 
-    fn port(&self, name: &[u8]) -> Option<ObjId> {
-        if name == b"p1".as_slice() {
+    fn port(&self, name: &Name) -> Option<ObjId> {
+        if name.as_slice() == b"p1".as_slice() {
             Some(ObjId(5))
         } else {
             None

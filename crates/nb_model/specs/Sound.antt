@@ -1,6 +1,8 @@
 -- A sound network: what lines leave.
-use Rattle.std.specs.Prelude.{ℕ, ◌<◌, List, [], ◌∷◌, map}
+use Rattle.std.specs.Prelude.{ℕ, ◌<◌, ◌^◌, Bool, true, not, ◌&&◌, nat_lt, IsTrue, List, [], ◌∷◌, map, Option, Some, None}
 use Rattle.std.specs.List.{AllByRecursion, Contains}
+use Rattle.nv_base.specs.Name.{is_object_name}
+use Rattle.nb_model.specs.Address.{is_multicast}
 use Rattle.nb_model.specs.declared.port.Port.{Port}
 use Rattle.nb_model.specs.Network.{Switch, Tables}
 
@@ -47,9 +49,18 @@ switch_names switches = map (λ switch. switch.1) switches
 abbrev pub port_names : List Port → List (List ℕ)
 port_names ports = map (λ port. port.name) ports
 
--- one counter numbers switches and ports, no two switches have one name, nor have two ports, and ports are on switches
+-- an address that is given is a unicast MAC
+abbrev pub is_unicast : Option ℕ → Bool
+is_unicast None = true
+is_unicast (Some mac) = nat_lt mac (2 ^ 48) && not (is_multicast mac)
+
+-- One counter numbers switches and ports, no two switches have one name, nor have two ports, and ports are on switches. Names are
+-- those of objects, and addresses are unicast MACs.
 pub record IsSound (tables : Tables) : Type 0 where
   pub numbered : IsNumbered tables.switches tables.ports tables.next
   pub apart : AllByRecursion (λ number. Contains (switch_numbers tables.switches) number → ⊥) (port_numbers tables.ports)
   pub switches_differ : AreDistinct (switch_names tables.switches)
   pub ports_differ : AreDistinct (port_names tables.ports)
+  pub switches_named : AllByRecursion (λ name. IsTrue (is_object_name name)) (switch_names tables.switches)
+  pub ports_named : AllByRecursion (λ name. IsTrue (is_object_name name)) (port_names tables.ports)
+  pub addressed : AllByRecursion (λ port. IsTrue (is_unicast port.address)) tables.ports

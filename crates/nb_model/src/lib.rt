@@ -1,6 +1,7 @@
 //! The network: its switches and their ports, with indexes of their names.
 #![tactic(auto)]
 
+mod env;
 mod laws;
 mod network;
 mod port;

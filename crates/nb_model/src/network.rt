@@ -1,4 +1,5 @@
-ghost use Rattle.std.specs.Prelude.{◌≡◌, ℕ, ◌+◌, ◌<◌, ◌^◌, Some, None, OnOk, OnErr, IsSome, Contains};
+ghost use Rattle.std.specs.Prelude.{◌≡◌, ℕ, ◌+◌, ◌<◌, ◌^◌, Some, None, OnOk, OnErr, IsSome, IsTrue, Contains};
+ghost use Rattle.nv_base.specs.Name.{is_object_name};
 ghost use Rattle.std.specs.Option.{option_copied};
 ghost use Rattle.nb_model.specs.Network.{
   empty_network,
@@ -11,7 +12,7 @@ ghost use Rattle.nb_model.specs.Network.{
   with_address,
 };
 ghost use Rattle.nb_model.specs.declared.port.Port.{Port};
-ghost use Rattle.nb_model.specs.Sound.{IsSound, switch_numbers};
+ghost use Rattle.nb_model.specs.Sound.{IsSound, is_unicast, switch_numbers};
 
 use crate::port::Port;
 use nv_base::{Mac, Name, ObjId, OutOfMemory};
@@ -121,12 +122,14 @@ impl Network {
 
     /// Adds a switch of that name, under the next number. After `OutOfMemory` the network is as before.
     pub fn add_switch(&mut self, alloc: Global, name: Name) -> Result<(), OutOfMemory>
+        requires named { IsTrue (is_object_name name) }
         requires new { switch_named self.old.switches name ≡ None }
         requires room { self.old.next + 1 < 2 ^ 32 }
         ensures ok { OnOk result (self.new ≡ with_switch self.old name) }
         ensures err { OnErr result (self.new ≡ self.old) }
     {
         let number = ObjId(self.next);
+        let count = self.switches.len();
         let key = Name::from_slice(alloc, name.as_slice())?;
         self.switches.push((number, name))?;
         match self.switch_numbers.insert(key, number) {
@@ -135,7 +138,7 @@ impl Network {
                 Ok(())
             }
             Err(_) => {
-                self.switches.pop();
+                self.switches.truncate(count);
                 Err(OutOfMemory)
             }
         }
@@ -143,6 +146,7 @@ impl Network {
 
     /// Adds a port of that name to a switch, under the next number. After `OutOfMemory` the network is as before.
     pub fn add_port(&mut self, alloc: Global, switch: ObjId, name: Name) -> Result<(), OutOfMemory>
+        requires named { IsTrue (is_object_name name) }
         requires new { port_named self.old.ports name ≡ None }
         requires on { Contains (switch_numbers self.old.switches) switch.0 }
         requires room { self.old.next + 1 < 2 ^ 32 }
@@ -172,7 +176,8 @@ impl Network {
 
     /// Gives the port of that name an address, in place of its old one.
     pub fn set_address(&mut self, name: &Name, mac: Mac)
-        requires { IsSome (port_named self.old.ports name.now) }
+        requires there { IsSome (port_named self.old.ports name.now) }
+        requires unicast { IsTrue (is_unicast (Some mac)) }
         ensures { self.new ≡ with_address self.old name.now mac }
     {
         if let Some(place) = self.port_places.get(name) {

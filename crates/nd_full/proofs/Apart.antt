@@ -9,14 +9,14 @@ use Rattle.std.proofs.lemmas.Bool.Decides.{nat_tests}
 use Rattle.std.proofs.lemmas.List.Elements.{All-from_recursion}
 use Rattle.std.proofs.lemmas.List.Kept.{AllPairs-cons}
 use Rattle.nv_base.specs.declared.object.ObjId.{ObjId}
-use Rattle.sb_rows.specs.declared.row.Row.{Row}
-use Rattle.sb_rows.specs.Row.{row_cmp, AreApart}
-use Rattle.sb_rows.specs.Stage.{stage_place}
+use Rattle.sb_model.specs.declared.row.Row.{Row}
+use Rattle.sb_rows.specs.Row.{key_cmp, row_cmp, AreApart}
+use Rattle.sb_model.specs.Stage.{stage_place}
 use Rattle.nb_model.specs.declared.port.Port.{Port}
 use Rattle.nb_model.specs.Network.{Switch, Tables}
 use Rattle.nb_model.specs.Sound.{IsRising, IsSound, switch_numbers, port_numbers}
 use Rattle.nb_model.proofs.Numbers.{every_append}
-use Rattle.nd_full.specs.declared.build.FixedRow.{FixedRow}
+use Rattle.nd_full.specs.declared.fixed.FixedRow.{FixedRow}
 use Rattle.nd_full.specs.FullBuild.{fixed_rows, row_on, switch_rows, lookup_row, lookup_rows, port_rows, unit_rows}
 
 -- ---- the pairs of a list
@@ -52,7 +52,7 @@ not_equal m n below = let less : nat_cmp m n ≡ Less = grind (arith, nat_tests)
 
 -- a row of a lower datapath differs
 dp_differs : (x y : Row) → x.dp.0 < y.dp.0 → Differ x y
-unfolding row_cmp
+unfolding row_cmp key_cmp
 dp_differs x y below equal =
     let ranked = both_equal _ _ equal in
     let placed = both_equal _ _ ranked.0 in
@@ -60,7 +60,7 @@ dp_differs x y below equal =
 
 -- and so does one of a lower hint
 hint_differs : (x y : Row) → x.hint.0 < y.hint.0 → Differ x y
-unfolding row_cmp
+unfolding row_cmp key_cmp
 hint_differs x y below equal =
     let ranked = both_equal _ _ equal in
     let placed = both_equal _ _ ranked.0 in
@@ -79,7 +79,7 @@ rises (f ∷ fixed) = list_all (λ g. is_lt (fixed_cmp f g)) fixed && rises fixe
 
 -- the fixed rows are in row order
 fixed_rises : rises fixed_rows ≡ true
-unfolding row_cmp stage_place
+unfolding row_cmp key_cmp stage_place
 fixed_rises = refl
 
 -- a number is equal to itself
@@ -88,7 +88,7 @@ cmp_itself n = grind (arith, nat_tests)
 
 -- on one datapath, fixed rows are ordered as on any
 row_cmp-same : (dp : ObjId) (f g : FixedRow) → row_cmp (row_on dp f) (row_on dp g) ≡ fixed_cmp f g
-unfolding row_cmp
+unfolding row_cmp key_cmp
 row_cmp-same dp f g = rw (cmp_itself dp.0) refl
 
 fixed_differ : (dp : ObjId) (f : FixedRow) (fixed : List FixedRow) → list_all (λ g. is_lt (fixed_cmp f g)) fixed ≡ true → AllByRecursion (Differ (row_on dp f)) (map (row_on dp) fixed)
@@ -107,6 +107,7 @@ of_fixed dp (f ∷ fixed) up =
 
 -- a row differs from those of switches with higher numbers
 later_switches : (row : Row) (switches : List Switch) → AllByRecursion (λ n. row.dp.0 < n) (switch_numbers switches) → AllByRecursion (Differ row) (flat_map switch_rows switches)
+unfolding switch_rows
 later_switches row [] above = tt
 later_switches row (switch ∷ switches) above = every_append (Differ row) (switch_rows switch) (flat_map switch_rows switches) (of_one fixed_rows) (later_switches row switches above.1)
   where
@@ -115,6 +116,7 @@ later_switches row (switch ∷ switches) above = every_append (Differ row) (swit
     of_one (f ∷ fixed) = (dp_differs row (row_on switch.0 f) above.0, of_one fixed)
 
 of_switches : (switches : List Switch) → IsRising (switch_numbers switches) → OfPairs Differ (flat_map switch_rows switches)
+unfolding switch_rows
 of_switches [] rising = tt
 of_switches (switch ∷ switches) rising =
     pairs_append Differ (switch_rows switch) (flat_map switch_rows switches) (of_fixed switch.0 fixed_rows fixed_rises) (of_switches switches rising.1) (across fixed_rows)
@@ -144,6 +146,7 @@ of_ports (port ∷ ports) rising = by port.address (of_ports ports rising.1)
 
 -- the rows of switches have no hint, so they differ from those of ports
 across_units : (switches : List Switch) (ports : List Port) → AllByRecursion (λ n. 0 < n) (port_numbers ports) → AllByRecursion (λ row. AllByRecursion (Differ row) (flat_map port_rows ports)) (flat_map switch_rows switches)
+unfolding switch_rows
 across_units [] ports above = tt
 across_units (switch ∷ switches) ports above =
     every_append (λ row. AllByRecursion (Differ row) (flat_map port_rows ports)) (switch_rows switch) (flat_map switch_rows switches) (of_one fixed_rows) (across_units switches ports above)

@@ -4,13 +4,13 @@ use Rattle.std.specs.Prelude.{◌↔◌, Option, Some, None}
 use Rattle.std.specs.List.{All, AllByRecursion, Contains, flat_map}
 use Rattle.std.proofs.lemmas.List.Elements.{Contains-append_left, Contains-append_right, Contains-append_cases, All-from_recursion, All-contains}
 use Rattle.nv_base.specs.declared.object.ObjId.{ObjId}
-use Rattle.sb_rows.specs.declared.row.Row.{Row}
+use Rattle.sb_model.specs.declared.row.Row.{Row}
 use Rattle.sb_rows.specs.Row.{IsInRowOrder}
 use Rattle.sb_rows.proofs.AllAtOnce.{put_rows_ordered}
 use Rattle.sb_rows.proofs.Select.{Contains-from_put_rows, Contains-put_rows_new}
 use Rattle.nb_model.specs.declared.port.Port.{Port}
 use Rattle.nb_model.specs.Network.{Switch, Tables}
-use Rattle.nd_full.specs.declared.build.FixedRow.{FixedRow}
+use Rattle.nd_full.specs.declared.fixed.FixedRow.{FixedRow}
 use Rattle.nd_full.specs.FullBuild.{fixed_rows, row_on, switch_rows, lookup_row, lookup_rows, port_rows, unit_rows, full_build}
 use Rattle.nd_full.proofs.Elements.{one_of, one_of_none, one_first, Contains-from_map, Contains-map, Contains-from_flat_map, Contains-flat_map, All-from_members}
 
@@ -34,6 +34,7 @@ pub record IsPortRow (ports : List Port) (row : Row) : Type 0 where
 
 -- what is among all switches' rows, and all ports'
 switch_row : (switches : List Switch) (row : Row) → Contains (flat_map switch_rows switches) row → IsSwitchRow switches row
+unfolding switch_rows
 switch_row switches row there =
     let at = Contains-from_flat_map switch_rows switches row there in
     let fixed = Contains-from_map (row_on at.0.0) fixed_rows row at.2 in
@@ -83,6 +84,7 @@ module _ (tables : Tables) where
 
   -- each fixed row of each switch is there
   pub full_build-fixed : (switch : Switch) (fixed : FixedRow) → Contains tables.switches switch → Contains fixed_rows fixed → Contains (full_build tables) (row_on switch.0 fixed)
+  unfolding switch_rows
   full_build-fixed switch fixed there in_it =
       let row = row_on switch.0 fixed in
       (full_build-members tables row).1 (Contains-append_left of_switches of_ports row
@@ -96,7 +98,7 @@ module _ (tables : Tables) where
       (full_build-members tables row).1 (Contains-append_right of_switches of_ports row (Contains-flat_map port_rows tables.ports port row there own))
 
   -- what holds of each fixed row on any switch, and of each lookup row, holds of all rows
-  pub every_row : (P : Row → Type 0) → ((dp : ObjId) → AllByRecursion P (map (row_on dp) fixed_rows)) → ((port : Port) (mac : ℕ) → P (lookup_row port mac)) → All P (full_build tables)
+  pub every_row : (P : Row → Type 0) → ((dp : ObjId) → AllByRecursion P (map (row_on dp) fixed_rows)) → ((port : Port) → Contains tables.ports port → (mac : ℕ) → P (lookup_row port mac)) → All P (full_build tables)
   every_row P of_fixed of_lookup = All-from_members P (full_build tables) (λ row there. by row (full_build-gives row there))
     where
       by : (row : Row) → IsSwitchRow tables.switches row ⊎ IsPortRow tables.ports row → P row
@@ -104,4 +106,4 @@ module _ (tables : Tables) where
           let rows = map (row_on at.switch.0) fixed_rows in
           let there = Contains-map (row_on at.switch.0) fixed_rows at.fixed at.in_fixed in
           subst P at.is (All-contains P rows (row_on at.switch.0 at.fixed) (All-from_recursion P rows (of_fixed at.switch.0)) there)
-      by row (inr at) = subst P at.is (of_lookup at.port at.mac)
+      by row (inr at) = subst P at.is (of_lookup at.port at.among at.mac)

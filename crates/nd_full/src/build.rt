@@ -1,133 +1,22 @@
 ghost use Rattle.std.specs.Prelude.{◌≡◌, ◌++◌, map, flat_map, IfOk, OnOk};
 ghost use Rattle.nb_model.specs.Sound.{IsSound};
 ghost use Rattle.nd_full.specs.FullBuild.{
-  fixed_rows as table_of_fixed_rows,
   row_on,
   switch_rows,
+  mac_constant,
   lookup_row,
   port_rows,
   unit_rows,
   full_build,
 };
 
+use crate::fixed::{FixedRow, fixed_rows, output_to, row_on};
+use expr_core::{Const, Form};
 use nb_model::{Network, Port};
-use nv_base::{Kept, Mac, Name, ObjId, OutOfMemory};
-use sb_rows::{PlainAction, PlainMatch, Row, Rows, Stage};
+use nv_base::{Field, Kept, Mac, Name, ObjId, OutOfMemory};
+use sb_model::{Row, Stage, equals};
+use sb_rows::Rows;
 use std::alloc::Global;
-
-// A row that each switch has.
-#[derive(Drop)]
-pub struct FixedRow {
-    pub stage: Stage,
-    pub priority: u16,
-    pub matching: PlainMatch,
-    pub actions: PlainAction,
-}
-
-const FIXED_ROWS: [FixedRow; 17] = [
-    FixedRow {
-        stage: Stage::LsInCheckPortSec,
-        priority: 100,
-        matching: PlainMatch::SrcMcast,
-        actions: PlainAction::Drop,
-    },
-    FixedRow {
-        stage: Stage::LsInCheckPortSec,
-        priority: 0,
-        matching: PlainMatch::Any,
-        actions: PlainAction::Next,
-    },
-    FixedRow {
-        stage: Stage::LsInPreAcl,
-        priority: 0,
-        matching: PlainMatch::Any,
-        actions: PlainAction::Next,
-    },
-    FixedRow {
-        stage: Stage::LsInPreStateful,
-        priority: 0,
-        matching: PlainMatch::Any,
-        actions: PlainAction::Next,
-    },
-    FixedRow {
-        stage: Stage::LsInAclEval,
-        priority: 0,
-        matching: PlainMatch::Any,
-        actions: PlainAction::Next,
-    },
-    FixedRow {
-        stage: Stage::LsInLb,
-        priority: 0,
-        matching: PlainMatch::Any,
-        actions: PlainAction::Next,
-    },
-    FixedRow {
-        stage: Stage::LsInStateful,
-        priority: 0,
-        matching: PlainMatch::Any,
-        actions: PlainAction::Next,
-    },
-    FixedRow {
-        stage: Stage::LsInArpRsp,
-        priority: 0,
-        matching: PlainMatch::Any,
-        actions: PlainAction::Next,
-    },
-    FixedRow {
-        stage: Stage::LsInL2Lkup,
-        priority: 100,
-        matching: PlainMatch::DstMcast,
-        actions: PlainAction::Flood,
-    },
-    FixedRow {
-        stage: Stage::LsInL2Lkup,
-        priority: 0,
-        matching: PlainMatch::Any,
-        actions: PlainAction::Next,
-    },
-    FixedRow {
-        stage: Stage::LsInL2Unknown,
-        priority: 0,
-        matching: PlainMatch::Any,
-        actions: PlainAction::Drop,
-    },
-    FixedRow {
-        stage: Stage::LsOutPreAcl,
-        priority: 0,
-        matching: PlainMatch::Any,
-        actions: PlainAction::Next,
-    },
-    FixedRow {
-        stage: Stage::LsOutPreStateful,
-        priority: 0,
-        matching: PlainMatch::Any,
-        actions: PlainAction::Next,
-    },
-    FixedRow {
-        stage: Stage::LsOutAclEval,
-        priority: 0,
-        matching: PlainMatch::Any,
-        actions: PlainAction::Next,
-    },
-    FixedRow {
-        stage: Stage::LsOutStateful,
-        priority: 0,
-        matching: PlainMatch::Any,
-        actions: PlainAction::Next,
-    },
-    FixedRow {
-        stage: Stage::LsOutCheckPortSec,
-        priority: 100,
-        matching: PlainMatch::DstMcast,
-        actions: PlainAction::Output,
-    },
-    FixedRow {
-        stage: Stage::LsOutCheckPortSec,
-        priority: 0,
-        matching: PlainMatch::Any,
-        actions: PlainAction::Output,
-    },
-];
 
 /// The rows of the network, made anew. `OutOfMemory` comes only where memory ran out.
 #[tactic(auto, unfolding(crate::specs::FullBuild::full_build))]
@@ -160,37 +49,34 @@ fn add_rows_of_switches(
     ensures { OnOk result (rows.new.items ≡ rows.old.items ++ flat_map switch_rows switches.now) }
 {
     for switch in switches {
-        add_switch_rows(alloc, rows, switch.0, &FIXED_ROWS)?;
+        add_switch_rows(alloc, rows, switch)?;
     }
     Ok(())
 }
 
+#[tactic(auto, unfolding(crate::specs::FullBuild::switch_rows))]
 fn add_switch_rows(
     alloc: Global,
     rows: &mut Vec<Row>,
-    dp: ObjId,
-    fixed_rows: &[FixedRow],
+    switch: &(ObjId, Name),
 ) -> Result<(), OutOfMemory>
-    requires { fixed_rows.now ≡ table_of_fixed_rows }
-    ensures { OnOk result (rows.new.items ≡ rows.old.items ++ map (row_on dp) table_of_fixed_rows) }
+    ensures { OnOk result (rows.new.items ≡ rows.old.items ++ switch_rows switch.now) }
 {
-    for fixed in fixed_rows {
-        rows.push(row_on(alloc, dp, fixed)?)?;
-    }
-    Ok(())
+    add_fixed_rows(alloc, rows, switch.0, fixed_rows())
 }
 
-fn row_on(alloc: Global, dp: ObjId, fixed: &FixedRow) -> Result<Row, OutOfMemory>
-    ensures { IfOk result (λ row. row ≡ row_on dp fixed.now) }
+fn add_fixed_rows(
+    alloc: Global,
+    rows: &mut Vec<Row>,
+    dp: ObjId,
+    fixed: &[FixedRow],
+) -> Result<(), OutOfMemory>
+    ensures { OnOk result (rows.new.items ≡ rows.old.items ++ map (row_on dp) fixed.now) }
 {
-    Ok(Row {
-        dp,
-        stage: fixed.stage,
-        priority: fixed.priority,
-        hint: ObjId(0),
-        matching: fixed.matching.copy(alloc)?,
-        actions: fixed.actions.copy(alloc)?,
-    })
+    for row in fixed {
+        rows.push(row_on(alloc, dp, *row)?)?;
+    }
+    Ok(())
 }
 
 fn add_rows_of_ports(alloc: Global, rows: &mut Vec<Row>, ports: &[Port]) -> Result<(), OutOfMemory>
@@ -219,7 +105,17 @@ fn lookup_row(alloc: Global, port: &Port, mac: Mac) -> Result<Row, OutOfMemory>
         stage: Stage::LsInL2Lkup,
         priority: 50,
         hint: port.id,
-        matching: PlainMatch::DstIs(mac),
-        actions: PlainAction::To(port.name.copy(alloc)?),
+        matching: equals(Field::EthDst, mac_constant(mac)),
+        actions: output_to(alloc, port.name.copy(alloc)?)?,
     })
+}
+
+// The MAC as a constant of a match.
+fn mac_constant(mac: Mac) -> Const
+    ensures { result ≡ mac_constant mac }
+{
+    Const {
+        form: Form::Mac,
+        value: u128::from(mac.0),
+    }
 }

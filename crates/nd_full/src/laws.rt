@@ -1,5 +1,5 @@
 ghost use Rattle.std.specs.Prelude.{◌↔◌, Contains};
-ghost use Rattle.sb_rows.specs.declared.row.Row.{Row};
+ghost use Rattle.sb_model.specs.declared.row.Row.{Row};
 ghost use Rattle.sb_rows.specs.Row.{AreApart, IsInRowOrder};
 ghost use Rattle.nb_model.specs.Network.{Tables};
 ghost use Rattle.nb_model.specs.Sound.{IsSound};

@@ -2,6 +2,7 @@
 #![tactic(auto)]
 
 mod build;
+mod fixed;
 mod laws;
 
 pub use build::full_build;

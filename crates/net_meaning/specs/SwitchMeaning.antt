@@ -1,17 +1,15 @@
--- What a switch does with a frame for a unicast MAC, after ovn-architecture(7).
-use Rattle.std.specs.Prelude.{ℕ, Bool, false, ◌&&◌, ◌==◌, if◌then◌else◌, List, [], ◌∷◌, Option, Some, None}
+-- What a switch does with a packet for a unicast MAC, after ovn-architecture(7). It knows the network's objects alone.
+use Rattle.std.specs.Prelude.{ℕ, Bool, false, ◌&&◌, ◌==◌, if◌then◌else◌, List, [], Option, Some, None}
 use Rattle.std.specs.List.{find}
 use Rattle.nv_base.specs.declared.object.ObjId.{ObjId}
-use Rattle.nv_base.specs.declared.field.Field.TheVariants.{EthDst}
-use Rattle.pkt_core.specs.Packet.{Values, with_value, zero_packet}
-use Rattle.net_meaning.specs.declared.cause.Cause.TheVariants.{Unknown, SamePort}
+use Rattle.nb_model.specs.Address.{is_multicast}
+use Rattle.nv_base.specs.declared.field.Field.TheVariants.{EthSrc, EthDst, Outport}
+use Rattle.pkt_core.specs.Packet.{Values, value, with_value}
+use Rattle.net_meaning.specs.declared.cause.Cause.TheVariants.{PortSec, Unknown}
 use Rattle.net_meaning.specs.declared.event.PlainEvent.{PlainEvent}
-use Rattle.net_meaning.specs.declared.event.PlainEvent.TheVariants.{Output, Drop}
+use Rattle.net_meaning.specs.Frame.{Passed, Part, Parts, walk, events}
+use Rattle.net_meaning.specs.Frame.Passed.{GoesOn, Drops}
 use Rattle.nb_model.specs.declared.port.Port.{Port}
-
--- a frame for this address: all other header fields are zero
-abbrev pub frame_for : ℕ → Values
-frame_for mac = with_value zero_packet EthDst mac
 
 -- whether a port was given this address
 abbrev pub is_its_address : ℕ → Option ℕ → Bool
@@ -26,12 +24,24 @@ leads_to switch mac port = (port.switch.0 == switch.0) && is_its_address mac por
 abbrev pub port_to : List Port → ObjId → ℕ → Option Port
 port_to ports switch mac = find (leads_to switch mac) ports
 
--- A frame for an address that no port was given is dropped; one that would go back by its own port, too; any other
--- goes out by the port of its address.
-abbrev pub sent_on : Port → ℕ → Option Port → PlainEvent
-sent_on arrival mac None = Drop arrival.switch Unknown
-sent_on arrival mac (Some port) = if port.id.0 == arrival.id.0 then Drop arrival.switch SamePort else Output port.id (frame_for mac)
+-- a packet goes on to the port of its destination, or is dropped where no port was given that address
+abbrev pub sent_to : Option Port → Values → Passed
+sent_to None packet = Drops Unknown
+sent_to (Some port) packet = GoesOn (with_value packet Outport port.id.0)
 
--- what happens to a frame for this address that arrives at a port
-abbrev pub meaning : List Port → Port → ℕ → List PlainEvent
-meaning ports arrival mac = sent_on arrival mac (port_to ports arrival.switch mac) ∷ []
+-- what a switch does with a packet that arrives: no sender has a multicast MAC
+abbrev pub arriving : List Port → ObjId → Values → Passed
+arriving ports switch packet =
+    if is_multicast (value packet EthSrc) then Drops PortSec else sent_to (port_to ports switch (value packet EthDst)) packet
+
+-- what a part does that tells no notes
+abbrev pub silent : {N : Type 0} → Passed → Part N
+silent passed = record { notes = []; passed = Some passed }
+
+-- the parts of a switch; each packet that leaves goes out
+abbrev pub switch_parts : {N : Type 0} → List Port → ObjId → Parts N
+switch_parts ports switch = record { arriving = λ packet. silent (arriving ports switch packet); leaving = λ packet. silent (GoesOn packet) }
+
+-- what happens to a packet that arrives at a port of a switch
+abbrev pub meaning : List Port → Port → Values → List PlainEvent
+meaning ports arrival packet = events (walk (switch_parts {N = Unit {0}} ports arrival.switch) arrival.switch arrival.id packet)

@@ -10,3 +10,4 @@ pub mod Traced
 pub mod Endings
 pub mod Outputs
 pub mod Refusals
+pub mod WellRead

@@ -9,7 +9,10 @@ use Rattle.tr_walk.specs.Walk.{IsRefined}
 use Rattle.tr_walk.proofs.Refinement.{sound_refined}
 use Rattle.nv_serve.specs.declared.line.Line.{Line}
 use Rattle.nv_serve.specs.declared.line.Line.TheVariants.{Nothing, AddSwitch, AddPort, SetAddress, ListFlows, Frame, Refused}
-use Rattle.nv_serve.specs.Line.{said}
+use Rattle.std.specs.Bool.{IsTrue}
+use Rattle.nv_base.specs.Name.{is_object_name}
+use Rattle.nv_serve.specs.Line.{words_of, said}
+use Rattle.nv_serve.proofs.WellRead.{IsWellRead, for_said}
 use Rattle.nv_serve.specs.Reply.{reply, reply_to, where_named, where_new, accept, network_after}
 
 -- a new object, if there is none of the name
@@ -17,29 +20,29 @@ new_holds : {X : Type 0} (tables : Tables) (name : List ℕ) (there : Option X) 
 new_holds tables name None after before following = following refl
 new_holds tables name (Some object) after before following = before
 
-add_port_holds : (tables : Tables) (switch name : List ℕ) (there : Option ObjId) → switch_named tables.switches switch ≡ there → IsSound tables
+add_port_holds : (tables : Tables) (switch name : List ℕ) (there : Option ObjId) → switch_named tables.switches switch ≡ there → IsTrue (is_object_name name) → IsSound tables
     → IsSound (where_named tables switch there (λ number. where_new tables name (port_named tables.ports name) (with_port tables number name))).after
-add_port_holds tables switch name None is before = before
-add_port_holds tables switch name (Some number) is before =
-    new_holds tables name (port_named tables.ports name) (with_port tables number name) before (port_holds tables number name before (switch_there tables.switches switch number is))
+add_port_holds tables switch name None is named before = before
+add_port_holds tables switch name (Some number) is named before =
+    new_holds tables name (port_named tables.ports name) (with_port tables number name) before (port_holds tables number name before named (switch_there tables.switches switch number is))
 
 named_holds : {X : Type 0} (tables : Tables) (name : List ℕ) (there : Option X) (lines : X → List ℕ) (after : Tables) → IsSound tables → IsSound after → IsSound (where_named tables name there (λ object. accept (lines object) after)).after
 named_holds tables name None lines after before following = before
 named_holds tables name (Some object) lines after before following = following
 
 -- what a line leaves is sound
-said_holds : (tables : Tables) (line : Line) → IsSound tables → IsSound (reply_to tables line).after
-said_holds tables Nothing before = before
-said_holds tables (AddSwitch name) before = new_holds tables name (switch_named tables.switches name) (with_switch tables name) before (switch_holds tables name before)
-said_holds tables (AddPort switch name) before = add_port_holds tables switch name (switch_named tables.switches switch) refl before
-said_holds tables (SetAddress name mac) before = named_holds tables name (port_named tables.ports name) (λ port. []) (with_address tables name mac) before (address_holds tables name mac before)
-said_holds tables ListFlows before = before
-said_holds tables (Frame name mac) before = named_holds tables name (port_named tables.ports name) _ tables before before
-said_holds tables (Refused refusal) before = before
+said_holds : (tables : Tables) (line : Line) → IsWellRead line → IsSound tables → IsSound (reply_to tables line).after
+said_holds tables Nothing read before = before
+said_holds tables (AddSwitch name) read before = new_holds tables name (switch_named tables.switches name) (with_switch tables name) before (switch_holds tables name before read)
+said_holds tables (AddPort switch name) read before = add_port_holds tables switch name (switch_named tables.switches switch) refl read before
+said_holds tables (SetAddress name mac) read before = named_holds tables name (port_named tables.ports name) (λ port. []) (with_address tables name mac) before (address_holds tables name mac before read)
+said_holds tables ListFlows read before = before
+said_holds tables (Frame name mac) read before = named_holds tables name (port_named tables.ports name) _ tables before before
+said_holds tables (Refused refusal) read before = before
 
 reply_holds : (tables : Tables) (line : List ℕ) → IsSound tables → IsSound (reply tables line).after
 unfolding reply
-reply_holds tables line before = said_holds tables (said line) before
+reply_holds tables line before = said_holds tables (said line) (for_said (words_of line)) before
 
 lines_hold : (tables : Tables) (lines : List (List ℕ)) → IsSound tables → IsSound (network_after tables lines)
 lines_hold tables [] before = before

@@ -8,15 +8,15 @@ use Rattle.nv_serve.specs.declared.line.Line.{Line}
 use Rattle.nv_serve.specs.declared.line.Line.TheVariants.{Nothing, AddSwitch, AddPort, SetAddress, ListFlows, Frame, Refused}
 use Rattle.nv_serve.specs.declared.refusal.Refusal.{Refusal}
 use Rattle.nv_serve.specs.declared.refusal.Refusal.TheVariants.{UnknownCommand, BadName, BadMac, NoSuchObject, Exists}
-use Rattle.sb_rows.specs.declared.row.Row.{Row}
+use Rattle.sb_model.specs.declared.row.Row.{Row}
 use Rattle.sb_rows.specs.Row.{rows_of}
 use Rattle.sb_rows.specs.Listing.{datapath_listing}
 use Rattle.nv_serve.specs.Events.{event_line}
 use Rattle.nd_full.specs.FullBuild.{full_build}
 use Rattle.nv_serve.specs.Line.{said}
 use Rattle.nb_model.specs.Network.{Switch, Tables, switch_named, port_named, with_switch, with_port}
-use Rattle.nv_serve.specs.Reply.{flows, Reply, ok_line, refusal_line, where_named, where_new, reply, reply_to}
-use Rattle.tr_walk.specs.Walk.{machine}
+use Rattle.nv_serve.specs.Reply.{flows, frame_for, Reply, ok_line, refusal_line, where_named, where_new, reply, reply_to}
+use Rattle.tr_walk.specs.Walk.{flows_at, machine}
 
 -- a reply that says whether it is a refusal
 abbrev Says : Reply → Type 0
@@ -61,7 +61,7 @@ said_says tables (AddPort switch name) =
     named_says tables switch (switch_named tables.switches switch) _ (λ number. new_says tables name (port_named tables.ports name) (with_port tables number name))
 said_says tables (SetAddress name mac) = named_says tables name (port_named tables.ports name) _ (λ port. refl)
 said_says tables ListFlows = flows_say tables
-said_says tables (Frame name mac) = named_says tables name (port_named tables.ports name) _ (λ port. events_say tables (machine (full_build tables) port.switch port.id mac))
+said_says tables (Frame name mac) = named_says tables name (port_named tables.ports name) _ (λ port. events_say tables (machine (flows_at tables port.switch) port.id (frame_for mac)))
 said_says tables (Refused refusal) = refusal_says refusal
 
 pub says_refused : (tables : Tables) (line : List ℕ) → Says (reply tables line)

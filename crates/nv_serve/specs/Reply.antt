@@ -1,6 +1,8 @@
 -- What a line is answered, and the network that it leaves.
 use Rattle.std.specs.Prelude.{ℕ, Bool, true, false, ◌||◌, List, [], ◌∷◌, ◌++◌, Option, Some, None, codes, decimal}
 use Rattle.std.specs.List.{flat_map}
+use Rattle.nv_base.specs.declared.field.Field.TheVariants.{EthDst}
+use Rattle.pkt_core.specs.Packet.{Values, with_value, zero_packet}
 use Rattle.nv_serve.specs.declared.line.Line.{Line}
 use Rattle.nv_serve.specs.declared.line.Line.TheVariants.{Nothing, AddSwitch, AddPort, SetAddress, ListFlows, Frame, Refused}
 use Rattle.nv_serve.specs.declared.refusal.Refusal.{Refusal}
@@ -10,7 +12,11 @@ use Rattle.nv_serve.specs.Line.{said}
 use Rattle.sb_rows.specs.Listing.{listing}
 use Rattle.nd_full.specs.FullBuild.{full_build}
 use Rattle.nv_serve.specs.Events.{event_line}
-use Rattle.tr_walk.specs.Walk.{machine}
+use Rattle.tr_walk.specs.Walk.{flows_at, machine}
+
+-- a frame for this address: all other header fields are zero
+abbrev pub frame_for : ℕ → Values
+frame_for mac = with_value zero_packet EthDst mac
 
 -- the text of a reply, whether it is a refusal, and the network after the line
 pub record Reply : Type 0 where
@@ -60,7 +66,7 @@ reply_to tables (AddPort switch name) =
     where_named tables switch (switch_named tables.switches switch) (λ number. where_new tables name (port_named tables.ports name) (with_port tables number name))
 reply_to tables (SetAddress name mac) = where_named tables name (port_named tables.ports name) (λ port. accept [] (with_address tables name mac))
 reply_to tables ListFlows = accept (flows tables) tables
-reply_to tables (Frame name mac) = where_named tables name (port_named tables.ports name) (λ port. accept (flat_map (event_line tables) (machine (full_build tables) port.switch port.id mac)) tables)
+reply_to tables (Frame name mac) = where_named tables name (port_named tables.ports name) (λ port. accept (flat_map (event_line tables) (machine (flows_at tables port.switch) port.id (frame_for mac))) tables)
 reply_to tables (Refused refusal) = refuse tables refusal
 
 -- the reply to a line

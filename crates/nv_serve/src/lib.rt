@@ -4,7 +4,6 @@
 mod converse;
 mod cut;
 mod events;
-mod flows;
 mod laws;
 mod line;
 mod put_all;

@@ -1,12 +1,14 @@
-ghost use Rattle.std.specs.Prelude.{◌≡◌, ◌++◌, ◌+◌, ◌<◌, ◌≤◌, ◌^◌, ℕ, List, IfOk, OnOk, true, false};
-ghost use Rattle.nv_serve.specs.Reply.{flows, ok_line, refusal_line, reply_to, reply};
+ghost use Rattle.std.specs.Prelude.{◌≡◌, ◌++◌, ◌+◌, ◌<◌, ◌≤◌, ◌^◌, ℕ, List, Some, IfOk, OnOk, IsTrue, true, false};
+ghost use Rattle.nv_base.specs.Name.{is_object_name};
+ghost use Rattle.nb_model.specs.Sound.{is_unicast};
+ghost use Rattle.nv_serve.specs.Reply.{flows, frame_for, ok_line, refusal_line, reply_to, reply};
 
 use crate::events::put_events;
-use crate::flows::put_flows;
 use crate::line::{Line, read_line};
 use crate::refusal::Refusal;
 use crate::session::Session;
-use nv_base::{Mac, Name, OutOfMemory};
+use nv_base::{Field, Mac, Name, OutOfMemory};
+use pkt_core::Packet;
 use std::alloc::Global;
 
 // Runs a line on the network, writes its reply, and answers whether that is a refusal.
@@ -39,7 +41,8 @@ fn run_ls_add(
     name: Name,
     out: &mut Vec<u8>,
 ) -> Result<bool, OutOfMemory>
-    requires { session.old.next + 1 < 2 ^ 32 }
+    requires room { session.old.next + 1 < 2 ^ 32 }
+    requires named { IsTrue (is_object_name name) }
     ensures text { OnOk result (out.new.items ≡ out.old.items ++ (reply_to session.old (Line.AddSwitch name)).text) }
     ensures refused { IfOk result (λ refused. refused ≡ (reply_to session.old (Line.AddSwitch name)).refused) }
     ensures after { OnOk result (session.new ≡ (reply_to session.old (Line.AddSwitch name)).after) }
@@ -58,7 +61,8 @@ fn run_lsp_add(
     name: Name,
     out: &mut Vec<u8>,
 ) -> Result<bool, OutOfMemory>
-    requires { session.old.next + 1 < 2 ^ 32 }
+    requires room { session.old.next + 1 < 2 ^ 32 }
+    requires named { IsTrue (is_object_name name) }
     ensures text { OnOk result (out.new.items ≡ out.old.items ++ (reply_to session.old (Line.AddPort switch name)).text) }
     ensures refused { IfOk result (λ refused. refused ≡ (reply_to session.old (Line.AddPort switch name)).refused) }
     ensures after { OnOk result (session.new ≡ (reply_to session.old (Line.AddPort switch name)).after) }
@@ -81,6 +85,7 @@ fn run_lsp_set_addresses(
     mac: Mac,
     out: &mut Vec<u8>,
 ) -> Result<bool, OutOfMemory>
+    requires { IsTrue (is_unicast (Some mac)) }
     ensures text { OnOk result (out.new.items ≡ out.old.items ++ (reply_to session.old (Line.SetAddress name mac)).text) }
     ensures refused { IfOk result (λ refused. refused ≡ (reply_to session.old (Line.SetAddress name mac)).refused) }
     ensures after { OnOk result (session.new ≡ (reply_to session.old (Line.SetAddress name mac)).after) }
@@ -107,9 +112,18 @@ fn run_frame(
         None => return refuse(&Refusal::NoSuchObject(name), out),
         Some(port) => (port.switch, port.id),
     };
-    let events = session.trace(alloc, dp, port, mac)?;
+    let events = session.trace(alloc, dp, port, &frame_for(mac))?;
     put_events(session.network(), &events, out)?;
     accept(out)
+}
+
+// A frame for this address.
+fn frame_for(mac: Mac) -> Packet
+    ensures { result ≡ frame_for mac }
+{
+    let mut packet = Packet::zero();
+    packet.set(Field::EthDst, u128::from(mac.0));
+    packet
 }
 
 fn accept(out: &mut Vec<u8>) -> Result<bool, OutOfMemory>
@@ -120,11 +134,16 @@ fn accept(out: &mut Vec<u8>) -> Result<bool, OutOfMemory>
     Ok(false)
 }
 
-fn run_lflow_list(alloc: Global, session: &Session, out: &mut Vec<u8>) -> Result<bool, OutOfMemory>
-    ensures text { OnOk result (out.new.items ≡ out.old.items ++ flows session.now ++ ok_line) }
+fn run_lflow_list(
+    alloc: Global,
+    session: &mut Session,
+    out: &mut Vec<u8>,
+) -> Result<bool, OutOfMemory>
+    ensures text { OnOk result (out.new.items ≡ out.old.items ++ flows session.old ++ ok_line) }
     ensures refused { IfOk result (λ refused. refused ≡ false) }
+    ensures after { OnOk result (session.new ≡ session.old) }
 {
-    put_flows(alloc, session.network(), out)?;
+    session.put_flows(alloc, out)?;
     out.extend_from_slice(b"ok\n")?;
     Ok(false)
 }

@@ -1,6 +1,6 @@
-ghost use Rattle.std.specs.Prelude.{◌≡◌, ◌+◌, ◌<◌, ◌^◌, None, OnOk, OnErr, IfOk, IsSome};
+ghost use Rattle.std.specs.Prelude.{◌≡◌, ◌++◌, ◌+◌, ◌<◌, ◌^◌, Some, None, OnOk, OnErr, IfOk, IsSome, IsTrue};
 ghost use Rattle.std.specs.List.{Contains};
-ghost use Rattle.nd_full.specs.FullBuild.{full_build};
+ghost use Rattle.nv_base.specs.Name.{is_object_name};
 ghost use Rattle.nb_model.specs.Network.{
   empty_network,
   switch_named,
@@ -9,14 +9,16 @@ ghost use Rattle.nb_model.specs.Network.{
   with_port,
   with_address,
 };
-ghost use Rattle.nb_model.specs.Sound.{switch_numbers};
+ghost use Rattle.nb_model.specs.Sound.{is_unicast, switch_numbers};
 ghost use Rattle.nv_serve.specs.inner.KeptRows.{AreRowsOf};
-ghost use Rattle.tr_walk.specs.Walk.{machine, IsRefined};
+ghost use Rattle.tr_walk.specs.Walk.{flows_at, machine, IsRefined};
+ghost use Rattle.nv_serve.specs.Reply.{flows};
 
 use nb_model::Network;
 use nd_full::full_build;
 use nv_base::{Mac, Name, ObjId, OutOfMemory};
-use sb_rows::Rows;
+use pkt_core::Packet;
+use sb_rows::{Rows, put_listing};
 use std::alloc::Global;
 use std::marker::Model;
 use tr_walk::{Event, trace};
@@ -57,6 +59,7 @@ impl Session {
     }
 
     pub fn add_switch(&mut self, alloc: Global, name: Name) -> Result<(), OutOfMemory>
+        requires named { IsTrue (is_object_name name) }
         requires new { switch_named self.old.switches name ≡ None }
         requires room { self.old.next + 1 < 2 ^ 32 }
         ensures ok { OnOk result (self.new ≡ with_switch self.old name) }
@@ -67,6 +70,7 @@ impl Session {
     }
 
     pub fn add_port(&mut self, alloc: Global, switch: ObjId, name: Name) -> Result<(), OutOfMemory>
+        requires named { IsTrue (is_object_name name) }
         requires new { port_named self.old.ports name ≡ None }
         requires on { Contains (switch_numbers self.old.switches) switch.0 }
         requires room { self.old.next + 1 < 2 ^ 32 }
@@ -78,31 +82,44 @@ impl Session {
     }
 
     pub fn set_address(&mut self, name: &Name, mac: Mac)
-        requires { IsSome (port_named self.old.ports name.now) }
+        requires there { IsSome (port_named self.old.ports name.now) }
+        requires unicast { IsTrue (is_unicast (Some mac)) }
         ensures { self.new ≡ with_address self.old name.now mac }
     {
         self.rows = None;
         self.network.set_address(name, mac);
     }
 
-    // What happens to a frame for this address that arrives at a port of the switch. The rows are made where the
-    // network has changed, and kept.
+    // What happens to a packet that comes into the switch by a port. The rows are made where the network has changed,
+    // and kept.
     pub fn trace(
         &mut self,
         alloc: Global,
         dp: ObjId,
         port: ObjId,
-        mac: Mac,
+        packet: &Packet,
     ) -> Result<Vec<Event>, OutOfMemory>
         requires { Contains (switch_numbers self.old.switches) dp.0 }
-        ensures events { IfOk result (λ events. events.items ≡ machine (full_build self.old) dp port mac) }
+        ensures events { IfOk result (λ events. events.items ≡ machine (flows_at self.old dp) port packet.now) }
         ensures refinement { OnOk result (IsRefined self.old) }
         ensures same { self.new ≡ self.old }
     {
         let rows = self.take_rows(alloc)?;
-        let events = trace(alloc, &rows, dp, port, mac)?;
+        let events = trace(alloc, &rows, &self.network, dp, port, packet)?;
         self.rows = Some(rows);
         Ok(events)
+    }
+
+    // Writes the listing of all flows. The rows are made where the network has changed, and kept.
+    #[tactic(auto, unfolding(crate::specs::Reply::flows))]
+    pub fn put_flows(&mut self, alloc: Global, out: &mut Vec<u8>) -> Result<(), OutOfMemory>
+        ensures text { OnOk result (out.new.items ≡ out.old.items ++ flows self.old) }
+        ensures same { self.new ≡ self.old }
+    {
+        let rows = self.take_rows(alloc)?;
+        put_listing(out, &rows, self.network.switches(), None)?;
+        self.rows = Some(rows);
+        Ok(())
     }
 
     // The rows, made anew where the network has changed. They are kept no more.

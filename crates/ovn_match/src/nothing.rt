@@ -1,7 +1,7 @@
 ghost use Rattle.std.specs.Prelude.{false, None, refl};
 
 use expr_core::Env;
-use nv_base::ObjId;
+use nv_base::{Name, ObjId};
 
 /// A network of nothing: no name is a port's, and sets and groups are empty.
 pub(crate) struct Nothing;
@@ -9,7 +9,7 @@ pub(crate) struct Nothing;
 impl Env for Nothing {
     ghost lookup = { λ _. record { port = λ _. None; in_set = λ _ _ _. false; in_group = λ _ _. false; is_switch = λ _. false } };
 
-    fn port(&self, _name: &[u8]) -> Option<ObjId> {
+    fn port(&self, _name: &Name) -> Option<ObjId> {
         None
     }
 

@@ -1,17 +1,18 @@
 -- Rows that are sorted all at once are those that are put one by one, where no two agree in their order.
 use Rattle.std.proofs.Common.{◌≡◌, ◌≢◌, suc, Bool, true, false, List, [], ◌∷◌, ◌++◌, get_or, sym, ap, refl, ◌∙◌, arith}
+use Rattle.std.specs.Prelude.{◌↔◌}
 use Rattle.std.specs.declared.cmp.Ordering.{Ordering}
 use Rattle.std.specs.declared.cmp.Ordering.TheVariants.{Less, Equal, Greater}
 use Rattle.std.specs.Ordering.{is_lt, is_gt, is_eq, ordering_reverse, eq_by_cmp}
-use Rattle.std.specs.List.{All, AllPairs, IsDistinct}
+use Rattle.std.specs.List.{All, AllPairs, Contains, IsDistinct}
 use Rattle.std.specs.List.Sorted.{IsPermutation, IsStrictlySortedBy}
 use Rattle.std.proofs.lemmas.Bool.{false≢true}
 use Rattle.std.proofs.lemmas.List.{append-nil}
 use Rattle.std.proofs.lemmas.List.Elements.{recursion_from_All}
-use Rattle.std.proofs.lemmas.List.Sorted.{IsPermutation-refl, IsPermutation-sym, IsPermutation-trans, IsPermutation-cons, IsPermutation-swap, IsPermutation-middle, IsPermutation-append_left, Contains-permutation, sorted_far, ranks_by}
+use Rattle.std.proofs.lemmas.List.Sorted.{IsPermutation-refl, IsPermutation-sym, IsPermutation-trans, IsPermutation-cons, IsPermutation-swap, IsPermutation-middle, IsPermutation-append_left, All-permutation, Contains-permutation, sorted_far, ranks_by}
 use Rattle.std.proofs.lemmas.Map.Keys.{IsDistinct-from_apart, apart_from_distinct, IsDistinct-IsPermutation}
-use Rattle.sb_rows.specs.declared.row.Row.{Row}
-use Rattle.sb_rows.specs.Row.{row_cmp, IsInRowOrder, AreApart, AreRows, put_row, put_rows}
+use Rattle.sb_model.specs.declared.row.Row.{Row}
+use Rattle.sb_rows.specs.Row.{row_cmp, IsInRowOrder, AreApart, AreRows, HasTypedMatch, put_row, put_rows}
 use Rattle.sb_rows.proofs.Distinct.{pairs_tail}
 use Rattle.sb_rows.proofs.Members.{same_members}
 use Rattle.sb_rows.proofs.Order.{row_cmp_total, lt_turned}
@@ -93,17 +94,31 @@ strictly_sorted (x ∷ xs) up apart =
         let far : is_lt (row_cmp (get_or xs k d) x) ≡ false = sorted_far _ (ranks_by row_cmp_total (λ (y : Row). y)) (x ∷ xs) up 0 (suc k) d (omega arith) (omega arith) in
         less_from (row_cmp x (get_or xs k d)) (sym (lt_turned x (get_or xs k d)) ∙ far) (apart 0 (suc k) d (omega arith) (omega arith))
 
+pub told_by_members : (xs ys : List Row) → IsInRowOrder xs → AreApart xs → IsInRowOrder ys → AreApart ys → ((r : Row) → Contains xs r ↔ Contains ys r) → xs ≡ ys
+told_by_members xs ys up_xs apart_xs up_ys apart_ys same =
+    same_members row_cmp_total xs ys (strictly_sorted xs up_xs apart_xs) (strictly_sorted ys up_ys apart_ys) (λ r. (same r).0) (λ r. (same r).1)
+
+-- what is among rows in one order is among them in another
+members_move : (xs ys : List Row) → IsPermutation xs ys → (r : Row) → Contains xs r ↔ Contains ys r
+members_move xs ys moves r = (Contains-permutation xs ys r moves, Contains-permutation ys xs r (IsPermutation-sym xs ys moves))
+
+-- rows that are put among none are the rows that were put
+pub put_members : (rows : List Row) (r : Row) → Contains (put_rows [] rows) r ↔ Contains rows r
+put_members rows r = members_move (put_rows [] rows) rows (IsPermutation-sym rows (put_rows [] rows) (put_rows_move rows [])) r
+
 -- rows in order that are those that were there and the new ones are the rows that are put one by one
 pub sorted_is_put : (rows more sorted : List Row) → IsInRowOrder rows → AreApart (rows ++ more) → IsPermutation (rows ++ more) sorted → IsInRowOrder sorted → sorted ≡ put_rows rows more
 sorted_is_put rows more sorted up apart moves sorted_up =
-    let all = rows ++ more in
     let put = put_rows_move more rows in
-    same_members row_cmp_total sorted (put_rows rows more)
-    (strictly_sorted sorted sorted_up (apart_moves all sorted moves apart))
-    (strictly_sorted (put_rows rows more) (put_rows_ordered more rows up) (apart_moves all (put_rows rows more) put apart))
-    (λ r at. Contains-permutation all (put_rows rows more) r put (Contains-permutation sorted all r (IsPermutation-sym all sorted moves) at))
-    (λ r at. Contains-permutation all sorted r moves (Contains-permutation (put_rows rows more) all r (IsPermutation-sym all (put_rows rows more) put) at))
+    told_by_members sorted (put_rows rows more)
+    sorted_up (apart_moves (rows ++ more) sorted moves apart)
+    (put_rows_ordered more rows up) (apart_moves (rows ++ more) (put_rows rows more) put apart)
+    (members_move sorted (put_rows rows more) (IsPermutation-trans sorted (rows ++ more) (put_rows rows more) (IsPermutation-sym (rows ++ more) sorted moves) put))
 
 -- and they are rows of the table
-pub sorted_are_rows : (rows more sorted : List Row) → AreApart (rows ++ more) → IsPermutation (rows ++ more) sorted → IsInRowOrder sorted → AreRows sorted
-sorted_are_rows rows more sorted apart moves up = record { ordered = up; distinct = unlike_from_apart sorted (apart_moves (rows ++ more) sorted moves apart) }
+pub sorted_are_rows : (rows more sorted : List Row) → AreApart (rows ++ more) → All HasTypedMatch (rows ++ more) → IsPermutation (rows ++ more) sorted → IsInRowOrder sorted → AreRows sorted
+sorted_are_rows rows more sorted apart typed moves up = record {
+  ordered = up;
+  distinct = unlike_from_apart sorted (apart_moves (rows ++ more) sorted moves apart);
+  typed = All-permutation HasTypedMatch (rows ++ more) sorted moves typed;
+}

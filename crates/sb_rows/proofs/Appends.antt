@@ -4,7 +4,7 @@ use Rattle.std.specs.Ordering.{is_gt}
 use Rattle.std.specs.List.{All, fold}
 use Rattle.std.proofs.lemmas.List.{append-nil}
 use Rattle.std.proofs.lemmas.List.Elements.{All-head, All-tail}
-use Rattle.sb_rows.specs.declared.row.Row.{Row}
+use Rattle.sb_model.specs.declared.row.Row.{Row}
 use Rattle.sb_rows.specs.Row.{row_cmp, IsInRowOrder, put_row}
 use Rattle.sb_rows.proofs.Order.{above_none_before}
 

@@ -1,11 +1,12 @@
 -- Rows of which none is there twice stay so when an unlike one is put among them.
-use Rattle.std.proofs.Common.{◌≡◌, ◌≢◌, suc, Bool, true, false, List, [], ◌∷◌, ◌⊎◌, inl, inr, get_or, sym, refl, ◌∙◌, arith}
+use Rattle.std.proofs.Common.{◌≡◌, ◌≢◌, suc, Bool, true, false, List, [], ◌∷◌, ◌⊎◌, inl, inr, get_or, sym, subst, refl, ◌∙◌, arith}
 use Rattle.std.specs.Ordering.{is_gt}
 use Rattle.std.specs.List.{All, AllPairs, Contains}
 use Rattle.std.proofs.lemmas.List.{get_or_default}
+use Rattle.std.proofs.lemmas.List.Elements.{All-contains}
 use Rattle.std.proofs.lemmas.List.Kept.{AllPairs-cons}
-use Rattle.sb_rows.specs.declared.row.Row.{Row}
-use Rattle.sb_rows.specs.Row.{row_cmp, put_row, AreRows}
+use Rattle.sb_model.specs.declared.row.Row.{Row}
+use Rattle.sb_rows.specs.Row.{row_cmp, put_row, AreRows, HasTypedMatch}
 use Rattle.sb_rows.proofs.Place.{ordered_put}
 use Rattle.sb_rows.proofs.Select.{among_put}
 
@@ -40,6 +41,18 @@ distinct_put row (x ∷ xs) new distinct =
         at_row r at same = get_or_default (x ∷ xs) at.0 row r at.1 ∙ at.2 ∙ sym same
     by false is rest = rw is (AllPairs-cons (λ a b. a ≢ b) x (put_row row xs) (all_from_among (λ r. x ≢ r) (put_row row xs) (λ r at. unlike_x r (among_put row xs r at))) rest)
 
--- so one more row that is not there yet leaves rows as rows are
-pub put_keeps_rows : (row : Row) (xs : List Row) → (Contains xs row → ⊥) → AreRows xs → AreRows (put_row row xs)
-put_keeps_rows row xs new are = record { ordered = ordered_put row xs are.ordered; distinct = distinct_put row xs new are.distinct }
+-- what holds of a row and of each of the others holds of all when it is put among them
+all_put : (P : Row → Type 0) (row : Row) (xs : List Row) → P row → All P xs → All P (put_row row xs)
+all_put P row xs one all = all_from_among P (put_row row xs) (λ r at. by r (among_put row xs r at))
+  where
+    by : (r : Row) → (row ≡ r) ⊎ Contains xs r → P r
+    by r (inl is) = subst P is one
+    by r (inr at) = All-contains P xs r all at
+
+-- so one more row that is not there yet, with a well-typed match, leaves rows as rows are
+pub put_keeps_rows : (row : Row) (xs : List Row) → (Contains xs row → ⊥) → HasTypedMatch row → AreRows xs → AreRows (put_row row xs)
+put_keeps_rows row xs new typed are = record {
+  ordered = ordered_put row xs are.ordered;
+  distinct = distinct_put row xs new are.distinct;
+  typed = all_put HasTypedMatch row xs typed are.typed;
+}

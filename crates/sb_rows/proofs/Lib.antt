@@ -5,10 +5,8 @@ pub mod Distinct
 pub mod Members
 pub mod Order
 pub mod Place
-pub mod Same
 pub mod Section
 pub mod Select
-pub mod Stages
 pub mod Tables
 pub mod Tail
-pub mod Texts
+pub mod Taken

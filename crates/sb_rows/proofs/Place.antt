@@ -6,7 +6,7 @@ use Rattle.std.specs.declared.cmp.Ordering.TheVariants.{Less, Equal, Greater}
 use Rattle.std.specs.Ordering.{is_lt, is_le, is_gt}
 use Rattle.std.specs.List.{insert, AllWithin}
 use Rattle.std.specs.List.Sorted.{IsPartitionPoint}
-use Rattle.sb_rows.specs.declared.row.Row.{Row}
+use Rattle.sb_model.specs.declared.row.Row.{Row}
 use Rattle.sb_rows.specs.Row.{row_cmp, IsInRowOrder, put_row}
 use Rattle.sb_rows.proofs.Order.{gt_from_le, lt_turned}
 

@@ -9,13 +9,15 @@ use Rattle.std.proofs.lemmas.Bool.{false≢true, and_parts}
 use Rattle.std.proofs.lemmas.List.Sorted.{sorted_far, ranks_by}
 use Rattle.nv_base.specs.declared.object.ObjId.{ObjId}
 use Rattle.pkt_core.specs.Packet.{Values}
-use Rattle.sb_rows.specs.declared.stage.Stage.{Stage}
-use Rattle.sb_rows.specs.declared.row.Row.{Row}
+use Rattle.sb_model.specs.declared.stage.Stage.{Stage}
+use Rattle.sb_model.specs.declared.row.Row.{Row}
 use Rattle.sb_rows.specs.Row.{row_cmp, IsInRowOrder, put_row, put_rows}
-use Rattle.sb_rows.specs.Match.{holds, is_in_table, select}
+use Rattle.expr_core.specs.Lookup.{Lookup}
+use Rattle.expr_eval.specs.MatchMeaning.{holds}
+use Rattle.sb_rows.specs.Match.{is_in_table, select}
 use Rattle.sb_rows.proofs.Order.{row_cmp_total, lt_turned}
 use Rattle.sb_rows.proofs.Place.{ordered_tail}
-use Rattle.sb_rows.proofs.Same.{same_or_other}
+use Rattle.sb_model.proofs.Same.{same_or_other}
 
 -- ---- what is among rows
 
@@ -111,20 +113,20 @@ Contains-put_rows rows more r = (Contains-from_put_rows more rows r, back)
 
 -- ---- which row a packet meets
 
-module _ (dp : ObjId) (stage : Stage) (packet : Values) where
+module _ (dp : ObjId) (stage : Stage) (net : Lookup) (packet : Values) where
   -- whether a row is of the table and takes the packet
   abbrev pub acts : Row → Bool
-  acts x = is_in_table dp stage x && holds x.matching packet
+  acts x = is_in_table dp stage x && holds net packet x.matching
 
-  acts_not : (x : Row) → (is_in_table dp stage x ≡ true → holds x.matching packet ≡ false) → acts x ≡ false
-  acts_not x h = by (is_in_table dp stage x) (holds x.matching packet) h
+  acts_not : (x : Row) → (is_in_table dp stage x ≡ true → holds net packet x.matching ≡ false) → acts x ≡ false
+  acts_not x h = by (is_in_table dp stage x) (holds net packet x.matching) h
     where
       by : (a b : Bool) → (a ≡ true → b ≡ false) → (a && b) ≡ false
       by true b f = f refl
       by false b f = refl
 
   -- where no row of the table takes the packet, it meets none
-  pub none_holds : (rows : List Row) → ((x : Row) → Contains rows x → is_in_table dp stage x ≡ true → holds x.matching packet ≡ false) → select dp stage packet rows ≡ None
+  pub none_holds : (rows : List Row) → ((x : Row) → Contains rows x → is_in_table dp stage x ≡ true → holds net packet x.matching ≡ false) → select dp stage net packet rows ≡ None
   none_holds [] none = refl
   none_holds (x ∷ xs) none =
       rw (acts_not x (none x (first_among x xs))) (none_holds xs (λ y at. none y (later_among x y xs at)))
@@ -135,17 +137,17 @@ module _ (dp : ObjId) (stage : Stage) (packet : Values) where
       let far : is_lt (row_cmp (get_or (x ∷ xs) (suc k) r) x) ≡ false = sorted_far _ (ranks_by row_cmp_total (λ (y : Row). y)) (x ∷ xs) up 0 (suc k) r (omega arith) (omega arith) in
       sym (lt_turned x r) ∙ rw is at far
 
-  module _ (r : Row) (in_table : is_in_table dp stage r ≡ true) (takes : holds r.matching packet ≡ true) where
+  module _ (r : Row) (in_table : is_in_table dp stage r ≡ true) (takes : holds net packet r.matching ≡ true) where
     r_acts : acts r ≡ true
     r_acts = rw in_table takes
 
     -- a row that acts, and is neither before r nor level with it unless it is r, is r
     only_r : (x : Row) → acts x ≡ true → is_gt (row_cmp x r) ≡ false
-        → (is_in_table dp stage x ≡ true → is_lt (row_cmp x r) ≡ true → holds x.matching packet ≡ false)
-        → (is_in_table dp stage x ≡ true → x ≢ r → row_cmp x r ≡ Equal → holds x.matching packet ≡ false) → x ≡ r
+        → (is_in_table dp stage x ≡ true → is_lt (row_cmp x r) ≡ true → holds net packet x.matching ≡ false)
+        → (is_in_table dp stage x ≡ true → x ≢ r → row_cmp x r ≡ Equal → holds net packet x.matching ≡ false) → x ≡ r
     only_r x does not_above before level = by (same_or_other x r) (row_cmp x r) refl
       where
-        parts : (is_in_table dp stage x ≡ true) × (holds x.matching packet ≡ true)
+        parts : (is_in_table dp stage x ≡ true) × (holds net packet x.matching ≡ true)
         parts = and_parts _ _ does
 
         by : (x ≡ r) ⊎ (x ≢ r) → (o : Ordering) → row_cmp x r ≡ o → x ≡ r
@@ -156,9 +158,9 @@ module _ (dp : ObjId) (stage : Stage) (packet : Values) where
 
     -- a packet meets the row that takes it, where none before it does, nor any other that is level with it
     pub first_from_before : (rows : List Row) → IsInRowOrder rows → Contains rows r
-        → ((x : Row) → Contains rows x → is_in_table dp stage x ≡ true → is_lt (row_cmp x r) ≡ true → holds x.matching packet ≡ false)
-        → ((x : Row) → Contains rows x → is_in_table dp stage x ≡ true → x ≢ r → row_cmp x r ≡ Equal → holds x.matching packet ≡ false)
-        → select dp stage packet rows ≡ Some r
+        → ((x : Row) → Contains rows x → is_in_table dp stage x ≡ true → is_lt (row_cmp x r) ≡ true → holds net packet x.matching ≡ false)
+        → ((x : Row) → Contains rows x → is_in_table dp stage x ≡ true → x ≢ r → row_cmp x r ≡ Equal → holds net packet x.matching ≡ false)
+        → select dp stage net packet rows ≡ Some r
     first_from_before [] up there before level = absurd (none_among r there)
     first_from_before (x ∷ xs) up there before level =
         by (acts x) refl (among_cases x r xs there) (λ at. first_from_before xs (ordered_tail x xs up) at (λ y a. before y (later_among x y xs a)) (λ y a. level y (later_among x y xs a)))
@@ -167,7 +169,7 @@ module _ (dp : ObjId) (stage : Stage) (packet : Values) where
         here (inl is) does = is
         here (inr at) does = only_r x does (first_not_above x r xs up at) (before x (first_among x xs)) (level x (first_among x xs))
 
-        by : (b : Bool) → acts x ≡ b → (x ≡ r) ⊎ Contains xs r → (Contains xs r → select dp stage packet xs ≡ Some r) → cond b (Some x) (select dp stage packet xs) ≡ Some r
+        by : (b : Bool) → acts x ≡ b → (x ≡ r) ⊎ Contains xs r → (Contains xs r → select dp stage net packet xs ≡ Some r) → cond b (Some x) (select dp stage net packet xs) ≡ Some r
         by true e at rest = ap Some (here at e)
         by false e (inl is) rest = absurd (false≢true (sym e ∙ ap acts is ∙ r_acts))
         by false e (inr at) rest = rest at

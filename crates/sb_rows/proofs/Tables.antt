@@ -1,28 +1,30 @@
 -- Rows in row order rise by their tables, and a table's rows are those of one key.
-use Rattle.std.proofs.Common.{◌≡◌, ℕ, ◌+◌, ◌*◌, ◌<◌, ◌≤◌, Bool, true, false, cond, List, [], ◌∷◌, eqb, ap, refl, arith}
-use Rattle.std.specs.Prelude.{◌&&◌, Some}
+use Rattle.std.proofs.Common.{◌≡◌, ℕ, zero, suc, ◌+◌, ◌*◌, ◌<◌, ◌≤◌, Bool, true, false, cond, List, [], ◌∷◌, length, length-drop, get_or, drop, eqb, ltb, sym, ap, refl, ◌∙◌, arith}
+use Rattle.std.specs.Prelude.{◌&&◌, Some, None}
 use Rattle.std.specs.Ordering.{is_lt}
-use Rattle.std.specs.List.{filter, find}
-use Rattle.std.specs.List.Sorted.{IsNonDecreasingBy}
+use Rattle.std.specs.List.{All, AllWithin, find}
+use Rattle.std.specs.List.Sorted.{IsNonDecreasingBy, IsPartitionPoint}
 use Rattle.std.proofs.lemmas.Bool.{eqb-true, eq-eqb, and_parts}
 use Rattle.std.proofs.lemmas.Bool.Decides.{nat_tests}
-use Rattle.std.proofs.lemmas.List.Sorted.{IsNonDecreasingBy-from_all_adjacent}
-use Rattle.sb_rows.specs.declared.stage.Stage.{Stage}
-use Rattle.sb_rows.specs.declared.row.Row.{Row}
-use Rattle.sb_rows.specs.Row.{row_cmp, IsInRowOrder}
-use Rattle.sb_rows.specs.Match.{is_in_table}
-use Rattle.sb_rows.specs.inner.Tables.{table_key}
-use Rattle.sb_rows.specs.Stage.{stage_place}
-use Rattle.sb_rows.proofs.Stages.{place_below, stage_from_place}
+use Rattle.std.proofs.lemmas.List.{get_or-drop}
+use Rattle.std.proofs.lemmas.List.Elements.{All-head, All-tail}
+use Rattle.std.proofs.lemmas.List.Sorted.{IsNonDecreasingBy-from_all_adjacent, IsNonDecreasingBy-drop}
+use Rattle.pkt_core.specs.Packet.{Values}
+use Rattle.expr_core.specs.Lookup.{Lookup}
+use Rattle.expr_eval.specs.MatchMeaning.{holds}
+use Rattle.sb_model.specs.declared.stage.Stage.{Stage}
+use Rattle.sb_model.specs.declared.row.Row.{Row}
+use Rattle.sb_rows.specs.Row.{key_cmp, IsInRowOrder}
+use Rattle.sb_rows.specs.Match.{is_in_table, select}
+use Rattle.sb_rows.specs.inner.Tables.{table_key, key_of, find_while}
+use Rattle.sb_rows.proofs.Order.{keys_in_order}
+use Rattle.sb_model.specs.Stage.{stage_place}
+use Rattle.sb_model.proofs.Stages.{place_below, stage_from_place}
 use Rattle.nv_base.specs.declared.object.ObjId.{ObjId}
 
--- the place of a row's table
-abbrev pub key_of : Row → ℕ
-key_of r = table_key r.dp r.stage
-
 -- a row that is not before another has no lower table
-key_from_order : (x y : Row) → is_lt (row_cmp y x) ≡ false → key_of x ≤ key_of y
-unfolding row_cmp
+key_from_order : (x y : Row) → is_lt (key_cmp y x) ≡ false → key_of x ≤ key_of y
+unfolding key_cmp
 key_from_order x y h =
     let a = place_below x.stage in
     let b = place_below y.stage in
@@ -30,7 +32,7 @@ key_from_order x y h =
 
 -- rows in order are in the order of their tables
 pub keys_rise : (xs : List Row) → IsInRowOrder xs → IsNonDecreasingBy key_of xs
-keys_rise xs up = IsNonDecreasingBy-from_all_adjacent key_of xs (λ k d lt. key_from_order _ _ (up k d (omega arith) lt))
+keys_rise xs up = IsNonDecreasingBy-from_all_adjacent key_of xs (λ k d lt. key_from_order _ _ (keys_in_order xs up k d (omega arith) lt))
 
 -- a row is of a table where it has its key
 key_tells : (dp p t q : ℕ) → p < 32 → q < 32 → eqb (dp * 32 + p) (t * 32 + q) ≡ (eqb dp t && eqb p q)
@@ -39,19 +41,63 @@ key_tells dp p t q a b = grind (arith, nat_tests)
 pub in_table-key : (dp : ObjId) (stage : Stage) (r : Row) → eqb (key_of r) (table_key dp stage) ≡ is_in_table dp stage r
 in_table-key dp stage r = key_tells r.dp.0 (stage_place r.stage) dp.0 (stage_place stage) (place_below r.stage) (place_below stage)
 
--- two filters whose tests agree keep the same
-pub filter_alike : {X : Type 0} (p q : X → Bool) → ((x : X) → p x ≡ q x) → (xs : List X) → filter p xs ≡ filter q xs
-filter_alike p q same [] = refl
-filter_alike p q same (x ∷ xs) = rw (same x, filter_alike p q same xs) refl
+module _ {X : Type 0} (p : X → Bool) where
+  -- a search passes over a front that fails
+  find_past : (xs : List X) (i : ℕ) → i ≤ length xs → AllWithin (λ y. p y ≡ false) xs 0 i → find p xs ≡ find p (drop i xs)
+  find_past [] i le fails = let none : i ≡ 0 = omega arith in rw none refl
+  find_past (x ∷ xs) zero le fails = refl
+  find_past (x ∷ xs) (suc i) le fails =
+      rw (fails 0 x (omega arith) (omega arith)) (find_past xs i (omega arith) (λ k d a b. fails (suc k) d (omega arith) (omega arith)))
 
--- a search among what a filter keeps asks both tests
-pub find_in_filter : {X : Type 0} (p q : X → Bool) (xs : List X) → find q (filter p xs) ≡ find (λ x. p x && q x) xs
-find_in_filter p q [] = refl
-find_in_filter {X} p q (x ∷ xs) = by (p x) (find_in_filter p q xs)
-  where
-    by : (b : Bool) → find q (filter p xs) ≡ find (λ x. p x && q x) xs → find q (cond b (x ∷ filter p xs) (filter p xs)) ≡ cond (b && q x) (Some x) (find (λ x. p x && q x) xs)
-    by true rest = ap (cond (q x) (Some x)) rest
-    by false rest = rest
+  -- and finds nothing where all fail
+  find_none : (xs : List X) → All (λ y. p y ≡ false) xs → find p xs ≡ None
+  find_none [] fails = refl
+  find_none (x ∷ xs) fails = rw (All-head (λ y. p y ≡ false) x xs fails) (find_none xs (All-tail (λ y. p y ≡ false) x xs fails))
+
+  -- two searches whose tests agree find the same
+  find_alike : (q : X → Bool) → ((x : X) → p x ≡ q x) → (xs : List X) → find p xs ≡ find q xs
+  find_alike q same [] = refl
+  find_alike q same (x ∷ xs) = rw (same x, find_alike q same xs) refl
+
+-- past a number, no number is that one
+later : (t x y : ℕ) → t ≤ x → x ≤ y → eqb x t ≡ false → eqb y t ≡ false
+later t x y from rise other = grind (arith, nat_tests)
+
+module _ {X : Type 0} (key : X → ℕ) (t : ℕ) (passes : X → Bool) where
+  -- in elements whose keys rise from t, a search that stops at the first other key finds what a search through all finds
+  find_while_is : (xs : List X) → IsNonDecreasingBy key xs → All (λ y. t ≤ key y) xs → find_while (λ y. eqb (key y) t) passes xs ≡ find (λ y. eqb (key y) t && passes y) xs
+  find_while_is [] rise from = refl
+  find_while_is (x ∷ xs) rise from =
+      by (eqb (key x) t) refl (find_while_is xs (λ i j d le within. rise (suc i) (suc j) d (omega arith) (omega arith)) (All-tail (λ y. t ≤ key y) x xs from))
+    where
+      by : (b : Bool) → eqb (key x) t ≡ b → find_while (λ y. eqb (key y) t) passes xs ≡ find (λ y. eqb (key y) t && passes y) xs
+          → cond b (cond (passes x) (Some x) (find_while (λ y. eqb (key y) t) passes xs)) None ≡ cond (b && passes x) (Some x) (find (λ y. eqb (key y) t && passes y) xs)
+      by true is rest = ap (cond (passes x) (Some x)) rest
+      by false is rest =
+          sym (find_none (λ y. eqb (key y) t && passes y) xs
+          (λ k d below. ap (λ (b : Bool). b && passes (get_or xs k d)) (later t (key x) (key (get_or xs k d)) (All-head (λ y. t ≤ key y) x xs from) (rise 0 (suc k) d (omega arith) (omega arith)) is)))
+
+not_below : (t n : ℕ) → ltb n t ≡ false → t ≤ n
+not_below t n h = grind (arith, nat_tests)
+
+below_other : (t n : ℕ) → ltb n t ≡ true → eqb n t ≡ false
+below_other t n h = grind (arith, nat_tests)
+
+module _ (dp : ObjId) (stage : Stage) (net : Lookup) (packet : Values) where
+  abbrev takes : Row → Bool
+  takes r = holds net packet r.matching
+
+  -- so the row that a packet meets is found from the first row that is not of a lower table
+  pub select_from : (rows : List Row) → IsInRowOrder rows → (low : ℕ) → low ≤ length rows
+      → IsPartitionPoint (λ r. ltb (key_of r) (table_key dp stage) ≡ true) (λ r. ltb (key_of r) (table_key dp stage) ≡ false) rows low
+      → find_while (λ r. eqb (key_of r) (table_key dp stage)) (λ r. holds net packet r.matching) (drop low rows) ≡ select dp stage net packet rows
+  select_from rows up low within point =
+      let t = table_key dp stage in
+      let dropped = length-drop low rows in
+      find_while_is key_of t takes (drop low rows) (IsNonDecreasingBy-drop key_of low rows (keys_rise rows up))
+      (λ k d below. rw (get_or-drop low rows k d) (not_below t (key_of (get_or rows (low + k) d)) (point.1 (low + k) d (omega arith) (omega (arith, dropped)))))
+      ∙ sym (find_past (λ r. eqb (key_of r) t && takes r) rows low within (λ k d le below. ap (λ (b : Bool). b && takes (get_or rows k d)) (below_other t (key_of (get_or rows k d)) (point.0 k d le below))))
+      ∙ find_alike (λ r. eqb (key_of r) t && takes r) (λ r. is_in_table dp stage r && takes r) (λ r. ap (λ (b : Bool). b && takes r) (in_table-key dp stage r)) rows
 
 -- a row is in the table of its own datapath and stage
 pub in_table-from : (dp : ObjId) (stage : Stage) (r : Row) → r.dp ≡ dp → r.stage ≡ stage → is_in_table dp stage r ≡ true

@@ -1,5 +1,4 @@
 pub mod Listing
 pub mod Match
 pub mod Row
-pub mod Stage
 pub mod inner

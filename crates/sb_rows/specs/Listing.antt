@@ -2,12 +2,14 @@
 use Rattle.std.specs.Prelude.{ℕ, List, ◌++◌, Bool, true, codes, decimal, ◌==◌, filter, Option, Some, None}
 use Rattle.std.specs.List.{flat_map}
 use Rattle.nv_base.specs.declared.object.ObjId.{ObjId}
-use Rattle.sb_rows.specs.declared.stage.Stage.{Stage}
-use Rattle.sb_rows.specs.declared.stage.Pipeline.{Pipeline}
-use Rattle.sb_rows.specs.declared.stage.Pipeline.TheVariants.{Ingress, Egress}
-use Rattle.sb_rows.specs.declared.row.Row.{Row}
-use Rattle.sb_rows.specs.Stage.{stage_name, table_number, pipeline_of, is_same_pipeline}
-use Rattle.sb_rows.specs.Row.{match_text, action_text, rows_of}
+use Rattle.sb_model.specs.declared.stage.Stage.{Stage}
+use Rattle.sb_model.specs.declared.stage.Pipeline.{Pipeline}
+use Rattle.sb_model.specs.declared.stage.Pipeline.TheVariants.{Ingress, Egress}
+use Rattle.sb_model.specs.declared.row.Row.{Row}
+use Rattle.sb_model.specs.Stage.{stage_name, table_number, pipeline_of, is_same_pipeline}
+use Rattle.expr_core.specs.Text.{typed_text}
+use Rattle.act_core.specs.Text.{actions_text}
+use Rattle.sb_rows.specs.Row.{rows_of}
 
 -- the pipeline's name
 abbrev pub pipeline_name : Pipeline → List ℕ
@@ -28,7 +30,7 @@ row_rank r = codes ", priority=" ++ decimal r.priority ++ codes ", hint=" ++ dec
 
 -- a row's match and actions, as its line ends
 unfoldable pub row_rule : Row → List ℕ
-row_rule r = codes ", match=(" ++ match_text r.matching ++ codes "), action=(" ++ action_text r.actions ++ codes ")\n"
+row_rule r = codes ", match=(" ++ typed_text r.matching ++ codes "), action=(" ++ actions_text r.actions ++ codes ")\n"
 
 -- a row's line
 unfoldable pub row_text : Row → List ℕ

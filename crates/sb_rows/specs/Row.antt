@@ -1,37 +1,16 @@
--- The rows of the logical flow table: their texts and their order.
-use Rattle.std.specs.Prelude.{◌≢◌, ℕ, List, [], ◌∷◌, ◌++◌, fold, codes, if◌then◌else◌, ◌==◌, filter, IsSorted}
-use Rattle.std.specs.List.{AllPairs}
+-- The rows of the logical flow table: their order, and how rows are put among others and taken out.
+use Rattle.std.specs.Prelude.{◌≡◌, ◌≢◌, List, [], ◌∷◌, ◌++◌, fold, if◌then◌else◌, ◌==◌, filter, IsSorted}
+use Rattle.std.specs.List.{All, AllPairs}
 use Rattle.std.specs.declared.cmp.Ordering.{Ordering}
 use Rattle.std.specs.declared.cmp.Ordering.TheVariants.{Equal}
 use Rattle.std.specs.Ordering.{nat_cmp, is_gt, on, then_cmp, flip_args}
 use Rattle.std.specs.Cmp.Lexicographic.{slice_cmp}
 use Rattle.nv_base.specs.declared.object.ObjId.{ObjId}
-use Rattle.nv_base.specs.Mac.{mac_text}
-use Rattle.sb_rows.specs.declared.row.PlainMatch.{PlainMatch}
-use Rattle.sb_rows.specs.declared.row.PlainMatch.TheVariants.{Any, SrcMcast, DstMcast, DstIs}
-use Rattle.sb_rows.specs.declared.row.PlainAction.{PlainAction}
-use Rattle.sb_rows.specs.declared.row.PlainAction.TheVariants.{Next, Drop, Output, Flood, To}
-use Rattle.sb_rows.specs.declared.row.Row.{Row}
-use Rattle.sb_rows.specs.Stage.{stage_place}
-
--- the match, as ovn-sb(5) writes it
-abbrev pub match_text : PlainMatch → List ℕ
-match_text Any = codes "1"
-match_text SrcMcast = codes "eth.src[40]"
-match_text DstMcast = codes "eth.mcast"
-match_text (DstIs mac) = codes "eth.dst == " ++ mac_text mac
-
--- the actions that send a packet out by a port
-abbrev pub output_to : List ℕ → List ℕ
-output_to port = codes "outport = \"" ++ port ++ codes "\"; output;"
-
--- the actions, as ovn-sb(5) writes them
-abbrev pub action_text : PlainAction → List ℕ
-action_text Next = codes "next;"
-action_text Drop = codes "drop;"
-action_text Output = codes "output;"
-action_text Flood = codes "outport = \"_MC_flood\"; output;"
-action_text (To port) = output_to port
+use Rattle.expr_core.specs.declared.role.Role.TheVariants as role
+use Rattle.expr_core.specs.Text.{typed_text}
+use Rattle.expr_core.specs.WellTyped.{IsTyped}
+use Rattle.sb_model.specs.declared.row.Row.{Row}
+use Rattle.sb_model.specs.Stage.{stage_place}
 
 -- rows are ordered by datapath, then by stage
 abbrev pub place_cmp : Row → Row → Ordering
@@ -41,9 +20,13 @@ place_cmp = then_cmp (on (λ r. r.dp.0) nat_cmp) (on (λ r. stage_place r.stage)
 abbrev pub rank_cmp : Row → Row → Ordering
 rank_cmp = then_cmp (flip_args (on (λ r. r.priority) nat_cmp)) (on (λ r. r.hint.0) nat_cmp)
 
+-- by all of these
+unfoldable pub key_cmp : Row → Row → Ordering
+key_cmp = then_cmp place_cmp rank_cmp
+
 -- the order of rows: place, rank, and the text of the match by its bytes
 unfoldable pub row_cmp : Row → Row → Ordering
-row_cmp = then_cmp (then_cmp place_cmp rank_cmp) (on (λ r. match_text r.matching) (slice_cmp nat_cmp))
+row_cmp = then_cmp key_cmp (on (λ r. typed_text r.matching) (slice_cmp nat_cmp))
 
 -- no row is before the one ahead of it in this order
 abbrev pub IsInRowOrder : List Row → Type 0
@@ -53,10 +36,15 @@ IsInRowOrder rows = IsSorted row_cmp rows
 abbrev pub AreApart : List Row → Type 0
 AreApart rows = AllPairs (λ a b. row_cmp a b ≢ Equal) rows
 
--- rows of the table: in row order, and none is there twice
+-- the match of the row is well-typed, in the role of a row
+abbrev pub HasTypedMatch : Row → Type 0
+HasTypedMatch r = IsTyped role.Row r.matching
+
+-- rows of the table: in row order, none is there twice, and their matches are well-typed
 pub record AreRows (rows : List Row) : Type 0 where
   pub ordered : IsInRowOrder rows
   pub distinct : AllPairs (λ a b. a ≢ b) rows
+  pub typed : All HasTypedMatch rows
 
 -- the rows with one more, which goes before the first that is after it in this order
 abbrev pub put_row : Row → List Row → List Row
@@ -66,6 +54,13 @@ put_row row (x ∷ xs) = if is_gt (row_cmp x row) then row ∷ x ∷ xs else x �
 -- rows, each put in its place among those that are there
 abbrev pub put_rows : List Row → List Row → List Row
 put_rows rows more = fold (λ there row. put_row row there) rows more
+
+-- the new rows are the old ones without one: those before it, and those after it
+pub record IsWithout (row : Row) (old new : List Row) : Type 0 where
+  pub before : List Row
+  pub after : List Row
+  pub were : old ≡ before ++ row ∷ after
+  pub are : new ≡ before ++ after
 
 -- the rows of one datapath
 abbrev pub rows_of : ObjId → List Row → List Row

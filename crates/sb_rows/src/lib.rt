@@ -1,14 +1,13 @@
-//! The rows of the logical flow table: their stages, their order, the store that keeps them in it,
-//! and the listing that a reader of flows sees.
+//! The rows of the logical flow table: their order, the store that keeps them in it, and the listing that a reader of
+//! flows sees.
 #![tactic(auto)]
 
-mod kept;
+mod laws;
 mod listing;
-mod row;
 mod rows;
-mod stage;
+mod search;
+mod stored;
 
+pub use laws::{rows_are_told_by_their_members, rows_that_are_put_are_in_order};
 pub use listing::put_listing;
-pub use row::{PlainAction, PlainMatch, Row};
 pub use rows::Rows;
-pub use stage::{DatapathKind, Pipeline, Stage};

@@ -3,9 +3,12 @@ ghost use Rattle.std.specs.List.{flat_map};
 ghost use Rattle.sb_rows.specs.Listing.{pipeline_name, is_asked_for, heading, stage_text, row_text, row_rank, row_rule, rows_in, pipeline_listing, datapath_listing, listing};
 ghost use Rattle.nv_base.specs.Growth.{GrowsAtEnd};
 
-use crate::{Pipeline, Row, Rows, Stage};
+use crate::Rows;
+use crate::stored::Stored;
+use act_core::put_actions;
 use itoa::Buffer;
 use nv_base::{Name, ObjId, OutOfMemory};
+use sb_model::{Pipeline, Row, Stage};
 
 /// Writes the rows of each datapath that `names` numbers and names, or only of the one numbered
 /// `only`, in that order. After `OutOfMemory` the bytes before are first, and a part of the listing may follow.
@@ -36,7 +39,7 @@ fn is_asked_for(only: Option<ObjId>, dp: ObjId) -> bool
     }
 }
 
-fn put_datapath(out: &mut Vec<u8>, rows: &[Row], name: &Name) -> Result<(), OutOfMemory>
+fn put_datapath(out: &mut Vec<u8>, rows: &[Stored], name: &Name) -> Result<(), OutOfMemory>
     ensures ok { OnOk result (out.new.items ≡ out.old.items ++ datapath_listing rows.now name.now) }
     ensures err { OnErr result (GrowsAtEnd out.old.items out.new.items) }
 {
@@ -47,7 +50,7 @@ fn put_datapath(out: &mut Vec<u8>, rows: &[Row], name: &Name) -> Result<(), OutO
 
 fn put_pipeline(
     out: &mut Vec<u8>,
-    rows: &[Row],
+    rows: &[Stored],
     name: &Name,
     pipeline: Pipeline,
 ) -> Result<(), OutOfMemory>
@@ -59,13 +62,13 @@ fn put_pipeline(
     Ok(())
 }
 
-fn put_rows(out: &mut Vec<u8>, rows: &[Row], pipeline: Pipeline) -> Result<(), OutOfMemory>
+fn put_rows(out: &mut Vec<u8>, rows: &[Stored], pipeline: Pipeline) -> Result<(), OutOfMemory>
     ensures ok { OnOk result (out.new.items ≡ out.old.items ++ flat_map row_text (rows_in pipeline rows.now)) }
     ensures err { OnErr result (GrowsAtEnd out.old.items out.new.items) }
 {
-    for row in rows {
-        if row.stage.pipeline() == pipeline {
-            put_row_line(out, row)?;
+    for stored in rows {
+        if stored.row().stage.pipeline() == pipeline {
+            put_row_line(out, stored)?;
         }
     }
     Ok(())
@@ -84,13 +87,13 @@ fn put_heading(out: &mut Vec<u8>, name: &Name, pipeline: Pipeline) -> Result<(),
 }
 
 #[tactic(auto, unfolding(crate::specs::Listing::row_text))]
-fn put_row_line(out: &mut Vec<u8>, row: &Row) -> Result<(), OutOfMemory>
-    ensures ok { OnOk result (out.new.items ≡ out.old.items ++ row_text row.now) }
+fn put_row_line(out: &mut Vec<u8>, stored: &Stored) -> Result<(), OutOfMemory>
+    ensures ok { OnOk result (out.new.items ≡ out.old.items ++ row_text stored.now) }
     ensures err { OnErr result (GrowsAtEnd out.old.items out.new.items) }
 {
-    put_stage(out, row.stage)?;
-    put_row_rank(out, row)?;
-    put_row_rule(out, row)?;
+    put_stage(out, stored.row().stage)?;
+    put_row_rank(out, stored.row())?;
+    put_row_rule(out, stored)?;
     Ok(())
 }
 
@@ -107,14 +110,14 @@ fn put_row_rank(out: &mut Vec<u8>, row: &Row) -> Result<(), OutOfMemory>
 }
 
 #[tactic(auto, unfolding(crate::specs::Listing::row_rule))]
-fn put_row_rule(out: &mut Vec<u8>, row: &Row) -> Result<(), OutOfMemory>
-    ensures ok { OnOk result (out.new.items ≡ out.old.items ++ row_rule row.now) }
+fn put_row_rule(out: &mut Vec<u8>, stored: &Stored) -> Result<(), OutOfMemory>
+    ensures ok { OnOk result (out.new.items ≡ out.old.items ++ row_rule stored.now) }
     ensures err { OnErr result (GrowsAtEnd out.old.items out.new.items) }
 {
     out.extend_from_slice(b", match=(")?;
-    row.matching.put_text(out)?;
+    out.extend_from_slice(stored.text())?;
     out.extend_from_slice(b"), action=(")?;
-    row.actions.put_text(out)?;
+    put_actions(out, stored.row().actions.as_slice())?;
     out.extend_from_slice(b")\n")?;
     Ok(())
 }

@@ -1,30 +1,35 @@
-ghost use Rattle.std.specs.Prelude.{◌≡◌, ◌≢◌, ◌≤◌, true, false, [], ◌++◌, length, Contains, IsTrue, ◌↔◌, OnOk, OnErr};
-ghost use Rattle.std.specs.List.Sorted.{IsPartitionPoint};
-ghost use Rattle.std.specs.Ordering.{is_le};
-ghost use Rattle.std.specs.List.{find, AllPairs};
+ghost use Rattle.std.specs.Prelude.{◌≡◌, [], ◌++◌, length, All, Contains, IsTrue, ◌↔◌, IfOk, OnOk, OnErr, slice_get};
+ghost use Rattle.std.specs.Bool.{OnTrue, OnFalse};
 ghost use Rattle.std.specs.Option.{option_copied};
-ghost use Rattle.sb_rows.specs.Row.{IsInRowOrder, AreApart, row_cmp, put_row, put_rows, rows_of};
-ghost use Rattle.sb_rows.specs.Match.{holds, select};
-ghost use Rattle.sb_rows.specs.inner.Tables.{rows_of_table, table_key};
+ghost use Rattle.sb_rows.specs.Row.{AreApart, AreRows, HasTypedMatch, IsWithout, put_row, put_rows, rows_of};
+ghost use Rattle.sb_rows.specs.Match.{select};
 
-use crate::{Row, Stage};
+use crate::search::{first_that_holds, place_among, place_of};
+use crate::stored::{Stored, table_key};
+use expr_core::Env;
 use nv_base::{ObjId, OutOfMemory};
 use pkt_core::Packet;
+use sb_model::{Row, Stage};
 use std::alloc::Global;
 use std::marker::Model;
 
-/// The rows of the logical flow table, in row order, none of them twice. A clause sees it as the list of the rows.
-#[derive(Debug, Drop)]
+/// The rows of the logical flow table, in row order, none of them twice, each match well-typed. A clause sees it as the
+/// list of the rows.
+#[derive(Drop)]
 pub struct Rows {
-    sorted: Vec<Row>,
+    sorted: Vec<Stored>,
 }
 
 impl Model for Rows {
     ghost use Rattle.std.specs.Prelude.{List};
-    ghost use Rattle.sb_rows.specs.declared.row.Row.{Row};
+    ghost use Rattle.sb_model.specs.declared.row.Row.{Row};
     ghost use Rattle.sb_rows.specs.Row.{AreRows};
+    ghost use Rattle.sb_model.specs.contracts.row.Row as row_of;
+    ghost use Rattle.std.specs.Coded.{codes};
 
     ghost Value = { List Row };
+
+    ghost coded = { Prim.hlevel (codes, row_of.the_row.coded) };
 
     ghost view = { λ r. r.sorted.items };
 
@@ -41,40 +46,59 @@ impl Rows {
         }
     }
 
-    /// Whether an equal row is there. It looks at the rows of the row's datapath alone.
+    /// Whether an equal row is there. Its match and actions are compared only with rows that agree with it in all else.
     pub fn contains(&self, row: &Row) -> bool
         ensures { IsTrue result ↔ Contains self.now row.now }
     {
-        is_among(self.of_datapath(row.dp), row)
+        place_of(&self.sorted, row).is_some()
     }
 
     /// Puts one more row, unlike each that is there, in its place. After `OutOfMemory` the rows are as
     /// before.
     pub fn put(&mut self, row: Row) -> Result<(), OutOfMemory>
-        requires { ¬ Contains self.old row }
+        requires absent { ¬ Contains self.old row }
+        requires typed { HasTypedMatch row }
         ensures ok { OnOk result (self.new ≡ put_row row self.old) }
         ensures err { OnErr result (self.new ≡ self.old) }
     {
-        let at = place_among(&self.sorted, &row);
-        self.sorted.insert(at, row)?;
+        let stored = Stored::new(*self.sorted.allocator(), row)?;
+        let at = place_among(&self.sorted, &stored);
+        self.sorted.insert(at, stored)?;
         Ok(())
     }
 
     /// Puts more rows, all at once, each in its place. No two of all the rows agree in datapath, stage, priority, hint
     /// and match. After `OutOfMemory` the rows are as before.
-    pub fn put_all(&mut self, mut rows: Vec<Row>) -> Result<(), OutOfMemory>
-        requires { AreApart (self.old ++ rows.items) }
+    pub fn put_all(&mut self, rows: Vec<Row>) -> Result<(), OutOfMemory>
+        requires apart { AreApart (self.old ++ rows.items) }
+        requires typed { All HasTypedMatch rows.items }
         ensures ok { OnOk result (self.new ≡ put_rows self.old rows.items) }
         ensures err { OnErr result (self.new ≡ self.old) }
     {
         let before = self.sorted.len();
-        self.sorted.append(&mut rows)?;
+        let mut stored = all_stored(*self.sorted.allocator(), rows)?;
+        self.sorted.append(&mut stored)?;
         match self.sorted.sort_by(|one, other| one.order(other)) {
             Ok(()) => Ok(()),
             Err(_) => {
                 self.sorted.truncate(before);
                 Err(OutOfMemory)
             }
+        }
+    }
+
+    /// Takes the row out, and tells whether it was there. It is looked for as `contains` does. It takes no memory.
+    pub fn take(&mut self, row: &Row) -> bool
+        ensures there { IsTrue result ↔ Contains self.old row.now }
+        ensures taken { OnTrue result (IsWithout row.now self.old self.new) }
+        ensures kept { OnFalse result (self.new ≡ self.old) }
+    {
+        match place_of(&self.sorted, row) {
+            Some(at) => {
+                self.sorted.remove(at);
+                true
+            }
+            None => false,
         }
     }
 
@@ -91,89 +115,49 @@ impl Rows {
         self.sorted.is_empty()
     }
 
-    /// The rows, in row order. None is there twice.
-    pub fn as_slice(&self) -> &[Row]
-        ensures all { result.now ≡ self.now }
-        ensures ordered { IsInRowOrder self.now }
-        ensures distinct { AllPairs (λ a b. a ≢ b) self.now }
+    /// The row at this place, from 0, in row order. None exactly where there are not so many.
+    pub fn get(&self, at: usize) -> Option<&Row>
+        ensures row { option_copied result ≡ slice_get self.now at }
+        ensures rows { AreRows self.now }
     {
-        self.sorted.as_slice()
+        match self.sorted.get(at) {
+            Some(stored) => Some(stored.row()),
+            None => None,
+        }
     }
 
-    /// The rows of one datapath, in row order. It looks at few of the others.
-    pub fn of_datapath(&self, dp: ObjId) -> &[Row]
+    // The rows of one datapath, in row order. It looks at few of the others.
+    pub(crate) fn of_datapath(&self, dp: ObjId) -> &[Stored]
         ensures { result.now ≡ rows_of dp self.now }
     {
-        let low = self.sorted.partition_point(|row| row.dp.0 < dp.0);
+        let low = self
+            .sorted
+            .partition_point(|stored| stored.row().dp.0 < dp.0);
         let from_low = &self.sorted[low..];
-        let count = from_low.partition_point(|row| row.dp.0 <= dp.0);
+        let count = from_low.partition_point(|stored| stored.row().dp.0 <= dp.0);
         &from_low[..count]
     }
 
-    /// The row that acts on a packet in a table: the first one in row order that takes it. It looks at few of
-    /// the rows of other tables.
-    pub fn select(&self, dp: ObjId, stage: Stage, packet: &Packet) -> Option<&Row>
-        ensures { option_copied result ≡ select dp stage packet.now self.now }
-    {
-        first_that_holds(self.of_table(dp, stage), packet)
-    }
-
-    // The rows of one table, in row order.
-    fn of_table(&self, dp: ObjId, stage: Stage) -> &[Row]
-        ensures { result.now ≡ rows_of_table dp stage self.now }
+    /// The row that acts on a packet in a table: the first one in row order whose match holds. It looks at few of
+    /// the rows of other tables, and takes no memory.
+    pub fn select<E: Env>(&self, dp: ObjId, stage: Stage, packet: &Packet, env: &E) -> Option<&Row>
+        ensures { option_copied result ≡ select dp stage (E.lookup env.now) packet.now self.now }
     {
         let key = table_key(dp, stage);
         let low = self
             .sorted
-            .partition_point(|row| table_key(row.dp, row.stage) < key);
-        let rest = &self.sorted[low..];
-        let count = rest.partition_point(|row| table_key(row.dp, row.stage) <= key);
-        &rest[..count]
+            .partition_point(|stored| stored.table_key() < key);
+        first_that_holds(&self.sorted[low..], key, packet, env)
     }
 }
 
-// The place of a table among all: by datapath, then by stage.
-fn table_key(dp: ObjId, stage: Stage) -> u64
-    ensures { result ≡ table_key dp stage }
+// The rows, in their order, each with the text of its match.
+fn all_stored(alloc: Global, rows: Vec<Row>) -> Result<Vec<Stored>, OutOfMemory>
+    ensures { IfOk result (λ stored. stored.items ≡ rows.items) }
 {
-    u64::from(dp.0) * 32 + u64::from(stage.place())
-}
-
-// The first of the rows that takes the packet.
-fn first_that_holds<'r>(rows: &'r [Row], packet: &Packet) -> Option<&'r Row>
-    ensures { option_copied result ≡ find (λ r. holds r.matching packet.now) rows.now }
-{
-    rows.iter().find(|row| row.matching.holds(packet))
-}
-
-// Where a row goes among rows in order: after all that are not after it. Rows mostly come in order, so the last one
-// is looked at first.
-fn place_among(rows: &[Row], row: &Row) -> usize
-    requires { IsInRowOrder rows.now }
-    ensures bound { result ≤ length rows.now }
-    ensures point { IsPartitionPoint (λ y. is_le (row_cmp y row.now) ≡ true)
-        (λ y. is_le (row_cmp y row.now) ≡ false) rows.now result }
-{
-    match rows.last() {
-        Some(last) if last.order(row).is_le() => rows.len(),
-        _ => rows.partition_point(|there| there.order(row).is_le()),
+    let mut stored = Vec::new(alloc);
+    for row in rows {
+        stored.push(Stored::new(alloc, row)?)?;
     }
-}
-
-// Whether one of the rows is equal to this one.
-fn is_among(rows: &[Row], row: &Row) -> bool
-    ensures { IsTrue result ↔ Contains rows.now row.now }
-{
-    for there in rows {
-        if is_same(there, row) {
-            return true;
-        }
-    }
-    false
-}
-
-fn is_same(a: &Row, b: &Row) -> bool
-    ensures { IsTrue result ↔ (a.now ≡ b.now) }
-{
-    a == b
+    Ok(stored)
 }

@@ -1,31 +1,21 @@
-use crate::fixture::is_runnable;
-use nb_model::Network;
+use crate::fixture::{
+    ADDRESS, MULTICAST, NO_HINT, OTHER_PORT, PORT, SWITCH, UNKNOWN, network, packet,
+};
 use nd_full::full_build;
 use net_meaning::{Cause, PlainEvent};
 use nv_base::{Field, Kept, Mac, Name, ObjId};
 use pkt_core::Packet;
-use sb_rows::Stage;
+use sb_model::{Row, Stage};
 use std::alloc::Global;
 use std::test::Fail;
+use tr_stage::Hit;
 use tr_walk::{Event, trace};
 
-const SWITCH: ObjId = ObjId(1);
-
-const PORT: ObjId = ObjId(2);
-
-const ADDRESS: u64 = 0x0a00_0000_0002;
-
-// A switch `sw0` with the ports `p0`, which has an address, and `p1`, which has none.
-fn network(alloc: Global) -> Result<Network, Fail> {
-    let mut network = Network::new(alloc);
-    network.add_switch(alloc, Name::from_slice(alloc, b"sw0")?)?;
-    network.add_port(alloc, SWITCH, Name::from_slice(alloc, b"p0")?)?;
-    network.add_port(alloc, SWITCH, Name::from_slice(alloc, b"p1")?)?;
-    let name = Name::from_slice(alloc, b"p0")?;
-    if network.port_named(&name).is_some() {
-        network.set_address(&name, Mac(ADDRESS));
-    }
-    Ok(network)
+// What happens to a packet that comes into the switch by a port.
+fn walk(alloc: Global, port: ObjId, packet: &Packet) -> Result<Vec<Event>, Fail> {
+    let network = network(alloc)?;
+    let rows = full_build(alloc, &network)?;
+    Ok(trace(alloc, &rows, &network, SWITCH, port, packet)?)
 }
 
 #[test]
@@ -47,34 +37,83 @@ fn objects_are_found(rt: HostRuntime) -> Result<(), Fail> {
     Ok(())
 }
 
+// Whether the row is there, in this stage, and with this priority and hint.
+fn is_in(met: Option<&Row>, stage: Stage, priority: u16, hint: ObjId) -> bool {
+    match met {
+        Some(row) => {
+            row.dp == SWITCH && row.stage == stage && row.priority == priority && row.hint == hint
+        }
+        None => false,
+    }
+}
+
 #[test]
 fn rows_are_built_in_order(rt: HostRuntime) -> Result<(), Fail> {
     let rows = full_build(rt.alloc(), &network(rt.alloc())?)?;
-    let all = rows.as_slice();
-    assert_eq!(rt; all.len(), 18);
-    assert!(rt; all.windows(2).all(|pair| pair[0].order(&pair[1]).is_lt()));
-    assert!(rt;
-        all.iter()
-            .any(|row| row.stage == Stage::LsInL2Lkup && row.hint == PORT)
-    );
+    let expected = [
+        (Stage::LsInCheckPortSec, 100, NO_HINT),
+        (Stage::LsInCheckPortSec, 0, NO_HINT),
+        (Stage::LsInPreAcl, 0, NO_HINT),
+        (Stage::LsInPreStateful, 0, NO_HINT),
+        (Stage::LsInAclEval, 0, NO_HINT),
+        (Stage::LsInLb, 0, NO_HINT),
+        (Stage::LsInStateful, 0, NO_HINT),
+        (Stage::LsInArpRsp, 0, NO_HINT),
+        (Stage::LsInL2Lkup, 100, NO_HINT),
+        (Stage::LsInL2Lkup, 50, PORT),
+        (Stage::LsInL2Lkup, 0, NO_HINT),
+        (Stage::LsInL2Unknown, 0, NO_HINT),
+        (Stage::LsOutPreAcl, 0, NO_HINT),
+        (Stage::LsOutPreStateful, 0, NO_HINT),
+        (Stage::LsOutAclEval, 0, NO_HINT),
+        (Stage::LsOutStateful, 0, NO_HINT),
+        (Stage::LsOutCheckPortSec, 100, NO_HINT),
+        (Stage::LsOutCheckPortSec, 0, NO_HINT),
+    ];
+    assert_eq!(rt; rows.len(), expected.len());
+    for (at, (stage, priority, hint)) in expected.iter().enumerate() {
+        assert!(rt; is_in(rows.get(at), *stage, *priority, *hint), "at {at}");
+    }
     Ok(())
 }
 
 #[test]
-fn frames_are_walked(rt: HostRuntime) -> Result<(), Fail> {
-    let rows = full_build(rt.alloc(), &network(rt.alloc())?)?;
-    assert!(rt; is_runnable(&rows, SWITCH));
-    let events = trace(rt.alloc(), &rows, SWITCH, ObjId(3), Mac(ADDRESS))?;
-    let mut sent = Packet::zero();
-    sent.set(Field::EthDst, u128::from(ADDRESS));
+fn a_packet_goes_out_with_its_header_fields(rt: HostRuntime) -> Result<(), Fail> {
+    let sent = packet(UNKNOWN, ADDRESS);
+    let mut start = sent;
+    start.set(Field::Reg0, 9);
+    let events = walk(rt.alloc(), OTHER_PORT, &start)?;
     assert_eq!(rt; events.len(), 14);
+    let first = Hit {
+        dp: SWITCH,
+        stage: Stage::LsInCheckPortSec,
+        priority: 0,
+        hint: NO_HINT,
+    };
+    assert!(rt; events.first() == Some(&Event::Hit(first)));
+    let to_port = Hit {
+        stage: Stage::LsInL2Lkup,
+        priority: 50,
+        hint: PORT,
+        ..first
+    };
+    assert!(rt; events.get(7) == Some(&Event::Hit(to_port)));
     assert!(rt; events.last() == Some(&Event::Output(PORT, sent)));
-    let events = trace(rt.alloc(), &rows, SWITCH, PORT, Mac(ADDRESS))?;
-    assert_eq!(rt; events.len(), 9);
-    assert!(rt; events.last() == Some(&Event::Drop(SWITCH, Cause::SamePort)));
-    let events = trace(rt.alloc(), &rows, SWITCH, PORT, Mac(ADDRESS + 1))?;
-    assert_eq!(rt; events.len(), 10);
-    assert!(rt; events.last() == Some(&Event::Drop(SWITCH, Cause::Unknown)));
+    Ok(())
+}
+
+#[test]
+fn dropped_packets_have_a_cause(rt: HostRuntime) -> Result<(), Fail> {
+    for (port, source, destination, count, cause) in [
+        (PORT, UNKNOWN, ADDRESS, 9, Cause::SamePort),
+        (PORT, ADDRESS, UNKNOWN, 10, Cause::Unknown),
+        (OTHER_PORT, MULTICAST, ADDRESS, 2, Cause::PortSec),
+    ] {
+        let events = walk(rt.alloc(), port, &packet(source, destination))?;
+        assert_eq!(rt; events.len(), count);
+        assert!(rt; events.last() == Some(&Event::Drop(SWITCH, cause)));
+    }
+    assert_eq!(rt; Cause::SamePort.name(), "same_port");
     Ok(())
 }
 

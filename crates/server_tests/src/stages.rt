@@ -1,161 +1,68 @@
-ghost use Rattle.std.specs.Prelude.{◌<◌, ◌^◌};
-
-use crate::fixture::is_runnable;
-use nv_base::{Field, Kept, Mac, Name, ObjId};
+use crate::fixture::{
+    ADDRESS, MULTICAST, NO_HINT, OTHER_PORT, PORT, SWITCH, UNKNOWN, network, packet,
+};
+use nd_full::full_build;
+use nv_base::{Field, Kept, ObjId};
 use pkt_core::Packet;
-use sb_rows::{PlainAction, PlainMatch, Row, Rows, Stage};
+use sb_model::Stage;
 use std::alloc::Global;
 use std::test::Fail;
 use tr_stage::{Cause, Hit, Outcome, Pipeline, run_pipeline};
 
-const KNOWN: u64 = 0x0a00_0000_0002;
-
-const UNKNOWN: u64 = 0x0a00_0000_0007;
-
-const MULTICAST: u64 = 0x0100_5e00_0001;
-
-const PORT: u32 = 5;
-
+// The number of the multicast group `_MC_flood`.
 const FLOOD: u128 = 0xffff_ffff;
 
-fn put(
-    rows: &mut Rows,
-    stage: Stage,
-    priority: u16,
-    hint: u32,
-    matching: PlainMatch,
-    actions: PlainAction,
-) -> Result<(), Fail> {
-    let row = Row {
-        dp: ObjId(1),
-        stage,
-        priority,
-        hint: ObjId(hint),
-        matching,
-        actions,
-    };
-    if !rows.contains(&row) {
-        rows.put(row)?;
-    }
-    Ok(())
+// Runs a packet through a pipeline of the switch, from its first table on.
+fn run(
+    alloc: Global,
+    pipeline: Pipeline,
+    packet: &Packet,
+    hits: &mut Vec<Hit>,
+) -> Result<Outcome, Fail> {
+    let network = network(alloc)?;
+    let rows = full_build(alloc, &network)?;
+    Ok(run_pipeline(&rows, &network, SWITCH, pipeline, 0, packet, hits)?)
 }
 
-// A switch with one known port, which drops what it does not know.
-fn table(alloc: Global) -> Result<Rows, Fail> {
-    let mut rows = Rows::new(alloc);
-    for stage in [
-        Stage::LsInCheckPortSec,
-        Stage::LsInPreAcl,
-        Stage::LsInPreStateful,
-        Stage::LsInAclEval,
-        Stage::LsInLb,
-        Stage::LsInStateful,
-        Stage::LsInArpRsp,
-        Stage::LsInL2Lkup,
-        Stage::LsOutPreAcl,
-        Stage::LsOutPreStateful,
-        Stage::LsOutAclEval,
-        Stage::LsOutStateful,
-    ] {
-        put(&mut rows, stage, 0, 0, PlainMatch::Any, PlainAction::Next)?;
-    }
-    let port = Name::from_slice(alloc, b"p")?;
-    let known = PlainMatch::DstIs(Mac(KNOWN));
-    put(
-        &mut rows,
-        Stage::LsInL2Lkup,
-        50,
-        PORT,
-        known,
-        PlainAction::To(port),
-    )?;
-    put(
-        &mut rows,
-        Stage::LsInL2Lkup,
-        70,
-        0,
-        PlainMatch::DstMcast,
-        PlainAction::Flood,
-    )?;
-    put(
-        &mut rows,
-        Stage::LsInL2Unknown,
-        0,
-        0,
-        PlainMatch::Any,
-        PlainAction::Drop,
-    )?;
-    put(
-        &mut rows,
-        Stage::LsInCheckPortSec,
-        100,
-        3,
-        PlainMatch::SrcMcast,
-        PlainAction::Drop,
-    )?;
-    put(
-        &mut rows,
-        Stage::LsOutCheckPortSec,
-        0,
-        4,
-        PlainMatch::Any,
-        PlainAction::Output,
-    )?;
-    let known = PlainMatch::DstIs(Mac(KNOWN));
-    put(
-        &mut rows,
-        Stage::LsOutCheckPortSec,
-        80,
-        PORT,
-        known,
-        PlainAction::Drop,
-    )?;
-    Ok(rows)
+// Runs a packet through ingress of the switch, from its last table on.
+fn run_last(alloc: Global, packet: &Packet, hits: &mut Vec<Hit>) -> Result<Outcome, Fail> {
+    let network = network(alloc)?;
+    let rows = full_build(alloc, &network)?;
+    Ok(run_pipeline(&rows, &network, SWITCH, Pipeline::Ingress, 8, packet, hits)?)
 }
 
-fn packet(source: u64, destination: u64) -> Packet
-    requires source { source < 2 ^ 48 }
-    requires destination { destination < 2 ^ 48 }
-{
-    let mut packet = Packet::zero();
-    packet.set(Field::EthSrc, u128::from(source));
-    packet.set(Field::EthDst, u128::from(destination));
-    packet
-}
-
-fn hit(stage: Stage, priority: u16, hint: u32) -> Hit {
+fn hit(stage: Stage, priority: u16, hint: ObjId) -> Hit {
     Hit {
-        dp: ObjId(1),
+        dp: SWITCH,
         stage,
         priority,
-        hint: ObjId(hint),
+        hint,
     }
 }
 
 #[test]
 fn a_known_destination_goes_to_its_port(rt: HostRuntime) -> Result<(), Fail> {
-    let rows = table(rt.alloc())?;
-    assert!(rt; is_runnable(&rows, ObjId(1)));
     let mut hits = Vec::new(rt.alloc());
-    hits.push(hit(Stage::LrOutDelivery, 1, 2))?;
-    let start = packet(UNKNOWN, KNOWN);
-    match run_pipeline(&rows, ObjId(1), Pipeline::Ingress, &start, &mut hits)? {
+    let before = hit(Stage::LrOutDelivery, 1, OTHER_PORT);
+    hits.push(before)?;
+    let start = packet(UNKNOWN, ADDRESS);
+    match run(rt.alloc(), Pipeline::Ingress, &start, &mut hits)? {
         Outcome::Leave(sent, table) => {
             assert_eq!(rt; table, 0);
-            assert_eq!(rt; sent.get(Field::Outport), u128::from(PORT));
-            assert_eq!(rt; sent.get(Field::EthDst), u128::from(KNOWN));
+            assert_eq!(rt; sent.get(Field::Outport), u128::from(PORT.0));
+            assert_eq!(rt; sent.get(Field::EthDst), u128::from(ADDRESS));
         }
         _ => panic!(rt; "it ends otherwise"),
     }
     let expected = [
-        hit(Stage::LrOutDelivery, 1, 2),
-        hit(Stage::LsInCheckPortSec, 0, 0),
-        hit(Stage::LsInPreAcl, 0, 0),
-        hit(Stage::LsInPreStateful, 0, 0),
-        hit(Stage::LsInAclEval, 0, 0),
-        hit(Stage::LsInLb, 0, 0),
-        hit(Stage::LsInStateful, 0, 0),
-        hit(Stage::LsInArpRsp, 0, 0),
+        before,
+        hit(Stage::LsInCheckPortSec, 0, NO_HINT),
+        hit(Stage::LsInPreAcl, 0, NO_HINT),
+        hit(Stage::LsInPreStateful, 0, NO_HINT),
+        hit(Stage::LsInAclEval, 0, NO_HINT),
+        hit(Stage::LsInLb, 0, NO_HINT),
+        hit(Stage::LsInStateful, 0, NO_HINT),
+        hit(Stage::LsInArpRsp, 0, NO_HINT),
         hit(Stage::LsInL2Lkup, 50, PORT),
     ];
     assert!(rt; hits.as_slice() == expected.as_slice());
@@ -164,73 +71,81 @@ fn a_known_destination_goes_to_its_port(rt: HostRuntime) -> Result<(), Fail> {
 
 #[test]
 fn others_are_flooded_or_dropped(rt: HostRuntime) -> Result<(), Fail> {
-    let rows = table(rt.alloc())?;
-    assert!(rt; is_runnable(&rows, ObjId(1)));
     let mut hits = Vec::new(rt.alloc());
-    let start = packet(KNOWN, MULTICAST);
-    match run_pipeline(&rows, ObjId(1), Pipeline::Ingress, &start, &mut hits)? {
+    let start = packet(ADDRESS, MULTICAST);
+    match run(rt.alloc(), Pipeline::Ingress, &start, &mut hits)? {
         Outcome::Leave(sent, table) => {
             assert_eq!(rt; table, 0);
             assert_eq!(rt; sent.get(Field::Outport), FLOOD);
         }
         _ => panic!(rt; "it ends otherwise"),
     }
-    assert!(rt; hits.last() == Some(&hit(Stage::LsInL2Lkup, 70, 0)));
-    for (source, destination, cause, count) in [
-        (MULTICAST, KNOWN, Cause::PortSec, 1),
-        (KNOWN, UNKNOWN, Cause::Unknown, 9),
+    assert_eq!(rt; hits.len(), 8);
+    assert!(rt; hits.last() == Some(&hit(Stage::LsInL2Lkup, 100, NO_HINT)));
+    for (source, destination, cause, count, last) in [
+        (
+            MULTICAST,
+            ADDRESS,
+            Cause::PortSec,
+            1,
+            hit(Stage::LsInCheckPortSec, 100, NO_HINT),
+        ),
+        (
+            ADDRESS,
+            UNKNOWN,
+            Cause::Unknown,
+            9,
+            hit(Stage::LsInL2Unknown, 0, NO_HINT),
+        ),
     ] {
         let mut hits = Vec::new(rt.alloc());
         let start = packet(source, destination);
-        let outcome = run_pipeline(&rows, ObjId(1), Pipeline::Ingress, &start, &mut hits)?;
-        assert!(rt; dropped_for(&outcome) == Some(cause));
+        let outcome = run(rt.alloc(), Pipeline::Ingress, &start, &mut hits)?;
+        assert!(rt; outcome == Outcome::Drop(cause));
         assert_eq!(rt; hits.len(), count);
+        assert!(rt; hits.last() == Some(&last));
     }
+    assert_eq!(rt; Cause::PortSec.name(), "port_sec");
+    assert_eq!(rt; Cause::Unknown.name(), "unknown");
+    Ok(())
+}
+
+#[test]
+fn a_run_begins_at_the_table_that_is_given(rt: HostRuntime) -> Result<(), Fail> {
+    let mut hits = Vec::new(rt.alloc());
+    let outcome = run_last(rt.alloc(), &packet(UNKNOWN, ADDRESS), &mut hits)?;
+    assert!(rt; outcome == Outcome::Drop(Cause::Unknown));
+    let expected = [hit(Stage::LsInL2Unknown, 0, NO_HINT)];
+    assert!(rt; hits.as_slice() == expected.as_slice());
     Ok(())
 }
 
 #[test]
 fn egress_delivers(rt: HostRuntime) -> Result<(), Fail> {
-    let rows = table(rt.alloc())?;
-    assert!(rt; is_runnable(&rows, ObjId(1)));
-    let mut hits = Vec::new(rt.alloc());
-    let start = packet(KNOWN, UNKNOWN);
-    match run_pipeline(&rows, ObjId(1), Pipeline::Egress, &start, &mut hits)? {
-        Outcome::Deliver(sent) => {
-            assert_eq!(rt; sent.get(Field::EthDst), u128::from(UNKNOWN));
-        }
-        _ => panic!(rt; "it ends otherwise"),
+    for (destination, priority) in [(ADDRESS, 0), (UNKNOWN, 0), (MULTICAST, 100)] {
+        let mut hits = Vec::new(rt.alloc());
+        let start = packet(ADDRESS, destination);
+        let outcome = run(rt.alloc(), Pipeline::Egress, &start, &mut hits)?;
+        assert!(rt; outcome == Outcome::Deliver(start));
+        let expected = [
+            hit(Stage::LsOutPreAcl, 0, NO_HINT),
+            hit(Stage::LsOutPreStateful, 0, NO_HINT),
+            hit(Stage::LsOutAclEval, 0, NO_HINT),
+            hit(Stage::LsOutStateful, 0, NO_HINT),
+            hit(Stage::LsOutCheckPortSec, priority, NO_HINT),
+        ];
+        assert!(rt; hits.as_slice() == expected.as_slice());
     }
-    let expected = [
-        hit(Stage::LsOutPreAcl, 0, 0),
-        hit(Stage::LsOutPreStateful, 0, 0),
-        hit(Stage::LsOutAclEval, 0, 0),
-        hit(Stage::LsOutStateful, 0, 0),
-        hit(Stage::LsOutCheckPortSec, 0, 4),
-    ];
-    assert!(rt; hits.as_slice() == expected.as_slice());
-    let start = packet(UNKNOWN, KNOWN);
-    let outcome = run_pipeline(&rows, ObjId(1), Pipeline::Egress, &start, &mut hits)?;
-    assert!(rt; dropped_for(&outcome) == Some(Cause::PortSec));
-    assert_eq!(rt; hits.len(), 10);
-    assert_eq!(rt; Cause::SamePort.name(), "same_port");
     Ok(())
-}
-
-fn dropped_for(outcome: &Outcome) -> Option<Cause> {
-    match outcome {
-        Outcome::Drop(cause) => Some(*cause),
-        _ => None,
-    }
 }
 
 #[test]
 fn hits_and_outcomes_are_copied(rt: HostRuntime) {
     let met = hit(Stage::LsInL2Lkup, 50, PORT);
     assert!(rt; met.copy(rt.alloc()) == Ok(met));
-    let sent = Outcome::Leave(packet(KNOWN, UNKNOWN), 0);
+    let sent = Outcome::Leave(packet(ADDRESS, UNKNOWN), 0);
     assert!(rt; sent.copy(rt.alloc()) == Ok(sent));
-    assert!(rt; sent != Outcome::Leave(packet(UNKNOWN, KNOWN), 0));
-    assert!(rt; sent != Outcome::Deliver(packet(KNOWN, UNKNOWN)));
+    assert!(rt; sent != Outcome::Leave(packet(UNKNOWN, ADDRESS), 0));
+    assert!(rt; sent != Outcome::Deliver(packet(ADDRESS, UNKNOWN)));
     assert!(rt; Cause::Unknown.copy(rt.alloc()) == Ok(Cause::Unknown));
 }

@@ -7,11 +7,13 @@ use Rattle.std.proofs.lemmas.Bool.{and_parts, and_from}
 use Rattle.std.proofs.lemmas.Option.{same_Some, none-some}
 use Rattle.nv_base.specs.declared.object.ObjId.{ObjId}
 use Rattle.pkt_core.specs.Packet.{Values}
-use Rattle.sb_rows.specs.declared.stage.Stage.{Stage}
-use Rattle.sb_rows.specs.declared.row.Row.{Row}
-use Rattle.sb_rows.specs.Match.{holds, is_in_table, select}
+use Rattle.sb_model.specs.declared.stage.Stage.{Stage}
+use Rattle.sb_model.specs.declared.row.Row.{Row}
+use Rattle.expr_eval.specs.MatchMeaning.{holds}
+use Rattle.sb_rows.specs.Match.{is_in_table}
 use Rattle.sb_rows.proofs.Tables.{in_table-from, in_table-gives}
-use Rattle.tr_stage.specs.Machine.{TakesEach}
+use Rattle.tr_stage.specs.Machine.{Flows, acting}
+use Rattle.tr_stage.specs.Runnable.{TakesEach}
 
 module _ {X : Type 0} (p : X → Bool) where
   -- where an element passes, one is found
@@ -29,7 +31,7 @@ module _ {X : Type 0} (p : X → Bool) where
   is_first y ys x rest true is found = let same : y ≡ x = same_Some y x found in ((0, omega arith, same), sym (ap p same) ∙ is)
   is_first y ys x rest false is found = let at = rest found in ((suc at.0.0, omega (arith, at.0.1), at.0.2), at.1)
 
-  find_is : (xs : List X) (x : X) → find p xs ≡ Some x → Contains xs x × (p x ≡ true)
+  pub find_is : (xs : List X) (x : X) → find p xs ≡ Some x → Contains xs x × (p x ≡ true)
   find_is [] x found = absurd (none-some x found)
   find_is (y ∷ ys) x found = is_first y ys x (find_is ys x) (p y) refl found
 
@@ -39,15 +41,22 @@ pub record IsFound (rows : List Row) (dp : ObjId) (stage : Stage) (row : Row) : 
   pub of_dp : row.dp ≡ dp
   pub of_stage : row.stage ≡ stage
 
-pub IsFound-from_select : (rows : List Row) (dp : ObjId) (stage : Stage) (packet : Values) (row : Row) → select dp stage packet rows ≡ Some row → IsFound rows dp stage row
-IsFound-from_select rows dp stage packet row found =
-    let at = find_is (λ r. is_in_table dp stage r && holds r.matching packet) rows row found in
-    let table = in_table-gives dp stage row (and_parts (is_in_table dp stage row) (holds row.matching packet) at.1).0 in
-    record { among = at.0; of_dp = table.0; of_stage = table.1 }
+module _ (flows : Flows) (stage : Stage) (packet : Values) where
+  -- whether a row of the table takes the packet
+  takes : Row → Bool
+  takes r = is_in_table flows.dp stage r && holds flows.net packet r.matching
 
--- where a row takes each packet, one is selected
-pub select_some : (rows : List Row) (dp : ObjId) (stage : Stage) (packet : Values) → TakesEach rows dp stage → select dp stage packet rows ≡ None → ⊥
-select_some rows dp stage packet each none =
-    let row = each.0 in
-    let takes : holds row.matching packet ≡ true = rw each.4 refl in
-    find_some (λ r. is_in_table dp stage r && holds r.matching packet) rows row each.1 (and_from _ _ (in_table-from dp stage row each.2 each.3) takes) none
+  pub IsFound-from_select : (row : Row) → acting flows stage packet ≡ Some row → IsFound flows.rows flows.dp stage row
+  unfolding takes
+  IsFound-from_select row found =
+      let at = find_is takes flows.rows row found in
+      let table = in_table-gives flows.dp stage row (and_parts (is_in_table flows.dp stage row) (holds flows.net packet row.matching) at.1).0 in
+      record { among = at.0; of_dp = table.0; of_stage = table.1 }
+
+  -- where a row takes each packet, one is selected
+  pub select_some : TakesEach flows stage → acting flows stage packet ≡ None → ⊥
+  unfolding takes
+  select_some each none =
+      let row = each.0 in
+      let does : holds flows.net packet row.matching ≡ true = rw each.4 refl in
+      find_some takes flows.rows row each.1 (and_from _ _ (in_table-from flows.dp stage row each.2 each.3) does) none

@@ -1,4 +1,6 @@
+pub mod Acts
 pub mod Found
+pub mod Parts
+pub mod Progress
 pub mod Runs
 pub mod Steps
-pub mod Progress

@@ -1,78 +1,182 @@
--- On the rows of a switch nothing is stuck.
-use Rattle.std.proofs.Common.{◌≡◌, ◌≢◌, ℕ, zero, suc, ◌<◌, ◌-◌, List, Option, Some, None, ap, refl, ◌∙◌, arith}
+-- On rows that the machine runs each packet comes to an outcome.
+use Rattle.std.proofs.Common.{◌≡◌, ◌≢◌, ℕ, zero, suc, ◌+◌, ◌-◌, ◌<◌, true, List, [], ◌∷◌, Option, Some, None, refl, subst, arith}
+use Rattle.std.specs.Prelude.{not, is_some, option_map}
 use Rattle.std.specs.Bool.{IsTrue}
+use Rattle.std.specs.Option.{IsSome}
+use Rattle.std.proofs.lemmas.Bool.{false≢true, and_parts}
 use Rattle.std.proofs.lemmas.List.Elements.{All-contains}
-use Rattle.nv_base.specs.declared.object.ObjId.{ObjId}
 use Rattle.pkt_core.specs.Packet.{Values}
-use Rattle.sb_rows.specs.declared.stage.Stage.{Stage}
-use Rattle.sb_rows.specs.declared.stage.Pipeline.{Pipeline}
-use Rattle.sb_rows.specs.declared.stage.Pipeline.TheVariants.{Ingress, Egress}
-use Rattle.sb_rows.specs.declared.row.PlainAction.{PlainAction}
-use Rattle.sb_rows.specs.declared.row.PlainAction.TheVariants.{Next, Drop, Output, Flood, To}
-use Rattle.sb_rows.specs.declared.row.Row.{Row}
-use Rattle.sb_rows.specs.Stage.{stage_place, next_stage, is_of_switch, is_last}
-use Rattle.sb_rows.specs.Match.{select}
-use Rattle.sb_rows.proofs.Stages.{place_below, next_of_switch}
+use Rattle.expr_core.specs.Lookup.{Lookup}
+use Rattle.act_core.specs.WellFormed.{is_well_formed}
+use Rattle.act_core.specs.declared.action.Action.{Action}
+use Rattle.act_core.specs.declared.action.Action.TheVariants as action
+use Rattle.act_core.specs.declared.step.Step.{Step}
+use Rattle.act_core.specs.declared.step.Step.TheVariants.{Next, Jump, Output, Drop, Set, Copy, SetOutport, Exchange, DecTtl, CtNext, CtLb, CtLbTo, CtCommit, CtSnat, CtSnatTo, CtDnat, CtDnatTo, PutArp, GetArp}
+use Rattle.sb_model.specs.declared.stage.DatapathKind.{DatapathKind}
+use Rattle.sb_model.specs.declared.stage.DatapathKind.TheVariants.{Switch, Router}
+use Rattle.sb_model.specs.declared.stage.Pipeline.{Pipeline}
+use Rattle.sb_model.specs.declared.stage.Stage.{Stage}
+use Rattle.sb_model.specs.declared.row.Row.{Row}
+use Rattle.sb_model.specs.Stage.{stage_table, stage_place, all_stages, stage_at, next_stage, is_same_kind, is_at}
+use Rattle.sb_model.proofs.Stages.{next_goes_up, place_below}
 use Rattle.net_meaning.specs.declared.cause.Cause.{Cause}
-use Rattle.tr_stage.specs.declared.outcome.Outcome.{Outcome}
-use Rattle.tr_stage.specs.Machine.{cause_at, run_from, run_pipeline, IsRunnable}
-use Rattle.tr_stage.specs.Machine.PipelineEnd.{Ended, Stuck}
-use Rattle.tr_stage.proofs.Found.{IsFound, IsFound-from_select, select_some}
-use Rattle.tr_stage.proofs.Steps.{begins_at, pipeline_begins, run-next, run-drop, run-output, run-to, run-flood}
+use Rattle.tr_stage.specs.declared.outcome.Outcome.TheVariants as outcomes
+use Rattle.tr_stage.specs.Machine.{Flows, StageEnd, cause_at, number_of, on_to, bound_for, effect, after, run_actions, acting, acted, step, go_on, run_from, kind_of, run_pipeline}
+use Rattle.tr_stage.specs.Machine.StageEnd.{On, Ends}
+use Rattle.tr_stage.specs.Runnable.{is_change, may_end, are_run, IsRunnable}
+use Rattle.tr_stage.proofs.Found.{find_is, IsFound, IsFound-from_select, select_some}
+use Rattle.tr_stage.proofs.Steps.{pipeline_begins}
+
+-- a step that leads to the next stage, or to an outcome
+abbrev pub LeadsOn : Stage → StageEnd → Type 0
+LeadsOn stage (On later packet) = next_stage stage ≡ Some later
+LeadsOn stage (Ends (Some outcome)) = Unit {0}
+LeadsOn stage (Ends None) = ⊥
+
+module _ (net : Lookup) (stage : Stage) where
+  -- so does a last action
+  last_leads : (step : Step) (packet : Values) → may_end stage step ≡ true → LeadsOn stage (after (effect net stage step packet) (run_actions net stage []))
+  last_leads Next packet may = by (next_stage stage) refl may
+    where
+      by : (next : Option Stage) → next_stage stage ≡ next → not (not (is_some next)) ≡ true → LeadsOn stage (on_to next packet)
+      by (Some later) is may = is
+      by None is may = absurd (false≢true may)
+  last_leads Output packet may = tt
+  last_leads Drop packet may = by (cause_at stage) may
+    where
+      by : (cause : Option Cause) → is_some cause ≡ true → LeadsOn stage (Ends (option_map outcomes.Drop cause))
+      by (Some cause) may = tt
+      by None may = absurd (false≢true may)
+  last_leads (Jump egress table) packet may = absurd (false≢true may)
+  last_leads (Set field bits constant) packet may = absurd (false≢true may)
+  last_leads (Copy field bits from) packet may = absurd (false≢true may)
+  last_leads (SetOutport name) packet may = absurd (false≢true may)
+  last_leads (Exchange one other) packet may = absurd (false≢true may)
+  last_leads DecTtl packet may = absurd (false≢true may)
+  last_leads CtNext packet may = absurd (false≢true may)
+  last_leads CtLb packet may = absurd (false≢true may)
+  last_leads (CtLbTo targets) packet may = absurd (false≢true may)
+  last_leads (CtCommit blocked) packet may = absurd (false≢true may)
+  last_leads CtSnat packet may = absurd (false≢true may)
+  last_leads (CtSnatTo addr) packet may = absurd (false≢true may)
+  last_leads CtDnat packet may = absurd (false≢true may)
+  last_leads (CtDnatTo addr) packet may = absurd (false≢true may)
+  last_leads PutArp packet may = absurd (false≢true may)
+  last_leads GetArp packet may = absurd (false≢true may)
+
+  -- what follows an assignment or an exchange decides
+  change_leads : (step : Step) (packet : Values) (others : Values → StageEnd) → is_change net step ≡ true → ((changed : Values) → LeadsOn stage (others changed))
+      → LeadsOn stage (after (effect net stage step packet) others)
+  change_leads (Set field bits constant) packet others is rest = rest _
+  change_leads (Copy field bits from) packet others is rest = rest _
+  change_leads (SetOutport name) packet others is rest = by (number_of net name) is
+    where
+      by : (number : Option ℕ) → is_some number ≡ true → LeadsOn stage (after (bound_for number packet) others)
+      by (Some number) is = rest _
+      by None is = absurd (false≢true is)
+  change_leads (Exchange one other) packet others is rest = rest _
+  change_leads Next packet others is rest = absurd (false≢true is)
+  change_leads (Jump egress table) packet others is rest = absurd (false≢true is)
+  change_leads Output packet others is rest = absurd (false≢true is)
+  change_leads Drop packet others is rest = absurd (false≢true is)
+  change_leads DecTtl packet others is rest = absurd (false≢true is)
+  change_leads CtNext packet others is rest = absurd (false≢true is)
+  change_leads CtLb packet others is rest = absurd (false≢true is)
+  change_leads (CtLbTo targets) packet others is rest = absurd (false≢true is)
+  change_leads (CtCommit blocked) packet others is rest = absurd (false≢true is)
+  change_leads CtSnat packet others is rest = absurd (false≢true is)
+  change_leads (CtSnatTo addr) packet others is rest = absurd (false≢true is)
+  change_leads CtDnat packet others is rest = absurd (false≢true is)
+  change_leads (CtDnatTo addr) packet others is rest = absurd (false≢true is)
+  change_leads PutArp packet others is rest = absurd (false≢true is)
+  change_leads GetArp packet others is rest = absurd (false≢true is)
+
+  -- so do the actions that the machine runs
+  actions_lead : (actions : List Action) (packet : Values) → are_run net stage actions ≡ true → LeadsOn stage (run_actions net stage actions packet)
+  actions_lead [] packet run = absurd (false≢true run)
+  actions_lead (action.Step step ∷ []) packet run = last_leads step packet run
+  actions_lead (action.Step step ∷ other ∷ others) packet run =
+      let parts = and_parts (is_change net step) (are_run net stage (other ∷ others)) run in
+      change_leads step packet (run_actions net stage (other ∷ others)) parts.0 (λ changed. actions_lead (other ∷ others) changed parts.1)
+  actions_lead (action.Arp steps ∷ others) packet run = absurd (false≢true run)
+  actions_lead (action.Icmp4 steps ∷ others) packet run = absurd (false≢true run)
+  actions_lead (action.TcpReset steps ∷ others) packet run = absurd (false≢true run)
+  actions_lead (action.Reject steps ∷ others) packet run = absurd (false≢true run)
+
+same_kinds : (a b c : DatapathKind) → is_same_kind a b ≡ true → is_same_kind a c ≡ true → is_same_kind b c ≡ true
+same_kinds Switch Switch Switch ab ac = refl
+same_kinds Switch Switch Router ab ac = absurd (false≢true ac)
+same_kinds Switch Router c ab ac = absurd (false≢true ab)
+same_kinds Router Switch c ab ac = absurd (false≢true ab)
+same_kinds Router Router Switch ab ac = absurd (false≢true ac)
+same_kinds Router Router Router ab ac = refl
+
+-- the stage at a table is of the kind that was asked for
+at_is_of_kind : (kind : DatapathKind) (pipeline : Pipeline) (table : ℕ) (stage : Stage) → stage_at kind pipeline table ≡ Some stage → is_same_kind (stage_table stage).kind kind ≡ true
+unfolding stage_at
+at_is_of_kind kind pipeline table stage found = (and_parts _ _ (and_parts _ _ (find_is (is_at kind pipeline table) all_stages stage found).1).0).0
 
 -- how many places there are from the stage on
 abbrev places_left : Stage → ℕ
 places_left stage = 32 - stage_place stage
 
--- an end is not stuck
-not_stuck : (outcome : Outcome) → Ended outcome ≢ Stuck
-not_stuck outcome e = cc
+module _ (flows : Flows) (sound : IsRunnable flows) where
+  -- the datapath has the stage
+  abbrev HasStage : Stage → Type 0
+  HasStage stage = IsTrue (is_same_kind (stage_table stage).kind (kind_of flows))
 
-module _ (rows : List Row) (dp : ObjId) (packet : Values) (sound : IsRunnable rows dp) where
-  module _ (budget : ℕ) (stage : Stage) (of_switch : IsTrue (is_of_switch stage))
-      (rest : (later : Stage) → IsTrue (is_of_switch later) → suc (places_left later) ≡ places_left stage → (run_from rows dp budget later packet).ending ≢ Stuck) where
-    module _ (row : Row) (is : select dp stage packet rows ≡ Some row) (at : IsFound rows dp stage row) where
-      by_next : row.actions ≡ Next → (next : Option Stage) → next_stage stage ≡ next → (run_from rows dp (suc budget) stage packet).ending ≢ Stuck
-      by_next acts (Some later) there =
-          let on = next_of_switch stage later there of_switch in
+  next_up : (stage later : Stage) → HasStage stage → next_stage stage ≡ Some later → HasStage later × (stage_place later ≡ stage_place stage + 1)
+  next_up stage later has there =
+      let up = next_goes_up stage later there in
+      (same_kinds (stage_table stage).kind (stage_table later).kind (kind_of flows) up.0 has, up.1)
+
+  -- what is asked of each row holds of the one that acts
+  module _ (stage : Stage) (packet : Values) (row : Row) (is : acting flows stage packet ≡ Some row) where
+    of_row : IsFound flows.rows flows.dp stage row
+    of_row = IsFound-from_select flows stage packet row is
+
+    pub acting_formed : IsTrue (is_well_formed row.actions)
+    acting_formed = All-contains (λ (r : Row). r.dp ≡ flows.dp → IsTrue (is_well_formed r.actions)) flows.rows row sound.formed of_row.among of_row.of_dp
+
+    pub acting_run : IsTrue (are_run flows.net stage row.actions)
+    acting_run =
+        let run = All-contains (λ (r : Row). r.dp ≡ flows.dp → IsTrue (are_run flows.net r.stage r.actions)) flows.rows row sound.run of_row.among of_row.of_dp in
+        subst (λ s. IsTrue (are_run flows.net s row.actions)) of_row.of_stage run
+
+  -- each step on these rows leads on
+  step_leads : (stage : Stage) (packet : Values) → HasStage stage → LeadsOn stage (step flows stage packet)
+  unfolding step
+  step_leads stage packet has = by (acting flows stage packet) refl
+    where
+      by : (found : Option Row) → acting flows stage packet ≡ found → LeadsOn stage (acted flows.net stage packet found)
+      by None none = absurd (select_some flows stage packet (sound.takes_each stage has) none)
+      by (Some row) is = actions_lead flows.net stage row.actions packet (acting_run stage packet row is)
+
+  -- so does a run, with a step for each stage that is still to come
+  never_stuck : (budget : ℕ) (stage : Stage) (packet : Values) → HasStage stage → places_left stage < budget → (run_from flows budget stage packet).outcome ≢ None
+  unfolding run_from
+  never_stuck zero stage packet has enough = absurd (omega arith)
+  never_stuck (suc budget) stage packet has enough = by (step flows stage packet) (step_leads stage packet has) (λ later changed of_it fewer. never_stuck budget later changed of_it (omega (arith, fewer, enough)))
+    where
+      by : (ending : StageEnd) → LeadsOn stage ending → ((later : Stage) (changed : Values) → HasStage later → suc (places_left later) ≡ places_left stage → (run_from flows budget later changed).outcome ≢ None)
+          → (go_on (run_from flows budget) ending).outcome ≢ None
+      by (On later changed) there rest =
+          let up = next_up stage later has there in
           let below = place_below later in
-          rw (run-next rows dp budget stage packet row is later acts there) (rest later on.0 (omega (arith, on.1, below)))
-      by_next acts None none =
-          let last : IsTrue (is_last stage) = rw none refl in
-          absurd (All-contains (λ (r : Row). r.dp ≡ dp → IsTrue (is_last r.stage) → r.actions ≢ Next) rows row sound.ends at.among at.of_dp (rw at.of_stage last) acts)
+          rest later changed up.0 (omega (arith, up.1, below))
+      by (Ends (Some outcome)) leads rest = λ e. cc
+      by (Ends None) leads rest = absurd leads
 
-      by_cause : row.actions ≡ Drop → (cause : Option Cause) → cause_at stage ≡ cause → (run_from rows dp (suc budget) stage packet).ending ≢ Stuck
-      by_cause acts (Some cause) because = rw (run-drop rows dp budget stage packet row is cause acts because) (not_stuck _)
-      by_cause acts None none = absurd (All-contains (λ (r : Row). r.dp ≡ dp → r.actions ≡ Drop → cause_at r.stage ≢ None) rows row sound.drops at.among at.of_dp acts (ap cause_at at.of_stage ∙ none))
+  enough_steps : (stage : Stage) → places_left stage < 128
+  enough_steps stage = omega arith
 
-      by_actions : (actions : PlainAction) → row.actions ≡ actions → (run_from rows dp (suc budget) stage packet).ending ≢ Stuck
-      by_actions Next acts = by_next acts (next_stage stage) refl
-      by_actions Drop acts = by_cause acts (cause_at stage) refl
-      by_actions Output acts = rw (run-output rows dp budget stage packet row is acts) (not_stuck _)
-      by_actions (To port) acts = rw (run-to rows dp budget stage packet row is port acts) (not_stuck _)
-      by_actions Flood acts = rw (run-flood rows dp budget stage packet row is acts) (not_stuck _)
-
-    by_row : (found : Option Row) → select dp stage packet rows ≡ found → (run_from rows dp (suc budget) stage packet).ending ≢ Stuck
-    by_row None none = absurd (select_some rows dp stage packet (sound.takes_each stage of_switch) none)
-    by_row (Some row) is = by_actions row is (IsFound-from_select rows dp stage packet row is) row.actions refl
-
-    -- a step is not stuck, where the run after it is not
-    step_not_stuck : (run_from rows dp (suc budget) stage packet).ending ≢ Stuck
-    step_not_stuck = by_row (select dp stage packet rows) refl
-
-  -- nor is a run through a switch, with a step for each stage that is still to come
-  never_stuck : (budget : ℕ) (stage : Stage) → IsTrue (is_of_switch stage) → places_left stage < budget → (run_from rows dp budget stage packet).ending ≢ Stuck
-  never_stuck zero stage of_switch enough = absurd (omega arith)
-  never_stuck (suc budget) stage of_switch enough =
-      step_not_stuck budget stage of_switch (λ later of_it fewer. never_stuck budget later of_it (omega arith))
-
-  begins_on_switch : (pipeline : Pipeline) → IsTrue (is_of_switch (begins_at pipeline))
-  begins_on_switch Ingress = refl
-  begins_on_switch Egress = refl
-
-  enough : (pipeline : Pipeline) → places_left (begins_at pipeline) < 128
-  enough pipeline = omega arith
+  at_has_kind : (pipeline : Pipeline) (table : ℕ) (stage : Stage) → stage_at (kind_of flows) pipeline table ≡ Some stage → HasStage stage
+  at_has_kind pipeline table stage is = at_is_of_kind (kind_of flows) pipeline table stage is
 
   -- so no pipeline is stuck
-  pub pipeline_never_stuck : (pipeline : Pipeline) → (run_pipeline rows dp pipeline packet).ending ≢ Stuck
-  pipeline_never_stuck pipeline = rw (pipeline_begins rows dp pipeline packet) (never_stuck 128 (begins_at pipeline) (begins_on_switch pipeline) (enough pipeline))
+  pub pipeline_never_stuck : (pipeline : Pipeline) (table : ℕ) (packet : Values) → IsSome (stage_at (kind_of flows) pipeline table) → (run_pipeline flows pipeline table packet).outcome ≢ None
+  pipeline_never_stuck pipeline table packet some = by (stage_at (kind_of flows) pipeline table) refl some
+    where
+      by : (found : Option Stage) → stage_at (kind_of flows) pipeline table ≡ found → IsSome found → (run_pipeline flows pipeline table packet).outcome ≢ None
+      by (Some stage) is some = rw (pipeline_begins flows pipeline table packet stage is) (never_stuck 128 stage packet (at_has_kind pipeline table stage is) (enough_steps stage))
+      by None is some = absurd (false≢true some)

@@ -1,2 +1,4 @@
 pub mod Machine
+pub mod Part
+pub mod Runnable
 pub mod inner

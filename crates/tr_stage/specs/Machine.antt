@@ -1,24 +1,38 @@
--- The run of a packet through one pipeline of a switch, after Logical_Flow of ovn-sb(5) and ovn-architecture(7).
-use Rattle.std.specs.Prelude.{◌≡◌, ◌≢◌, ℕ, zero, suc, IsTrue, List, [], ◌∷◌, Option, Some, None, All, Contains}
+-- The run of a packet through one pipeline of a datapath, a step for each stage (ovn-sb(5), 'Logical_Flow TABLE'; ovn-architecture(7)).
+use Rattle.std.specs.Prelude.{ℕ, zero, suc, List, [], ◌∷◌, ◌++◌, Option, Some, None, option_map, codes, if◌then◌else◌}
+use Rattle.std.specs.Str.{bytes_eq}
 use Rattle.nv_base.specs.declared.object.ObjId.{ObjId}
 use Rattle.nv_base.specs.declared.field.Field.TheVariants.{Outport}
-use Rattle.pkt_core.specs.Packet.{Values, with_value}
-use Rattle.sb_rows.specs.declared.stage.Stage.{Stage}
-use Rattle.sb_rows.specs.declared.stage.Stage.TheVariants.{LsInCheckPortSec, LsInL2Unknown, LsOutCheckPortSec}
-use Rattle.sb_rows.specs.declared.stage.DatapathKind.TheVariants.{Switch}
-use Rattle.sb_rows.specs.declared.stage.Pipeline.{Pipeline}
-use Rattle.sb_rows.specs.declared.stage.Pipeline.TheVariants.{Ingress, Egress}
-use Rattle.sb_rows.specs.declared.row.PlainMatch.TheVariants.{Any}
-use Rattle.sb_rows.specs.declared.row.PlainAction.{PlainAction}
-use Rattle.sb_rows.specs.declared.row.PlainAction.TheVariants.{Next, Drop, Output, Flood, To}
-use Rattle.sb_rows.specs.declared.row.Row.{Row}
-use Rattle.sb_rows.specs.Stage.{pipeline_of, first_stage, next_stage, is_last, is_of_switch}
+use Rattle.pkt_core.specs.Packet.{Values, value, with_value, exchanged}
+use Rattle.expr_core.specs.Lookup.{Lookup}
+use Rattle.act_core.specs.declared.action.Action.{Action}
+use Rattle.act_core.specs.declared.action.Action.TheVariants as action
+use Rattle.act_core.specs.declared.step.Step.{Step}
+use Rattle.act_core.specs.declared.step.Step.TheVariants.{Next, Output, Drop, Set, Copy, SetOutport, Exchange}
+use Rattle.sb_model.specs.declared.stage.Stage.{Stage}
+use Rattle.sb_model.specs.declared.stage.Stage.TheVariants.{LsInCheckPortSec, LsInL2Unknown, LsOutCheckPortSec}
+use Rattle.sb_model.specs.declared.stage.DatapathKind.{DatapathKind}
+use Rattle.sb_model.specs.declared.stage.DatapathKind.TheVariants.{Switch, Router}
+use Rattle.sb_model.specs.declared.stage.Pipeline.{Pipeline}
+use Rattle.sb_model.specs.declared.stage.Pipeline.TheVariants.{Ingress, Egress}
+use Rattle.sb_model.specs.declared.row.Row.{Row}
+use Rattle.sb_model.specs.Stage.{pipeline_of, stage_at, next_stage}
 use Rattle.sb_rows.specs.Match.{select}
 use Rattle.net_meaning.specs.declared.cause.Cause.{Cause}
 use Rattle.net_meaning.specs.declared.cause.Cause.TheVariants.{PortSec, Unknown}
 use Rattle.tr_stage.specs.declared.outcome.Hit.{Hit}
 use Rattle.tr_stage.specs.declared.outcome.Outcome.{Outcome}
 use Rattle.tr_stage.specs.declared.outcome.Outcome.TheVariants as outcomes
+use Rattle.tr_stage.specs.Part.{with_part}
+
+-- a datapath, the rows that its pipelines go by, and what the names in these mean
+pub record Flows : Type 0 where
+  pub rows : List Row
+  pub net : Lookup
+  pub dp : ObjId
+
+abbrev pub flows_of : List Row → Lookup → ObjId → Flows
+flows_of rows net dp = record { rows = rows; net = net; dp = dp }
 
 -- why a packet is dropped in the stage, if it may be
 abbrev pub cause_at : Stage → Option Cause
@@ -27,84 +41,110 @@ cause_at LsInL2Unknown = Some Unknown
 cause_at LsOutCheckPortSec = Some PortSec
 cause_at _ = None
 
--- the multicast group `_MC_flood`, which is each port of the datapath
-abbrev pub flood_group : ℕ
-flood_group = 4294967295
-
--- the packet, to go out by the port or the group of this number
-abbrev pub bound_for : ℕ → Values → Values
-bound_for port packet = with_value packet Outport port
+-- what `outport` becomes for a name: the number of the multicast group, each port or each port for unknown addresses, or of the port
+abbrev pub number_of : Lookup → List ℕ → Option ℕ
+number_of net name =
+    if bytes_eq name (codes "_MC_flood") then Some 4294967295
+    else if bytes_eq name (codes "_MC_unknown") then Some 4294967294
+    else option_map (λ port. port.0) (net.port name)
 
 -- what becomes of a packet that goes out: from ingress to table 0 of egress, from egress to its port
 abbrev pub sent : Pipeline → Values → Outcome
 sent Ingress packet = outcomes.Leave packet 0
 sent Egress packet = outcomes.Deliver packet
 
--- how a packet's run through a pipeline ends; Stuck: no row takes it, a row says what the stage has no meaning for, or the budget ends
-pub data PipelineEnd : Type 0 where
-  Ended : Outcome → PipelineEnd
-  Stuck : PipelineEnd
+-- How a packet's step through a stage ends: it goes on at a stage, or it comes to the end of the pipeline. There is no outcome
+-- where no row takes it, or where a row says what has no meaning in its stage.
+pub data StageEnd : Type 0 where
+  On : Stage → Values → StageEnd
+  Ends : Option Outcome → StageEnd
 
--- a packet's run through a pipeline: the hits, in order, and the end
-pub record PipelineRun : Type 0 where
-  pub hits : List Hit
-  pub ending : PipelineEnd
+-- on to the stage, if there is one
+abbrev pub on_to : Option Stage → Values → StageEnd
+on_to (Some stage) packet = On stage packet
+on_to None packet = Ends None
 
--- a run that is at its end
-abbrev pub at_end : PipelineEnd → PipelineRun
-at_end ending = record { hits = []; ending = ending }
+-- what an action does: it changes the packet, or it ends the step
+pub data Effect : Type 0 where
+  Changed : Values → Effect
+  Done : StageEnd → Effect
+
+-- the packet, to go out by the port or the group of this number, if there is one
+abbrev pub bound_for : Option ℕ → Values → Effect
+bound_for (Some number) packet = Changed (with_value packet Outport number)
+bound_for None packet = Done (Ends None)
+
+-- what an action of a row in a stage does to a packet (ovn-sb(5), actions)
+abbrev pub effect : Lookup → Stage → Step → Values → Effect
+effect net stage Next packet = Done (on_to (next_stage stage) packet)
+effect net stage Output packet = Done (Ends (Some (sent (pipeline_of stage) packet)))
+effect net stage Drop packet = Done (Ends (option_map outcomes.Drop (cause_at stage)))
+effect net stage (Set field bits constant) packet = Changed (with_part packet field bits constant.value)
+effect net stage (Copy field bits from) packet = Changed (with_part packet field bits (value packet from))
+effect net stage (SetOutport name) packet = bound_for (number_of net name) packet
+effect net stage (Exchange one other) packet = Changed (exchanged packet one other)
+effect net stage _ packet = Done (Ends None)
+
+-- after an action: the others follow with the changed packet, or none does
+abbrev pub after : Effect → (Values → StageEnd) → StageEnd
+after (Changed packet) others = others packet
+after (Done ending) others = ending
+
+-- what actions do, one after the other
+abbrev pub run_actions : Lookup → Stage → List Action → Values → StageEnd
+run_actions net stage [] packet = Ends None
+run_actions net stage (action.Step step ∷ others) packet = after (effect net stage step packet) (run_actions net stage others)
+run_actions net stage (_ ∷ others) packet = Ends None
+
+-- the row that acts on a packet in a stage
+abbrev pub acting : Flows → Stage → Values → Option Row
+acting flows stage packet = select flows.dp stage flows.net packet flows.rows
+
+-- what a row does
+abbrev pub acted : Lookup → Stage → Values → Option Row → StageEnd
+acted net stage packet (Some row) = run_actions net stage row.actions packet
+acted net stage packet None = Ends None
+
+-- a packet's step through a stage
+unfoldable pub step : Flows → Stage → Values → StageEnd
+step flows stage packet = acted flows.net stage packet (acting flows stage packet)
 
 -- the hit of a row that acts
-abbrev pub hit_of : ObjId → Stage → Row → Hit
-hit_of dp stage row = record { dp = dp; stage = stage; priority = row.priority; hint = row.hint }
+abbrev pub hit_of : ObjId → Stage → Option Row → List Hit
+hit_of dp stage (Some row) = record { dp = dp; stage = stage; priority = row.priority; hint = row.hint } ∷ []
+hit_of dp stage None = []
 
--- a run that begins with this hit
-abbrev pub after_hit : Hit → PipelineRun → PipelineRun
-after_hit hit rest = record { hits = hit ∷ rest.hits; ending = rest.ending }
+-- what is told of the row that acts on a packet in a stage
+unfoldable pub hit_at : Flows → Stage → Values → List Hit
+hit_at flows stage packet = hit_of flows.dp stage (acting flows stage packet)
 
--- a drop for this cause
-abbrev pub dropped : Option Cause → PipelineRun
-dropped (Some cause) = at_end (Ended (outcomes.Drop cause))
-dropped None = at_end Stuck
+-- a packet's run through a pipeline: the hits, in order, and the outcome, if there is one
+pub record PipelineRun : Type 0 where
+  pub hits : List Hit
+  pub outcome : Option Outcome
 
--- on to this stage, if there is one; `run_at` gives the run from a stage on
-abbrev pub run_next : (Stage → PipelineRun) → Option Stage → PipelineRun
-run_next run_at (Some stage) = run_at stage
-run_next run_at None = at_end Stuck
+-- a run that begins with these hits
+abbrev pub after_hits : List Hit → PipelineRun → PipelineRun
+after_hits hits rest = record { hits = hits ++ rest.hits; outcome = rest.outcome }
 
--- what a row's actions do; `run_at` gives the run from a later stage on
-abbrev pub run_actions : (Stage → PipelineRun) → PlainAction → Stage → Row → Values → PipelineRun
-run_actions run_at Next stage row packet = run_next run_at (next_stage stage)
-run_actions run_at Drop stage row packet = dropped (cause_at stage)
-run_actions run_at Output stage row packet = at_end (Ended (sent (pipeline_of stage) packet))
-run_actions run_at (To _) stage row packet = at_end (Ended (sent (pipeline_of stage) (bound_for row.hint.0 packet)))
-run_actions run_at Flood stage row packet = at_end (Ended (sent (pipeline_of stage) (bound_for flood_group packet)))
-
--- the run from a stage on, where this row is the one that acts there
-abbrev pub run_stage : (Stage → PipelineRun) → ObjId → Stage → Values → Option Row → PipelineRun
-run_stage run_at dp stage packet (Some row) = after_hit (hit_of dp stage row) (run_actions run_at row.actions stage row packet)
-run_stage run_at dp stage packet None = at_end Stuck
+-- how a run goes on after a step; `run_at` gives the run from a stage on
+abbrev pub go_on : (Stage → Values → PipelineRun) → StageEnd → PipelineRun
+go_on run_at (On stage packet) = run_at stage packet
+go_on run_at (Ends outcome) = record { hits = []; outcome = outcome }
 
 -- the run from a stage on, in at most this many steps
-unfoldable pub run_from : List Row → ObjId → ℕ → Stage → Values → PipelineRun
-run_from rows dp zero stage packet = at_end Stuck
-run_from rows dp (suc budget) stage packet = run_stage (λ later. run_from rows dp budget later packet) dp stage packet (select dp stage packet rows)
+unfoldable pub run_from : Flows → ℕ → Stage → Values → PipelineRun
+run_from flows zero stage packet = record { hits = []; outcome = None }
+run_from flows (suc budget) stage packet = after_hits (hit_at flows stage packet) (go_on (run_from flows budget) (step flows stage packet))
 
 -- how many steps a packet may take in one pipeline
 abbrev pub step_budget : ℕ
 step_budget = 128
 
--- the run of a packet through a pipeline of the datapath, which is a switch
-unfoldable pub run_pipeline : List Row → ObjId → Pipeline → Values → PipelineRun
-run_pipeline rows dp pipeline packet = run_next (λ stage. run_from rows dp step_budget stage packet) (first_stage Switch pipeline)
+-- what the datapath is
+abbrev pub kind_of : Flows → DatapathKind
+kind_of flows = if flows.net.is_switch flows.dp then Switch else Router
 
--- a row of the datapath's table of this stage takes each packet
-abbrev pub TakesEach : List Row → ObjId → Stage → Type 0
-TakesEach rows dp stage = (row : Row) × Contains rows row × (row.dp ≡ dp) × (row.stage ≡ stage) × (row.matching ≡ Any)
-
--- the rows of a switch, in which each packet comes to an end: each stage takes each packet, the last ones send none
--- on, and only a stage that has a cause for it drops
-pub record IsRunnable (rows : List Row) (dp : ObjId) : Type 0 where
-  pub takes_each : (stage : Stage) → IsTrue (is_of_switch stage) → TakesEach rows dp stage
-  pub ends : All (λ row. row.dp ≡ dp → IsTrue (is_last row.stage) → row.actions ≢ Next) rows
-  pub drops : All (λ row. row.dp ≡ dp → row.actions ≡ Drop → cause_at row.stage ≢ None) rows
+-- the run of a packet through a pipeline of the datapath, from this table on
+unfoldable pub run_pipeline : Flows → Pipeline → ℕ → Values → PipelineRun
+run_pipeline flows pipeline table packet = go_on (run_from flows step_budget) (on_to (stage_at (kind_of flows) pipeline table) packet)

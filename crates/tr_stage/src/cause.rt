@@ -3,7 +3,7 @@ ghost use Rattle.std.specs.Option.{IsSome};
 ghost use Rattle.tr_stage.specs.Machine.{cause_at};
 
 use crate::Cause;
-use sb_rows::Stage;
+use sb_model::Stage;
 
 // Why a packet is dropped in a stage that may drop.
 pub(crate) fn cause_at(stage: Stage) -> Cause

@@ -1,12 +1,14 @@
 //! The stage machine: what the rows of one pipeline do with a packet.
 #![tactic(auto)]
 
+mod act;
 mod cause;
 mod kept;
 mod machine;
 mod outcome;
+mod part;
 
 pub use machine::run_pipeline;
 pub use net_meaning::Cause;
 pub use outcome::{Hit, Outcome};
-pub use sb_rows::Pipeline;
+pub use sb_model::Pipeline;

@@ -1,58 +1,70 @@
-ghost use Rattle.std.specs.Prelude.{◌≡◌, ◌≢◌, ◌++◌, IfOk};
-ghost use Rattle.tr_stage.specs.Machine.{hit_of, sent, bound_for, run_pipeline, IsRunnable};
-ghost use Rattle.tr_stage.specs.Machine.PipelineEnd.{Ended, Stuck};
+ghost use Rattle.std.specs.Prelude.{◌≡◌, ◌≢◌, ◌++◌, List, [], ◌∷◌, None, Some, IfOk, IsSome};
+ghost use Rattle.sb_model.specs.Stage.{stage_at};
+ghost use Rattle.sb_model.specs.declared.row.Row as rows_of;
+ghost use Rattle.tr_stage.specs.Machine.{flows_of, kind_of, hit_of, run_pipeline, sent};
+ghost use Rattle.tr_stage.specs.Runnable.{IsRunnable};
 
-use crate::cause::cause_at;
+use crate::act::{Ending, run_actions};
 use crate::{Hit, Outcome};
-use nv_base::{Field, ObjId, OutOfMemory};
+use expr_core::Env;
+use nv_base::{ObjId, OutOfMemory};
 use pkt_core::Packet;
-use sb_rows::{DatapathKind, Pipeline, PlainAction, Row, Rows, Stage};
+use sb_model::{DatapathKind, Pipeline, Row, Stage};
+use sb_rows::Rows;
 
 // How many steps a packet may take in one pipeline.
 const STEP_BUDGET: usize = 128;
 
-// The number of the multicast group `_MC_flood`, which is each port of the datapath.
-const FLOOD_GROUP: u32 = 4_294_967_295;
-
-/// Runs a packet through one pipeline of a switch, and appends a hit to `hits` for each row that acted on it, in
-/// order. After `OutOfMemory` nothing is said of the hits.
-#[tactic(auto, using(crate::proofs::Longest::pipeline_never_stuck))]
-pub fn run_pipeline(
+/// Runs a packet through one pipeline of a datapath, from this table on, and appends a hit to `hits` for each row that
+/// acted on it, in order. After `OutOfMemory` nothing is said of the hits.
+pub fn run_pipeline<E: Env>(
     rows: &Rows,
+    env: &E,
     dp: ObjId,
     pipeline: Pipeline,
+    table: u8,
     packet: &Packet,
     hits: &mut Vec<Hit>,
 ) -> Result<Outcome, OutOfMemory>
-    requires { IsRunnable rows.now dp }
-    ensures hits { IfOk result (λ outcome. hits.new.items ≡ hits.old.items ++ (run_pipeline rows.now dp pipeline packet.now).hits) }
-    ensures outcome { IfOk result (λ outcome. (run_pipeline rows.now dp pipeline packet.now).ending ≡ Ended outcome) }
-    ensures runs { (run_pipeline rows.now dp pipeline packet.now).ending ≢ Stuck }
+    requires rows { IsRunnable (flows_of rows.now (E.lookup env.now) dp) }
+    requires table { IsSome (stage_at (kind_of (flows_of rows.now (E.lookup env.now) dp)) pipeline table) }
+    ensures hits { IfOk result (λ outcome. hits.new.items ≡ hits.old.items ++ (run_pipeline (flows_of rows.now (E.lookup env.now) dp) pipeline table packet.now).hits) }
+    ensures outcome { IfOk result (λ outcome. (run_pipeline (flows_of rows.now (E.lookup env.now) dp) pipeline table packet.now).outcome ≡ Some outcome) }
+    ensures runs { (run_pipeline (flows_of rows.now (E.lookup env.now) dp) pipeline table packet.now).outcome ≢ None }
 {
-    let mut stage = Stage::first(DatapathKind::Switch, pipeline);
+    let Some(mut stage) = Stage::at(kind_of(env, dp), pipeline, table) else {
+        unreachable!()
+    };
+    let mut packet = *packet;
     let mut budget = STEP_BUDGET;
     while budget > 0 {
         budget -= 1;
-        let Some(row) = rows.select(dp, stage, packet) else {
+        let Some(row) = rows.select(dp, stage, &packet, env) else {
             unreachable!()
         };
         hits.push(hit_of(dp, stage, row))?;
-        match &row.actions {
-            PlainAction::Next => match stage.next() {
-                Some(next) => stage = next,
-                None => unreachable!(),
-            },
-            PlainAction::Drop => return Ok(Outcome::Drop(cause_at(stage))),
-            PlainAction::Output => return Ok(sent(stage.pipeline(), *packet)),
-            PlainAction::To(_) => return Ok(sent_by(stage.pipeline(), packet, row.hint.0)),
-            PlainAction::Flood => return Ok(sent_by(stage.pipeline(), packet, FLOOD_GROUP)),
+        match run_actions(env, stage, row.actions.as_slice(), &mut packet) {
+            Ending::On(next) => stage = next,
+            Ending::Sent(pipeline) => return Ok(sent(pipeline, &packet)),
+            Ending::Dropped(cause) => return Ok(Outcome::Drop(cause)),
         }
     }
     unreachable!()
 }
 
+// What the datapath is.
+fn kind_of<E: Env>(env: &E, dp: ObjId) -> DatapathKind
+    ensures { (rows : List rows_of.Row) → result ≡ kind_of (flows_of rows (E.lookup env.now) dp) }
+{
+    if env.is_switch(dp) {
+        DatapathKind::Switch
+    } else {
+        DatapathKind::Router
+    }
+}
+
 fn hit_of(dp: ObjId, stage: Stage, row: &Row) -> Hit
-    ensures { result ≡ hit_of dp stage row.now }
+    ensures { result ∷ [] ≡ hit_of dp stage (Some row.now) }
 {
     Hit {
         dp,
@@ -63,20 +75,11 @@ fn hit_of(dp: ObjId, stage: Stage, row: &Row) -> Hit
 }
 
 // What becomes of a packet that goes out of a pipeline.
-fn sent(pipeline: Pipeline, packet: Packet) -> Outcome
-    ensures { result ≡ sent pipeline packet }
+fn sent(pipeline: Pipeline, packet: &Packet) -> Outcome
+    ensures { result ≡ sent pipeline packet.now }
 {
     match pipeline {
-        Pipeline::Ingress => Outcome::Leave(packet, 0),
-        Pipeline::Egress => Outcome::Deliver(packet),
+        Pipeline::Ingress => Outcome::Leave(*packet, 0),
+        Pipeline::Egress => Outcome::Deliver(*packet),
     }
-}
-
-// The same, by the port or the group of this number.
-fn sent_by(pipeline: Pipeline, packet: &Packet, port: u32) -> Outcome
-    ensures { result ≡ sent pipeline (bound_for port packet.now) }
-{
-    let mut moved = *packet;
-    moved.set(Field::Outport, u128::from(port));
-    sent(pipeline, moved)
 }

@@ -1,7 +1,7 @@
 use net_meaning::Cause;
 use nv_base::ObjId;
 use pkt_core::Packet;
-use sb_rows::Stage;
+use sb_model::Stage;
 
 /// That a row acted on a packet: the table of the row, its priority and its hint.
 #[derive(Clone, Copy, Debug, PartialEq, Eq)]

@@ -3,3 +3,7 @@ pub mod StageLaws
 pub mod Pipelines
 pub mod Refinement
 pub mod Runnable
+pub mod Fields
+pub mod PortNames
+pub mod Tables
+pub mod Notes

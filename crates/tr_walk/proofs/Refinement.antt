@@ -1,49 +1,93 @@
--- A switch's rows do with a frame for a unicast MAC what the switch means.
-use Rattle.std.proofs.Common.{◌≡◌, ℕ, Bool, true, false, cond, List, [], ◌∷◌, ◌++◌, map, eqb, ap, refl, ◌∙◌, subst}
-use Rattle.std.specs.Prelude.{◌&&◌, Option, Some, None}
+-- A switch's rows do with a packet for a unicast MAC what the switch means.
+use Rattle.std.proofs.Common.{◌≡◌, Bool, true, false, cond, List, [], ◌∷◌, ◌++◌, map, eqb, sym, ap, refl, ◌∙◌, subst, ◌⊎◌, inl, inr}
+use Rattle.std.specs.Prelude.{Option, Some, None, is_some}
 use Rattle.std.specs.List.{Contains}
-use Rattle.std.proofs.lemmas.List.Elements.{filter_map-append, All-from_recursion, All-contains}
+use Rattle.std.proofs.lemmas.Bool.{eq-eqb}
+use Rattle.std.proofs.lemmas.List.Elements.{All-from_recursion, All-contains}
 use Rattle.nv_base.specs.declared.object.ObjId.{ObjId}
-use Rattle.nv_base.specs.Field.{all_fields}
-use Rattle.pkt_core.specs.Packet.{only, headers}
-use Rattle.sb_rows.specs.declared.row.Row.{Row}
+use Rattle.nv_base.specs.declared.field.Field.TheVariants.{Outport, EthSrc, EthDst}
+use Rattle.pkt_core.specs.Packet.{Values, value}
+use Rattle.pkt_core.specs.Replies.{start}
+use Rattle.sb_model.specs.declared.stage.DatapathKind.TheVariants as kinds
+use Rattle.sb_model.specs.declared.stage.Pipeline.TheVariants.{Ingress, Egress}
 use Rattle.nb_model.specs.Address.{is_multicast}
-use Rattle.sb_rows.specs.declared.stage.Pipeline.TheVariants.{Ingress, Egress}
-use Rattle.net_meaning.specs.declared.cause.Cause.TheVariants.{SamePort}
-use Rattle.tr_stage.specs.declared.outcome.Hit.{Hit}
-use Rattle.tr_stage.specs.Machine.{PipelineRun, run_pipeline, bound_for}
-use Rattle.tr_walk.specs.declared.event.Event.{Event}
-use Rattle.tr_walk.specs.declared.event.Event.TheVariants as events
-use Rattle.net_meaning.specs.declared.event.PlainEvent.TheVariants as plain
 use Rattle.nb_model.specs.declared.port.Port.{Port}
-use Rattle.nb_model.specs.Network.{Switch, Tables}
+use Rattle.nb_model.specs.Network.{Switch, Tables, switch_numbered}
 use Rattle.nb_model.specs.Sound.{IsNumbered, IsSound, switch_numbers}
-use Rattle.net_meaning.specs.SwitchMeaning.{frame_for, port_to, sent_on, meaning}
-use Rattle.nd_full.specs.FullBuild.{full_build}
-use Rattle.tr_walk.specs.Walk.{arriving, with_hits, delivered, leaving, arrived, machine, plain_event, without_hits, IsRefined}
-use Rattle.nd_full.proofs.Elements.{Contains-from_map}
+use Rattle.net_meaning.specs.declared.cause.Cause.TheVariants.{PortSec, SamePort}
+use Rattle.net_meaning.specs.declared.event.PlainEvent.TheVariants as plain
+use Rattle.net_meaning.specs.Frame.{Passed, Parts, Told, arrived, events, is_sent_back, left, walk, with_notes}
+use Rattle.net_meaning.specs.Frame.Passed.{GoesOn, Drops}
+use Rattle.net_meaning.specs.Frame.Told.{Note, Happens}
+use Rattle.net_meaning.specs.SwitchMeaning.{port_to, arriving, sent_to, switch_parts}
+use Rattle.nd_full.proofs.Elements.{one_of, one_of_none, Contains-from_map}
+use Rattle.tr_stage.specs.declared.outcome.Hit.{Hit}
+use Rattle.tr_stage.specs.Machine.{Flows, kind_of, run_pipeline}
+use Rattle.tr_walk.specs.Walk.{after_ingress, after_egress, event_of, flows_at, machine, pipelines, without_hits, IsRefined}
+use Rattle.tr_walk.proofs.Fields.{other_value, started_value}
 use Rattle.tr_walk.proofs.StageLaws.{id_one}
-use Rattle.tr_walk.proofs.Pipelines.{ingress-port, ingress-none, egress-one}
+use Rattle.tr_walk.proofs.Pipelines.{ingress-multicast, ingress-port, ingress-none, egress-one}
 
--- ---- hits left out
+-- ---- walks whose parts do the same, whatever their notes
 
--- hits are none of the others
-no_hits : (hits : List Hit) → without_hits (map events.Hit hits) ≡ []
-no_hits [] = refl
-no_hits (hit ∷ hits) = no_hits hits
+module _ {N : Type 0} where
+  -- notes are no events
+  no_notes : (notes : List N) (more : List (Told N)) → events (map Note notes ++ more) ≡ events more
+  no_notes [] more = refl
+  no_notes (note ∷ notes) more = no_notes notes more
 
--- of a way's events, those that are no hits are those after its hits
-pub without_hits-with_hits : (way : PipelineRun) (more : List Event) → without_hits (with_hits way more) ≡ without_hits more
-without_hits-with_hits way more =
-    filter_map-append plain_event (map events.Hit way.hits) more
-    ∙ ap (λ front. front ++ without_hits more) (no_hits way.hits)
+left_alike : (M N : Type 0) (dp : ObjId) (passed : Option Passed) → events (left {N = M} dp passed) ≡ events (left {N = N} dp passed)
+left_alike M N dp None = refl
+left_alike M N dp (Some (GoesOn packet)) = refl
+left_alike M N dp (Some (Drops cause)) = refl
 
--- a frame's header fields, on its way out, are those that it came with
-sent_headers : (port : ObjId) (out mac : ℕ) → headers (bound_for out (arriving port mac)) ≡ frame_for mac
-unfolding only all_fields
-sent_headers port out mac = refl
+module _ {M N : Type 0} where
+  module _ (ps : Parts M) (qs : Parts N) (dp : ObjId) where
+    arrived_alike : (passed : Option Passed) → ((packet : Values) → passed ≡ Some (GoesOn packet) → (ps.leaving packet).passed ≡ (qs.leaving packet).passed) → events (arrived ps dp passed) ≡ events (arrived qs dp passed)
+    arrived_alike None same = refl
+    arrived_alike (Some (Drops cause)) same = refl
+    arrived_alike (Some (GoesOn packet)) same = by (is_sent_back packet)
+      where
+        by : (b : Bool) → events (cond b (Happens (plain.Drop dp SamePort) ∷ []) (with_notes (ps.leaving packet) (left dp (ps.leaving packet).passed))) ≡ events (cond b (Happens (plain.Drop dp SamePort) ∷ []) (with_notes (qs.leaving packet) (left dp (qs.leaving packet).passed)))
+        by true = refl
+        by false =
+            no_notes (ps.leaving packet).notes (left dp (ps.leaving packet).passed)
+            ∙ ap (λ passed. events (left {N = M} dp passed)) (same packet refl)
+            ∙ left_alike M N dp (qs.leaving packet).passed
+            ∙ sym (no_notes (qs.leaving packet).notes (left dp (qs.leaving packet).passed))
 
--- ---- the law
+    -- walks tell the same events where the parts do the same with the packet
+    pub walks_alike : (port : ObjId) (packet : Values) → (ps.arriving (start packet port.0)).passed ≡ (qs.arriving (start packet port.0)).passed
+        → ((leaving : Values) → (qs.arriving (start packet port.0)).passed ≡ Some (GoesOn leaving) → (ps.leaving leaving).passed ≡ (qs.leaving leaving).passed)
+        → events (walk ps dp port packet) ≡ events (walk qs dp port packet)
+    walks_alike port packet same_arriving same_leaving =
+        let from = start packet port.0 in
+        no_notes (ps.arriving from).notes (arrived ps dp (ps.arriving from).passed)
+        ∙ ap (λ passed. events (arrived ps dp passed)) same_arriving
+        ∙ arrived_alike (qs.arriving from).passed same_leaving
+        ∙ sym (no_notes (qs.arriving from).notes (arrived qs dp (qs.arriving from).passed))
+
+-- of what is told of a walk by rows, the events without hits are the events
+told_events : (all : List (Told Hit)) → without_hits (map event_of all) ≡ events all
+told_events [] = refl
+told_events (Note hit ∷ all) = told_events all
+told_events (Happens (plain.Output port packet) ∷ all) = ap (λ rest. plain.Output port packet ∷ rest) (told_events all)
+told_events (Happens (plain.Drop dp cause) ∷ all) = ap (λ rest. plain.Drop dp cause ∷ rest) (told_events all)
+
+-- ---- the parts of a switch
+
+-- each switch is one by its number
+pub numbered_switch : (switches : List Switch) (switch : Switch) → Contains switches switch → is_some (switch_numbered switches switch.0) ≡ true
+numbered_switch [] switch there = absurd (one_of_none switch there)
+numbered_switch (s ∷ switches) switch there = by (one_of s switches switch there) (numbered_switch switches switch)
+  where
+    found : (b : Bool) (rest : Option Switch) → is_some rest ≡ true → is_some (cond b (Some s) rest) ≡ true
+    found true rest some = refl
+    found false rest some = some
+
+    by : (s ≡ switch) ⊎ Contains switches switch → (Contains switches switch → is_some (switch_numbered switches switch.0) ≡ true) → is_some (cond (eqb s.0.0 switch.0.0) (Some s) (switch_numbered switches switch.0)) ≡ true
+    by (inl same) rest = rw (eq-eqb s.0.0 switch.0.0 (ap (λ (x : Switch). x.0.0) same)) refl
+    by (inr later) rest = found (eqb s.0.0 switch.0.0) (switch_numbered switches switch.0) (rest later)
 
 -- each port's switch is one of the switches
 pub switch_there : (tables : Tables) (port : Port) → IsNumbered tables.switches tables.ports tables.next → Contains tables.ports port → (switch : Switch) × Contains tables.switches switch × (switch.0 ≡ port.switch)
@@ -52,47 +96,54 @@ switch_there tables port numbered there =
     let at = Contains-from_map (λ (s : Switch). s.0.0) tables.switches port.switch.0 number in
     (at.0, at.1, id_one at.0.0 port.switch at.2)
 
-module _ (tables : Tables) (arrival : Port) (mac : ℕ) (numbered : IsNumbered tables.switches tables.ports tables.next) (to_one : is_multicast mac ≡ false) where
-  abbrev rows : List Row
-  rows = full_build tables
+module _ (tables : Tables) (sound : IsSound tables) (switch : Switch) (among : Contains tables.switches switch) where
+  abbrev flows : Flows
+  flows = flows_at tables switch.0
 
-  module _ (switch : Switch) (among : Contains tables.switches switch) where
-    -- a packet on its way out by a port goes out by it
-    left : (out : ObjId) → without_hits (leaving rows switch.0 (bound_for out.0 (arriving arrival.id mac))) ≡ plain.Output out (frame_for mac) ∷ []
-    left out =
-        let packet = bound_for out.0 (arriving arrival.id mac) in
-        without_hits-with_hits (run_pipeline rows switch.0 Egress packet) (delivered switch.0 (run_pipeline rows switch.0 Egress packet).ending)
-        ∙ ap (λ ending. without_hits (delivered switch.0 ending)) (egress-one tables switch among packet to_one)
-        ∙ ap (λ sent. plain.Output out sent ∷ []) (sent_headers arrival.id out.0 mac)
+  of_switch : kind_of flows ≡ kinds.Switch
+  of_switch = rw (numbered_switch tables.switches switch among) refl
 
-    -- one that would go back by its own port is dropped, and another goes out
-    back_or_out : (port : Port) (b : Bool) → eqb port.id.0 arrival.id.0 ≡ b
-        → without_hits (cond (b && true) (events.Drop switch.0 SamePort ∷ []) (leaving rows switch.0 (bound_for port.id.0 (arriving arrival.id mac)))) ≡ cond b (plain.Drop switch.0 SamePort) (plain.Output port.id (frame_for mac)) ∷ []
-    back_or_out port true is = refl
-    back_or_out port false is = left port.id
+  -- the pipeline of ingress is the arriving part
+  arriving_same : (packet : Values) → is_multicast (value packet EthDst) ≡ false → after_ingress (run_pipeline flows Ingress 0 packet).outcome ≡ Some (arriving tables.ports switch.0 packet)
+  arriving_same packet to_one = by (is_multicast (value packet EthSrc)) refl (port_to tables.ports switch.0 (value packet EthDst)) refl
+    where
+      by : (many : Bool) → is_multicast (value packet EthSrc) ≡ many → (found : Option Port) → port_to tables.ports switch.0 (value packet EthDst) ≡ found
+          → after_ingress (run_pipeline flows Ingress 0 packet).outcome ≡ Some (cond many (Drops PortSec) (sent_to found packet))
+      by true is found at = ap after_ingress (ingress-multicast tables switch among packet of_switch is)
+      by false is (Some port) at = ap after_ingress (ingress-port tables switch among packet of_switch is to_one sound port at)
+      by false is None at = ap after_ingress (ingress-none tables switch among packet of_switch is to_one at)
 
-    -- the hits of ingress left out
-    on_switch : without_hits (machine rows switch.0 arrival.id mac) ≡ without_hits (arrived rows switch.0 (run_pipeline rows switch.0 Ingress (arriving arrival.id mac)).ending)
-    on_switch = without_hits-with_hits (run_pipeline rows switch.0 Ingress (arriving arrival.id mac)) (arrived rows switch.0 (run_pipeline rows switch.0 Ingress (arriving arrival.id mac)).ending)
+  -- what goes on from there has the destination that it came with
+  goes_on_to : (packet leaving : Values) → arriving tables.ports switch.0 packet ≡ GoesOn leaving → value leaving EthDst ≡ value packet EthDst
+  goes_on_to packet leaving is = by (is_multicast (value packet EthSrc)) (port_to tables.ports switch.0 (value packet EthDst)) is
+    where
+      goes_same : (a b : Values) → GoesOn a ≡ GoesOn b → a ≡ b
+      goes_same a b e = cc
 
-    -- a frame for an address that no port has is dropped, and another goes back or out
-    by_port : (found : Option Port) → port_to tables.ports switch.0 mac ≡ found → without_hits (machine rows switch.0 arrival.id mac) ≡ sent_on (record arrival { switch = switch.0 }) mac found ∷ []
-    by_port None none =
-        on_switch
-        ∙ ap (λ ending. without_hits (arrived rows switch.0 ending)) (ingress-none tables switch among (arriving arrival.id mac) refl mac refl to_one none)
-    by_port (Some port) found =
-        on_switch
-        ∙ ap (λ ending. without_hits (arrived rows switch.0 ending)) (ingress-port tables switch among (arriving arrival.id mac) refl mac refl to_one numbered.of_ports.rise port found)
-        ∙ back_or_out port (eqb port.id.0 arrival.id.0) refl
+      by : (many : Bool) (found : Option Port) → cond many (Drops PortSec) (sent_to found packet) ≡ GoesOn leaving → value leaving EthDst ≡ value packet EthDst
+      by true found e = cc
+      by false None e = cc
+      by false (Some port) e = ap (λ p. value p EthDst) (sym (goes_same _ _ e)) ∙ other_value packet Outport EthDst port.id.0 refl
 
--- A frame for a unicast MAC that arrives at a port: what the rows of the full build do with it is what the switch means.
-pub refinement : (tables : Tables) (arrival : Port) (mac : ℕ) → IsNumbered tables.switches tables.ports tables.next → Contains tables.ports arrival → is_multicast mac ≡ false
-    → without_hits (machine (full_build tables) arrival.switch arrival.id mac) ≡ meaning tables.ports arrival mac
-refinement tables arrival mac numbered there to_one =
-    let at = switch_there tables arrival numbered there in
-    let law = by_port tables arrival mac numbered to_one at.0 at.1 (port_to tables.ports at.0.0 mac) refl in
-    subst (λ dp. without_hits (machine (full_build tables) dp arrival.id mac) ≡ sent_on (record arrival { switch = dp }) mac (port_to tables.ports dp mac) ∷ []) at.2 law
+  -- the pipeline of egress is the leaving part
+  leaving_same : (packet : Values) → is_multicast (value packet EthDst) ≡ false → after_egress (run_pipeline flows Egress 0 packet).outcome ≡ Some (GoesOn packet)
+  leaving_same packet to_one = ap after_egress (egress-one tables switch among packet of_switch to_one)
+
+  -- so the walk by rows tells what the switch means
+  pub refined : (port : ObjId) (packet : Values) → is_multicast (value packet EthDst) ≡ false
+      → without_hits (machine flows port packet) ≡ events (walk (switch_parts {N = Unit {0}} tables.ports switch.0) switch.0 port packet)
+  refined port packet to_one =
+      let from = start packet port.0 in
+      let still_one : is_multicast (value from EthDst) ≡ false = ap is_multicast (started_value packet port.0 EthDst refl refl refl) ∙ to_one in
+      told_events (walk (pipelines flows) switch.0 port packet)
+      ∙ walks_alike (pipelines flows) (switch_parts {N = Unit {0}} tables.ports switch.0) switch.0 port packet (arriving_same from still_one)
+      (λ leaving goes. leaving_same leaving (ap is_multicast (goes_on_to from leaving (some_same _ _ goes)) ∙ still_one))
+    where
+      some_same : (a b : Passed) → Some a ≡ Some b → a ≡ b
+      some_same a b e = cc
 
 -- in each sound network the rows do what the switch does
 pub sound_refined : (tables : Tables) → IsSound tables → IsRefined tables
-sound_refined tables sound arrival mac there one = refinement tables arrival mac sound.numbered there one
+sound_refined tables sound arrival packet there to_one =
+    let at = switch_there tables arrival sound.numbered there in
+    subst (λ dp. without_hits (machine (flows_at tables dp) arrival.id packet) ≡ events (walk (switch_parts {N = Unit {0}} tables.ports dp) dp arrival.id packet)) at.2 (refined tables sound at.0 at.1 arrival.id packet to_one)

@@ -1,72 +1,105 @@
--- On the rows of a network each packet comes to an end.
-use Rattle.std.proofs.Common.{◌≡◌, ◌≢◌, false, true, None, map, refl, subst, arith}
+-- On the rows of a sound network each packet comes to an end.
+use Rattle.std.proofs.Common.{◌≡◌, ℕ, true, List, [], ◌∷◌, map, refl, subst, arith}
 use Rattle.std.specs.Bool.{IsTrue}
 use Rattle.std.specs.List.{AllByRecursion, Contains}
 use Rattle.std.proofs.lemmas.Bool.{false≢true}
+use Rattle.std.proofs.lemmas.List.Elements.{All-from_recursion, All-contains}
 use Rattle.nv_base.specs.declared.object.ObjId.{ObjId}
-use Rattle.sb_rows.specs.declared.row.Row.{Row}
-use Rattle.sb_rows.specs.declared.row.PlainMatch.TheVariants.{Any}
-use Rattle.sb_rows.specs.declared.row.PlainAction.{PlainAction}
-use Rattle.sb_rows.specs.declared.row.PlainAction.TheVariants.{Next, Drop, Output}
-use Rattle.sb_rows.specs.declared.stage.Stage.{Stage}
-use Rattle.sb_rows.specs.declared.stage.Stage.TheVariants.{LsInCheckPortSec, LsInPreAcl, LsInPreStateful, LsInAclEval, LsInLb, LsInStateful, LsInArpRsp, LsInL2Lkup, LsInL2Unknown, LsOutPreAcl, LsOutPreStateful, LsOutAclEval, LsOutStateful, LsOutCheckPortSec}
-use Rattle.sb_rows.specs.Stage.{is_of_switch, is_last, all_stages, stage_at, next_stage}
-use Rattle.tr_stage.specs.Machine.{IsRunnable, TakesEach, cause_at}
+use Rattle.nv_base.specs.Name.{is_object_name}
+use Rattle.expr_core.specs.Lookup.{Lookup}
+use Rattle.act_core.specs.WellFormed.{is_well_formed, is_quotable}
+use Rattle.sb_model.specs.declared.row.Row.{Row}
+use Rattle.sb_model.specs.declared.stage.DatapathKind.TheVariants as kinds
+use Rattle.sb_model.specs.declared.stage.Stage.{Stage}
+use Rattle.sb_model.specs.declared.stage.Stage.TheVariants.{LsInCheckPortSec, LsInPreAcl, LsInPreStateful, LsInAclEval, LsInLb, LsInStateful, LsInArpRsp, LsInL2Lkup, LsInL2Unknown, LsOutPreAcl, LsOutPreStateful, LsOutAclEval, LsOutStateful, LsOutCheckPortSec}
+use Rattle.sb_model.specs.Stage.{all_stages, is_same_kind, next_stage, stage_at, stage_table}
+use Rattle.tr_stage.specs.Machine.{kind_of}
+use Rattle.tr_stage.specs.Runnable.{IsRunnable, TakesEach, are_run}
+use Rattle.nb_model.specs.declared.port.Port.{Port}
+use Rattle.nb_model.specs.Names.{names}
 use Rattle.nb_model.specs.Network.{Switch, Tables}
-use Rattle.nb_model.specs.Sound.{switch_numbers}
-use Rattle.nd_full.specs.declared.build.FixedRow.{FixedRow}
-use Rattle.nd_full.specs.FullBuild.{fixed_rows, row_on, full_build}
-use Rattle.nd_full.proofs.Elements.{Contains-from_map}
+use Rattle.nb_model.specs.Sound.{IsSound, port_names, switch_numbers}
+use Rattle.nd_full.specs.declared.fixed.FixedRow.{FixedRow}
+use Rattle.nd_full.specs.declared.fixed.Does.{Does}
+use Rattle.nd_full.specs.declared.fixed.Does.TheVariants.{Next, Drop, Output}
+use Rattle.nd_full.specs.declared.fixed.Takes.TheVariants.{Each}
+use Rattle.nd_full.specs.FullBuild.{fixed, fixed_rows, row_on, lookup_row, full_build}
+use Rattle.nd_full.proofs.Elements.{Contains-from_map, Contains-map}
 use Rattle.nd_full.proofs.Units.{full_build-fixed, every_row}
+use Rattle.tr_walk.specs.Walk.{flows_at}
+use Rattle.tr_walk.proofs.PortNames.{number_of_port}
+use Rattle.tr_walk.proofs.Refinement.{numbered_switch}
 use Rattle.tr_walk.proofs.StageLaws.{id_one}
 
 module _ (tables : Tables) (dp : ObjId) (there : Contains (switch_numbers tables.switches) dp.0) where
   -- a stage with such a row takes each packet
-  by_row : (stage : Stage) (actions : PlainAction) → Contains fixed_rows (record { stage = stage; priority = 0; matching = Any; actions = actions }) → TakesEach (full_build tables) dp stage
-  by_row stage actions in_fixed =
-      let fixed : FixedRow = record { stage = stage; priority = 0; matching = Any; actions = actions } in
+  by_row : (stage : Stage) (does : Does) → Contains fixed_rows (fixed stage 0 Each does) → TakesEach (flows_at tables dp) stage
+  by_row stage does in_fixed =
       let at = Contains-from_map (λ (switch : Switch). switch.0.0) tables.switches dp.0 there in
-      let row_there = subst (λ (id : ObjId). Contains (full_build tables) (row_on id fixed)) (id_one at.0.0 dp at.2) (full_build-fixed tables at.0 fixed at.1 in_fixed) in
-      (row_on dp fixed, row_there, refl, refl, refl)
+      let row_there = subst (λ (id : ObjId). Contains (full_build tables) (row_on id (fixed stage 0 Each does))) (id_one at.0.0 dp at.2) (full_build-fixed tables at.0 (fixed stage 0 Each does) at.1 in_fixed) in
+      (row_on dp (fixed stage 0 Each does), row_there, refl, refl, refl)
+
+  of_switch : kind_of (flows_at tables dp) ≡ kinds.Switch
+  of_switch =
+      let at = Contains-from_map (λ (switch : Switch). switch.0.0) tables.switches dp.0 there in
+      subst (λ (id : ObjId). kind_of (flows_at tables id) ≡ kinds.Switch) (id_one at.0.0 dp at.2) (rw (numbered_switch tables.switches at.0 at.1) refl)
 
   -- each stage of a switch has one
-  takes_each : (stage : Stage) → IsTrue (is_of_switch stage) → TakesEach (full_build tables) dp stage
-  takes_each LsInCheckPortSec _ = by_row LsInCheckPortSec Next (1, omega arith, refl)
-  takes_each LsInPreAcl _ = by_row LsInPreAcl Next (2, omega arith, refl)
-  takes_each LsInPreStateful _ = by_row LsInPreStateful Next (3, omega arith, refl)
-  takes_each LsInAclEval _ = by_row LsInAclEval Next (4, omega arith, refl)
-  takes_each LsInLb _ = by_row LsInLb Next (5, omega arith, refl)
-  takes_each LsInStateful _ = by_row LsInStateful Next (6, omega arith, refl)
-  takes_each LsInArpRsp _ = by_row LsInArpRsp Next (7, omega arith, refl)
-  takes_each LsInL2Lkup _ = by_row LsInL2Lkup Next (9, omega arith, refl)
-  takes_each LsInL2Unknown _ = by_row LsInL2Unknown Drop (10, omega arith, refl)
-  takes_each LsOutPreAcl _ = by_row LsOutPreAcl Next (11, omega arith, refl)
-  takes_each LsOutPreStateful _ = by_row LsOutPreStateful Next (12, omega arith, refl)
-  takes_each LsOutAclEval _ = by_row LsOutAclEval Next (13, omega arith, refl)
-  takes_each LsOutStateful _ = by_row LsOutStateful Next (14, omega arith, refl)
-  takes_each LsOutCheckPortSec _ = by_row LsOutCheckPortSec Output (16, omega arith, refl)
-  takes_each _ of_switch = absurd (false≢true of_switch)
+  by_stage : (stage : Stage) → IsTrue (is_same_kind (stage_table stage).kind kinds.Switch) → TakesEach (flows_at tables dp) stage
+  by_stage LsInCheckPortSec _ = by_row LsInCheckPortSec Next (1, omega arith, refl)
+  by_stage LsInPreAcl _ = by_row LsInPreAcl Next (2, omega arith, refl)
+  by_stage LsInPreStateful _ = by_row LsInPreStateful Next (3, omega arith, refl)
+  by_stage LsInAclEval _ = by_row LsInAclEval Next (4, omega arith, refl)
+  by_stage LsInLb _ = by_row LsInLb Next (5, omega arith, refl)
+  by_stage LsInStateful _ = by_row LsInStateful Next (6, omega arith, refl)
+  by_stage LsInArpRsp _ = by_row LsInArpRsp Next (7, omega arith, refl)
+  by_stage LsInL2Lkup _ = by_row LsInL2Lkup Next (9, omega arith, refl)
+  by_stage LsInL2Unknown _ = by_row LsInL2Unknown Drop (10, omega arith, refl)
+  by_stage LsOutPreAcl _ = by_row LsOutPreAcl Next (11, omega arith, refl)
+  by_stage LsOutPreStateful _ = by_row LsOutPreStateful Next (12, omega arith, refl)
+  by_stage LsOutAclEval _ = by_row LsOutAclEval Next (13, omega arith, refl)
+  by_stage LsOutStateful _ = by_row LsOutStateful Next (14, omega arith, refl)
+  by_stage LsOutCheckPortSec _ = by_row LsOutCheckPortSec Output (16, omega arith, refl)
+  by_stage _ of_it = absurd (false≢true of_it)
 
--- a row of a stage that is not the last may send packets on
-before_last : {X A : Type 0} → X → false ≡ true → A
-before_last at last = absurd (false≢true last)
+  takes_each : (stage : Stage) → IsTrue (is_same_kind (stage_table stage).kind (kind_of (flows_at tables dp))) → TakesEach (flows_at tables dp) stage
+  takes_each stage of_it = by_stage stage (subst (λ kind. IsTrue (is_same_kind (stage_table stage).kind kind)) of_switch of_it)
 
--- a fixed row of the last stage of a pipeline sends no packet on
-fixed_end : (dp own : ObjId) → AllByRecursion (λ (row : Row). row.dp ≡ dp → IsTrue (is_last row.stage) → row.actions ≢ Next) (map (row_on own) fixed_rows)
+-- the fixed rows have well-formed actions
+fixed_formed : (own : ObjId) → AllByRecursion (λ (row : Row). IsTrue (is_well_formed row.actions)) (map (row_on own) fixed_rows)
+fixed_formed own = (refl, (refl, (refl, (refl, (refl, (refl, (refl, (refl, (refl, (refl, (refl, (refl, (refl, (refl, (refl, (refl, (refl, tt)))))))))))))))))
+
+-- which the machine runs
+fixed_run : (net : Lookup) (own : ObjId) → AllByRecursion (λ (row : Row). IsTrue (are_run net row.stage row.actions)) (map (row_on own) fixed_rows)
 unfolding next_stage stage_at all_stages
-fixed_end dp own =
-    (before_last, (before_last, (before_last, (before_last, (before_last, (before_last, (before_last, (before_last, (before_last, (before_last, (λ at last same. cc, (before_last, (before_last, (before_last, (before_last, (λ at last same. cc, (λ at last same. cc, tt)))))))))))))))))
+fixed_run net own = (refl, (refl, (refl, (refl, (refl, (refl, (refl, (refl, (refl, (refl, (refl, (refl, (refl, (refl, (refl, (refl, (refl, tt)))))))))))))))))
 
--- a fixed row that drops is of a stage that has a cause for it
-fixed_drop : (dp own : ObjId) → AllByRecursion (λ (row : Row). row.dp ≡ dp → row.actions ≡ Drop → cause_at row.stage ≢ None) (map (row_on own) fixed_rows)
-fixed_drop dp own =
-    (λ at drop none. cc, (λ at drop none. cc, (λ at drop none. cc, (λ at drop none. cc, (λ at drop none. cc, (λ at drop none. cc, (λ at drop none. cc, (λ at drop none. cc, (λ at drop none. cc, (λ at drop none. cc, (λ at drop none. cc, (λ at drop none. cc, (λ at drop none. cc, (λ at drop none. cc, (λ at drop none. cc, (λ at drop none. cc, (λ at drop none. cc, tt)))))))))))))))))
+module _ (tables : Tables) (sound : IsSound tables) (port : Port) (there : Contains tables.ports port) where
+  named : IsTrue (is_object_name port.name)
+  named = All-contains (λ name. IsTrue (is_object_name name)) (port_names tables.ports) port.name (All-from_recursion (λ name. IsTrue (is_object_name name)) (port_names tables.ports) sound.ports_named) (Contains-map (λ (q : Port). q.name) tables.ports port there)
 
--- on the rows of the network each packet comes to an end, on each of its switches
-pub runnable : (tables : Tables) (dp : ObjId) → Contains (switch_numbers tables.switches) dp.0 → IsRunnable (full_build tables) dp
-unfolding next_stage stage_at all_stages
-runnable tables dp there = record {
+  quotable : is_quotable port.name ≡ true
+  quotable = rw named refl
+
+  -- so have the lookup rows
+  lookup_formed : (mac : ℕ) → IsTrue (is_well_formed (lookup_row port mac).actions)
+  lookup_formed mac = rw quotable refl
+
+  lookup_run : (mac : ℕ) → IsTrue (are_run (names tables) (lookup_row port mac).stage (lookup_row port mac).actions)
+  lookup_run mac = rw (number_of_port tables port sound there) refl
+
+-- on the rows of a sound network each packet comes to an end, on each of its switches
+pub runnable : (tables : Tables) (dp : ObjId) → IsSound tables → Contains (switch_numbers tables.switches) dp.0 → IsRunnable (flows_at tables dp)
+runnable tables dp sound there = record {
   takes_each = takes_each tables dp there;
-  ends = every_row tables (λ row. row.dp ≡ dp → IsTrue (is_last row.stage) → row.actions ≢ Next) (fixed_end dp) (λ port mac. before_last);
-  drops = every_row tables (λ row. row.dp ≡ dp → row.actions ≡ Drop → cause_at row.stage ≢ None) (fixed_drop dp) (λ port mac at drop none. cc);
+  formed = every_row tables (λ row. row.dp ≡ dp → IsTrue (is_well_formed row.actions)) (λ own. of_any fixed_rows own (fixed_formed own)) (λ port among mac at. lookup_formed tables sound port among mac);
+  run = every_row tables (λ row. row.dp ≡ dp → IsTrue (are_run (names tables) row.stage row.actions)) (λ own. of_any_run fixed_rows own (fixed_run (names tables) own)) (λ port among mac at. lookup_run tables sound port among mac);
 }
+  where
+    of_any : (rows : List FixedRow) (own : ObjId) → AllByRecursion (λ (row : Row). IsTrue (is_well_formed row.actions)) (map (row_on own) rows) → AllByRecursion (λ (row : Row). row.dp ≡ dp → IsTrue (is_well_formed row.actions)) (map (row_on own) rows)
+    of_any [] own all = tt
+    of_any (row ∷ rows) own all = (λ at. all.0, of_any rows own all.1)
+
+    of_any_run : (rows : List FixedRow) (own : ObjId) → AllByRecursion (λ (row : Row). IsTrue (are_run (names tables) row.stage row.actions)) (map (row_on own) rows) → AllByRecursion (λ (row : Row). row.dp ≡ dp → IsTrue (are_run (names tables) row.stage row.actions)) (map (row_on own) rows)
+    of_any_run [] own all = tt
+    of_any_run (row ∷ rows) own all = (λ at. all.0, of_any_run rows own all.1)

@@ -1,6 +1,6 @@
 -- What a packet for a unicast MAC meets at each stage of a switch.
 use Rattle.std.proofs.Common.{◌≡◌, ℕ, ◌<◌, Bool, true, false, cond, List, [], ◌∷◌, eqb, sym, ap, refl, ◌∙◌, subst, ◌⊎◌, inl, inr, arith}
-use Rattle.std.specs.Prelude.{Option, Some, None}
+use Rattle.std.specs.Prelude.{Option, Some, None, ◌||◌}
 use Rattle.std.specs.declared.cmp.Ordering.TheVariants.{Equal, Greater}
 use Rattle.std.specs.Ordering.{is_gt, nat_cmp}
 use Rattle.std.specs.List.{Contains, AllByRecursion, find}
@@ -10,33 +10,39 @@ use Rattle.std.proofs.lemmas.Option.{same_Some, none-some}
 use Rattle.nv_base.specs.declared.object.ObjId.{ObjId}
 use Rattle.nv_base.specs.declared.field.Field.TheVariants.{EthSrc, EthDst}
 use Rattle.pkt_core.specs.Packet.{Values, value}
-use Rattle.sb_rows.specs.declared.stage.Stage.{Stage}
-use Rattle.sb_rows.specs.declared.stage.Stage.TheVariants.{LsInCheckPortSec, LsInPreAcl, LsInPreStateful, LsInAclEval, LsInLb, LsInStateful, LsInArpRsp, LsInL2Lkup, LsInL2Unknown, LsOutPreAcl, LsOutPreStateful, LsOutAclEval, LsOutStateful, LsOutCheckPortSec}
-use Rattle.sb_rows.specs.declared.row.PlainMatch.TheVariants.{Any, SrcMcast, DstMcast}
-use Rattle.sb_rows.specs.declared.row.PlainAction.{PlainAction}
-use Rattle.sb_rows.specs.declared.row.PlainAction.TheVariants.{Next, Drop, Output, Flood}
-use Rattle.sb_rows.specs.declared.row.Row.{Row}
-use Rattle.sb_rows.specs.Row.{row_cmp}
-use Rattle.sb_rows.specs.Stage.{stage_place}
-use Rattle.sb_rows.specs.Match.{holds, select}
+use Rattle.sb_model.specs.declared.stage.Stage.{Stage}
+use Rattle.sb_model.specs.declared.stage.Stage.TheVariants.{LsInCheckPortSec, LsInPreAcl, LsInPreStateful, LsInAclEval, LsInLb, LsInStateful, LsInArpRsp, LsInL2Lkup, LsInL2Unknown, LsOutPreAcl, LsOutPreStateful, LsOutAclEval, LsOutStateful, LsOutCheckPortSec}
+use Rattle.sb_model.specs.declared.row.Row.{Row}
+use Rattle.sb_rows.specs.Row.{key_cmp, row_cmp}
+use Rattle.sb_model.specs.Stage.{stage_place}
+use Rattle.expr_eval.specs.MatchMeaning.{holds}
+use Rattle.sb_rows.specs.Match.{select}
 use Rattle.nb_model.specs.Address.{is_multicast}
-use Rattle.nd_full.specs.declared.build.FixedRow.{FixedRow}
+use Rattle.nd_full.specs.declared.fixed.FixedRow.{FixedRow}
 use Rattle.nb_model.specs.declared.port.Port.{Port}
 use Rattle.nb_model.specs.Network.{Switch, Tables}
 use Rattle.nb_model.specs.Sound.{IsRising, port_numbers}
 use Rattle.net_meaning.specs.SwitchMeaning.{is_its_address, leads_to, port_to}
-use Rattle.nd_full.specs.FullBuild.{row_on, lookup_row, full_build}
+use Rattle.nb_model.specs.Names.{names}
+use Rattle.nd_full.specs.declared.fixed.Does.{Does}
+use Rattle.nd_full.specs.declared.fixed.Does.TheVariants.{Next, Drop, Output, Flood}
+use Rattle.nd_full.specs.declared.fixed.Takes.TheVariants.{Each, FromMulticast, ToMulticast}
+use Rattle.nd_full.specs.FullBuild.{fixed, match_of, row_on, lookup_row, full_build}
 use Rattle.nd_full.proofs.Elements.{one_of, one_of_none, one_first, one_later}
-use Rattle.nd_full.proofs.Units.{full_build-in_order, full_build-lookup}
+use Rattle.nd_full.proofs.Units.{full_build-in_order, full_build-fixed, full_build-lookup}
 use Rattle.tr_walk.proofs.Selected.{fixed_at, IsFixedAt, IsLookupAt, table-gives, first_of_takers, stage_law}
 
 -- a fixed row of priority 0 that takes each packet
-abbrev pub last_row : Stage → PlainAction → FixedRow
-last_row stage actions = record { stage = stage; priority = 0; matching = Any; actions = actions }
+abbrev pub last_row : Stage → Does → FixedRow
+last_row stage does = fixed stage 0 Each does
 
 -- the row that leads each packet on
 abbrev pub next_row : Stage → FixedRow
 next_row stage = last_row stage Next
+
+-- a test alone among several
+or_false : (b : Bool) → b ≡ false → (b || false) ≡ false
+or_false b is = rw is refl
 
 -- whether a stage has no lookup rows
 abbrev pub has_no_lookup : Stage → Bool
@@ -46,87 +52,119 @@ has_no_lookup stage = cond (eqb (stage_place stage) (stage_place LsInL2Lkup)) fa
 stage_not : (a b : ℕ) → cond (eqb a b) false true ≡ true → a ≡ b → ⊥
 stage_not a b apart same = false≢true (sym (ap (λ t. cond t false true) (eq-eqb a b same)) ∙ apart)
 
+-- how numbers compare
+cmp_itself : (n : ℕ) → nat_cmp n n ≡ Equal
+cmp_itself n = grind (arith, nat_tests)
+
+-- the row that lets in no packet from a multicast MAC
+abbrev pub multicast_row : FixedRow
+multicast_row = fixed LsInCheckPortSec 100 FromMulticast Drop
+
+-- is before the row that leads each packet on
+next_after : (dp : ObjId) → is_gt (row_cmp (row_on dp (next_row LsInCheckPortSec)) (row_on dp multicast_row)) ≡ true
+unfolding row_cmp key_cmp
+next_after dp = rw (cmp_itself dp.0, cmp_itself (stage_place LsInCheckPortSec)) refl
+
 module _ (tables : Tables) (switch : Switch) (among : Contains tables.switches switch) (packet : Values) where
   -- a stage that has one fixed row, which takes each packet, and no lookup rows
-  pub single_law : (stage : Stage) (actions : PlainAction) → fixed_at stage ≡ last_row stage actions ∷ [] → has_no_lookup stage ≡ true
-      → select switch.0 stage packet (full_build tables) ≡ Some (row_on switch.0 (last_row stage actions))
-  single_law stage actions are apart =
-      let fixed = last_row stage actions in
-      stage_law tables switch among stage packet [] fixed are refl refl tt
+  pub single_law : (stage : Stage) (does : Does) → fixed_at stage ≡ last_row stage does ∷ [] → has_no_lookup stage ≡ true
+      → select switch.0 stage (names tables) packet (full_build tables) ≡ Some (row_on switch.0 (last_row stage does))
+  single_law stage does are apart =
+      let last = last_row stage does in
+      stage_law tables switch among stage packet [] last are refl refl tt
       (λ row lookup. absurd (stage_not (stage_place stage) (stage_place LsInL2Lkup) apart (ap stage_place lookup.of_stage)))
 
   -- a stage that has one more fixed row before that, which does not take the packet
-  pub second_law : (stage : Stage) (first : FixedRow) (actions : PlainAction) → fixed_at stage ≡ first ∷ last_row stage actions ∷ [] → has_no_lookup stage ≡ true → holds first.matching packet ≡ false
-      → select switch.0 stage packet (full_build tables) ≡ Some (row_on switch.0 (last_row stage actions))
-  second_law stage first actions are apart quiet =
-      let fixed = last_row stage actions in
-      stage_law tables switch among stage packet (first ∷ []) fixed are refl refl (quiet, tt)
+  pub second_law : (stage : Stage) (first : FixedRow) (does : Does) → fixed_at stage ≡ first ∷ last_row stage does ∷ [] → has_no_lookup stage ≡ true → holds (names tables) packet (match_of first.2) ≡ false
+      → select switch.0 stage (names tables) packet (full_build tables) ≡ Some (row_on switch.0 (last_row stage does))
+  second_law stage first does are apart quiet =
+      let last = last_row stage does in
+      stage_law tables switch among stage packet (first ∷ []) last are refl refl (quiet, tt)
       (λ row lookup. absurd (stage_not (stage_place stage) (stage_place LsInL2Lkup) apart (ap stage_place lookup.of_stage)))
 
   -- ---- ingress
 
-  pub at-LsInPreAcl : select switch.0 LsInPreAcl packet (full_build tables) ≡ Some (row_on switch.0 (next_row LsInPreAcl))
+  pub at-LsInPreAcl : select switch.0 LsInPreAcl (names tables) packet (full_build tables) ≡ Some (row_on switch.0 (next_row LsInPreAcl))
   unfolding stage_place
   at-LsInPreAcl = single_law LsInPreAcl Next refl refl
 
-  pub at-LsInPreStateful : select switch.0 LsInPreStateful packet (full_build tables) ≡ Some (row_on switch.0 (next_row LsInPreStateful))
+  pub at-LsInPreStateful : select switch.0 LsInPreStateful (names tables) packet (full_build tables) ≡ Some (row_on switch.0 (next_row LsInPreStateful))
   unfolding stage_place
   at-LsInPreStateful = single_law LsInPreStateful Next refl refl
 
-  pub at-LsInAclEval : select switch.0 LsInAclEval packet (full_build tables) ≡ Some (row_on switch.0 (next_row LsInAclEval))
+  pub at-LsInAclEval : select switch.0 LsInAclEval (names tables) packet (full_build tables) ≡ Some (row_on switch.0 (next_row LsInAclEval))
   unfolding stage_place
   at-LsInAclEval = single_law LsInAclEval Next refl refl
 
-  pub at-LsInLb : select switch.0 LsInLb packet (full_build tables) ≡ Some (row_on switch.0 (next_row LsInLb))
+  pub at-LsInLb : select switch.0 LsInLb (names tables) packet (full_build tables) ≡ Some (row_on switch.0 (next_row LsInLb))
   unfolding stage_place
   at-LsInLb = single_law LsInLb Next refl refl
 
-  pub at-LsInStateful : select switch.0 LsInStateful packet (full_build tables) ≡ Some (row_on switch.0 (next_row LsInStateful))
+  pub at-LsInStateful : select switch.0 LsInStateful (names tables) packet (full_build tables) ≡ Some (row_on switch.0 (next_row LsInStateful))
   unfolding stage_place
   at-LsInStateful = single_law LsInStateful Next refl refl
 
-  pub at-LsInArpRsp : select switch.0 LsInArpRsp packet (full_build tables) ≡ Some (row_on switch.0 (next_row LsInArpRsp))
+  pub at-LsInArpRsp : select switch.0 LsInArpRsp (names tables) packet (full_build tables) ≡ Some (row_on switch.0 (next_row LsInArpRsp))
   unfolding stage_place
   at-LsInArpRsp = single_law LsInArpRsp Next refl refl
 
   -- each packet that reaches the last stage is dropped
-  pub at-LsInL2Unknown : select switch.0 LsInL2Unknown packet (full_build tables) ≡ Some (row_on switch.0 (last_row LsInL2Unknown Drop))
+  pub at-LsInL2Unknown : select switch.0 LsInL2Unknown (names tables) packet (full_build tables) ≡ Some (row_on switch.0 (last_row LsInL2Unknown Drop))
   unfolding stage_place
   at-LsInL2Unknown = single_law LsInL2Unknown Drop refl refl
 
   -- a packet whose sender has a unicast MAC is let in
-  pub at-LsInCheckPortSec : is_multicast (value packet EthSrc) ≡ false → select switch.0 LsInCheckPortSec packet (full_build tables) ≡ Some (row_on switch.0 (next_row LsInCheckPortSec))
+  pub at-LsInCheckPortSec : is_multicast (value packet EthSrc) ≡ false → select switch.0 LsInCheckPortSec (names tables) packet (full_build tables) ≡ Some (row_on switch.0 (next_row LsInCheckPortSec))
   unfolding stage_place
-  at-LsInCheckPortSec from_one = second_law LsInCheckPortSec (record { stage = LsInCheckPortSec; priority = 100; matching = SrcMcast; actions = Drop }) Next refl refl from_one
+  at-LsInCheckPortSec from_one = second_law LsInCheckPortSec (fixed LsInCheckPortSec 100 FromMulticast Drop) Next refl refl from_one
+
+  -- and one whose sender has a multicast MAC meets the row that drops it
+  pub at-LsInCheckPortSec-multicast : is_multicast (value packet EthSrc) ≡ true → select switch.0 LsInCheckPortSec (names tables) packet (full_build tables) ≡ Some (row_on switch.0 multicast_row)
+  unfolding stage_place IsFixedAt
+  at-LsInCheckPortSec-multicast from_many =
+      first_of_takers (names tables) switch.0 LsInCheckPortSec packet (row_on switch.0 multicast_row) (full_build tables) (full_build-in_order tables) (full_build-fixed tables switch multicast_row among (0, omega arith, refl)) refl refl from_many
+      (λ x at in_it takes. by x (table-gives tables switch.0 LsInCheckPortSec x at in_it))
+    where
+      by : (x : Row) → IsFixedAt switch.0 LsInCheckPortSec x ⊎ IsLookupAt tables switch.0 LsInCheckPortSec x → (x ≡ row_on switch.0 multicast_row) ⊎ (is_gt (row_cmp x (row_on switch.0 multicast_row)) ≡ true)
+      by x (inl (f, there, is)) = of_fixed (one_of multicast_row (next_row LsInCheckPortSec ∷ []) f there)
+        where
+          of_fixed : (multicast_row ≡ f) ⊎ Contains (next_row LsInCheckPortSec ∷ []) f → (x ≡ row_on switch.0 multicast_row) ⊎ (is_gt (row_cmp x (row_on switch.0 multicast_row)) ≡ true)
+          of_fixed (inl same) = inl (is ∙ ap (row_on switch.0) (sym same))
+          of_fixed (inr later) = last (one_of (next_row LsInCheckPortSec) [] f later)
+            where
+              last : (next_row LsInCheckPortSec ≡ f) ⊎ Contains [] f → (x ≡ row_on switch.0 multicast_row) ⊎ (is_gt (row_cmp x (row_on switch.0 multicast_row)) ≡ true)
+              last (inl same) = inr (ap (λ (r : Row). is_gt (row_cmp r (row_on switch.0 multicast_row))) (is ∙ ap (row_on switch.0) (sym same)) ∙ next_after switch.0)
+              last (inr none) = absurd (one_of_none f none)
+      by x (inr lookup) = absurd (stage_not (stage_place LsInCheckPortSec) (stage_place LsInL2Lkup) refl (ap stage_place lookup.of_stage))
 
   -- ---- egress
 
-  pub at-LsOutPreAcl : select switch.0 LsOutPreAcl packet (full_build tables) ≡ Some (row_on switch.0 (next_row LsOutPreAcl))
+  pub at-LsOutPreAcl : select switch.0 LsOutPreAcl (names tables) packet (full_build tables) ≡ Some (row_on switch.0 (next_row LsOutPreAcl))
   unfolding stage_place
   at-LsOutPreAcl = single_law LsOutPreAcl Next refl refl
 
-  pub at-LsOutPreStateful : select switch.0 LsOutPreStateful packet (full_build tables) ≡ Some (row_on switch.0 (next_row LsOutPreStateful))
+  pub at-LsOutPreStateful : select switch.0 LsOutPreStateful (names tables) packet (full_build tables) ≡ Some (row_on switch.0 (next_row LsOutPreStateful))
   unfolding stage_place
   at-LsOutPreStateful = single_law LsOutPreStateful Next refl refl
 
-  pub at-LsOutAclEval : select switch.0 LsOutAclEval packet (full_build tables) ≡ Some (row_on switch.0 (next_row LsOutAclEval))
+  pub at-LsOutAclEval : select switch.0 LsOutAclEval (names tables) packet (full_build tables) ≡ Some (row_on switch.0 (next_row LsOutAclEval))
   unfolding stage_place
   at-LsOutAclEval = single_law LsOutAclEval Next refl refl
 
-  pub at-LsOutStateful : select switch.0 LsOutStateful packet (full_build tables) ≡ Some (row_on switch.0 (next_row LsOutStateful))
+  pub at-LsOutStateful : select switch.0 LsOutStateful (names tables) packet (full_build tables) ≡ Some (row_on switch.0 (next_row LsOutStateful))
   unfolding stage_place
   at-LsOutStateful = single_law LsOutStateful Next refl refl
 
   -- a packet for a unicast MAC is let out
-  pub at-LsOutCheckPortSec : is_multicast (value packet EthDst) ≡ false → select switch.0 LsOutCheckPortSec packet (full_build tables) ≡ Some (row_on switch.0 (last_row LsOutCheckPortSec Output))
+  pub at-LsOutCheckPortSec : is_multicast (value packet EthDst) ≡ false → select switch.0 LsOutCheckPortSec (names tables) packet (full_build tables) ≡ Some (row_on switch.0 (last_row LsOutCheckPortSec Output))
   unfolding stage_place
-  at-LsOutCheckPortSec to_one = second_law LsOutCheckPortSec (record { stage = LsOutCheckPortSec; priority = 100; matching = DstMcast; actions = Output }) Output refl refl to_one
+  at-LsOutCheckPortSec to_one = second_law LsOutCheckPortSec (fixed LsOutCheckPortSec 100 ToMulticast Output) Output refl refl (or_false _ to_one)
 
 -- ---- the lookup of a port
 
 -- the fixed rows of the lookup
 flood_row : FixedRow
-flood_row = record { stage = LsInL2Lkup; priority = 100; matching = DstMcast; actions = Flood }
+flood_row = fixed LsInL2Lkup 100 ToMulticast Flood
 
 -- and no others
 fixed_at-lookup : fixed_at LsInL2Lkup ≡ flood_row ∷ next_row LsInL2Lkup ∷ []
@@ -191,41 +229,38 @@ module _ (p : Port → Bool) where
       by false is at (inl same) rest = absurd (false≢true (sym is ∙ ap p same ∙ passes))
       by false is at (inr later) rest = rest at later
 
--- how numbers compare
-cmp_itself : (n : ℕ) → nat_cmp n n ≡ Equal
-cmp_itself n = grind (arith, nat_tests)
-
+-- a higher number is greater
 cmp_above : (a b : ℕ) → b < a → nat_cmp a b ≡ Greater
 cmp_above a b above = grind (arith, nat_tests)
 
 -- a lookup row of the table with a higher number is after another
 later_lookup : (a b : Port) (m n : ℕ) → a.switch ≡ b.switch → b.id.0 < a.id.0 → is_gt (row_cmp (lookup_row a m) (lookup_row b n)) ≡ true
-unfolding row_cmp
+unfolding row_cmp key_cmp
 later_lookup a b m n same above = rw (same, cmp_itself b.switch.0, cmp_itself (stage_place LsInL2Lkup), cmp_itself 50, cmp_above a.id.0 b.id.0 above) refl
 
 -- the last fixed row is after each lookup row of the table
 last_after : (port : Port) (mac : ℕ) → is_gt (row_cmp (row_on port.switch (next_row LsInL2Lkup)) (lookup_row port mac)) ≡ true
-unfolding row_cmp
+unfolding row_cmp key_cmp
 last_after port mac = rw (cmp_itself port.switch.0, cmp_itself (stage_place LsInL2Lkup)) refl
 
 module _ (tables : Tables) (rising : IsRising (port_numbers tables.ports)) (dp : ObjId) (packet : Values) (mac : ℕ) (for : value packet EthDst ≡ mac) (to_one : is_multicast mac ≡ false) where
   -- it is not for all
-  quiet : holds flood_row.matching packet ≡ false
+  quiet : holds (names tables) packet (match_of flood_row.2) ≡ false
   unfolding flood_row
-  quiet = ap is_multicast for ∙ to_one
+  quiet = or_false _ (ap is_multicast for ∙ to_one)
 
   -- a packet for a port's address meets the lookup row of the port, of those that have it the one of the lowest number
-  pub at-LsInL2Lkup-port : (port : Port) → port_to tables.ports dp mac ≡ Some port → select dp LsInL2Lkup packet (full_build tables) ≡ Some (lookup_row port mac)
+  pub at-LsInL2Lkup-port : (port : Port) → port_to tables.ports dp mac ≡ Some port → select dp LsInL2Lkup (names tables) packet (full_build tables) ≡ Some (lookup_row port mac)
   unfolding IsFixedAt
   at-LsInL2Lkup-port port found =
       let there = find_gives (leads_to dp mac) tables.ports port found in
       let of = leads_to-gives dp mac port there.1 in
-      first_of_takers dp LsInL2Lkup packet (lookup_row port mac) (full_build tables) (full_build-in_order tables) (full_build-lookup tables port mac there.0 of.1) of.0 refl (eq-eqb _ _ for)
+      first_of_takers (names tables) dp LsInL2Lkup packet (lookup_row port mac) (full_build tables) (full_build-in_order tables) (full_build-lookup tables port mac there.0 of.1) of.0 refl (eq-eqb _ _ for)
       (λ x at in_it takes. by of.0 x takes (table-gives tables dp LsInL2Lkup x at in_it))
     where
-      fixed : port.switch ≡ dp → (x : Row) → holds x.matching packet ≡ true → (f : FixedRow) → x ≡ row_on dp f → (flood_row ≡ f) ⊎ Contains (next_row LsInL2Lkup ∷ []) f → (x ≡ lookup_row port mac) ⊎ (is_gt (row_cmp x (lookup_row port mac)) ≡ true)
-      fixed of x takes f is (inl first) = absurd (false≢true (sym quiet ∙ ap (λ (g : FixedRow). holds g.matching packet) first ∙ ap (λ (r : Row). holds r.matching packet) (sym is) ∙ takes))
-      fixed of x takes f is (inr later) = last (one_of (next_row LsInL2Lkup) [] f later)
+      of_fixed : port.switch ≡ dp → (x : Row) → holds (names tables) packet x.matching ≡ true → (f : FixedRow) → x ≡ row_on dp f → (flood_row ≡ f) ⊎ Contains (next_row LsInL2Lkup ∷ []) f → (x ≡ lookup_row port mac) ⊎ (is_gt (row_cmp x (lookup_row port mac)) ≡ true)
+      of_fixed of x takes f is (inl first) = absurd (false≢true (sym quiet ∙ ap (λ (g : FixedRow). holds (names tables) packet (match_of g.2)) first ∙ ap (λ (r : Row). holds (names tables) packet r.matching) (sym is) ∙ takes))
+      of_fixed of x takes f is (inr later) = last (one_of (next_row LsInL2Lkup) [] f later)
         where
           last : (next_row LsInL2Lkup ≡ f) ⊎ Contains [] f → (x ≡ lookup_row port mac) ⊎ (is_gt (row_cmp x (lookup_row port mac)) ≡ true)
           last (inl same) =
@@ -237,26 +272,25 @@ module _ (tables : Tables) (rising : IsRising (port_numbers tables.ports)) (dp :
       other of x q m of_q is same (inl one) = inl (is ∙ ap (λ p. lookup_row p m) one ∙ ap (lookup_row port) same)
       other of x q m of_q is same (inr above) = inr (ap (λ (r : Row). is_gt (row_cmp r (lookup_row port mac))) is ∙ later_lookup q port m mac (of_q ∙ sym of) above)
 
-      by : port.switch ≡ dp → (x : Row) → holds x.matching packet ≡ true → IsFixedAt dp LsInL2Lkup x ⊎ IsLookupAt tables dp LsInL2Lkup x → (x ≡ lookup_row port mac) ⊎ (is_gt (row_cmp x (lookup_row port mac)) ≡ true)
-      by of x takes (inl (f, there, is)) = fixed of x takes f is (one_of flood_row (next_row LsInL2Lkup ∷ []) f (subst (λ fs. Contains fs f) fixed_at-lookup there))
+      by : port.switch ≡ dp → (x : Row) → holds (names tables) packet x.matching ≡ true → IsFixedAt dp LsInL2Lkup x ⊎ IsLookupAt tables dp LsInL2Lkup x → (x ≡ lookup_row port mac) ⊎ (is_gt (row_cmp x (lookup_row port mac)) ≡ true)
+      by of x takes (inl (f, there, is)) = of_fixed of x takes f is (one_of flood_row (next_row LsInL2Lkup ∷ []) f (subst (λ fs. Contains fs f) fixed_at-lookup there))
       by of x takes (inr lookup) =
-          let hit : eqb (value packet EthDst) lookup.mac ≡ true = sym (ap (λ (r : Row). holds r.matching packet) lookup.is) ∙ takes in
+          let hit : eqb (value packet EthDst) lookup.mac ≡ true = sym (ap (λ (r : Row). holds (names tables) packet r.matching) lookup.is) ∙ takes in
           let same : lookup.mac ≡ mac = sym (eqb-true _ _ hit) ∙ for in
           other of x lookup.port lookup.mac lookup.of_switch lookup.is same
           (find_lowest (leads_to dp mac) tables.ports port lookup.port rising found lookup.among (leads_to-from dp mac lookup.port lookup.of_switch (lookup.address ∙ ap Some same)))
 
 -- a packet for an address that no port has is led on
 pub at-LsInL2Lkup-none : (tables : Tables) (switch : Switch) → Contains tables.switches switch → (packet : Values) (mac : ℕ) → value packet EthDst ≡ mac → is_multicast mac ≡ false
-    → port_to tables.ports switch.0 mac ≡ None → select switch.0 LsInL2Lkup packet (full_build tables) ≡ Some (row_on switch.0 (next_row LsInL2Lkup))
+    → port_to tables.ports switch.0 mac ≡ None → select switch.0 LsInL2Lkup (names tables) packet (full_build tables) ≡ Some (row_on switch.0 (next_row LsInL2Lkup))
 unfolding flood_row
 at-LsInL2Lkup-none tables switch among packet mac for to_one none =
-    let fixed = next_row LsInL2Lkup in
-    stage_law tables switch among LsInL2Lkup packet (flood_row ∷ []) fixed fixed_at-lookup
-    refl refl (ap is_multicast for ∙ to_one, tt) (λ row lookup. by row lookup (holds row.matching packet) refl)
+    stage_law tables switch among LsInL2Lkup packet (flood_row ∷ []) (next_row LsInL2Lkup) fixed_at-lookup
+    refl refl (or_false _ (ap is_multicast for ∙ to_one), tt) (λ row lookup. by row lookup (holds (names tables) packet row.matching) refl)
   where
-    by : (row : Row) → IsLookupAt tables switch.0 LsInL2Lkup row → (b : Bool) → holds row.matching packet ≡ b → holds row.matching packet ≡ false
+    by : (row : Row) → IsLookupAt tables switch.0 LsInL2Lkup row → (b : Bool) → holds (names tables) packet row.matching ≡ b → holds (names tables) packet row.matching ≡ false
     by row lookup false is = is
     by row lookup true is =
-        let hit : eqb (value packet EthDst) lookup.mac ≡ true = sym (ap (λ (r : Row). holds r.matching packet) lookup.is) ∙ is in
+        let hit : eqb (value packet EthDst) lookup.mac ≡ true = sym (ap (λ (r : Row). holds (names tables) packet r.matching) lookup.is) ∙ is in
         let same : lookup.mac ≡ mac = sym (eqb-true _ _ hit) ∙ for in
         absurd (find_none (leads_to switch.0 mac) tables.ports lookup.port none lookup.among (leads_to-from switch.0 mac lookup.port lookup.of_switch (lookup.address ∙ ap Some same)))

@@ -1,58 +1,60 @@
--- The walk of a frame for a unicast MAC through a switch, by the switch's rows.
-use Rattle.std.specs.Prelude.{◌≡◌, ℕ, Bool, false, ◌&&◌, ◌==◌, if◌then◌else◌, List, [], ◌∷◌, ◌++◌, Option, Some, None, map, Contains}
+-- The walk of a packet through a datapath by its rows.
+use Rattle.std.specs.Prelude.{◌≡◌, zero, false, List, map, Option, Some, None, Contains}
 use Rattle.std.specs.List.{filter_map}
 use Rattle.nv_base.specs.declared.object.ObjId.{ObjId}
-use Rattle.nv_base.specs.declared.field.Field.TheVariants.{Inport, Outport, FlagsLoopback}
-use Rattle.pkt_core.specs.Packet.{Values, value, with_value, headers}
-use Rattle.sb_rows.specs.declared.row.Row.{Row}
+use Rattle.nv_base.specs.declared.field.Field.TheVariants.{EthDst}
+use Rattle.pkt_core.specs.Packet.{Values, value}
 use Rattle.nb_model.specs.Address.{is_multicast}
-use Rattle.sb_rows.specs.declared.stage.Pipeline.TheVariants.{Ingress, Egress}
-use Rattle.net_meaning.specs.declared.cause.Cause.TheVariants.{SamePort}
-use Rattle.tr_stage.specs.declared.outcome.Outcome.TheVariants.{Leave, Deliver, Drop}
-use Rattle.tr_stage.specs.Machine.{PipelineEnd, PipelineRun, run_pipeline}
-use Rattle.tr_stage.specs.Machine.PipelineEnd.{Ended, Stuck}
-use Rattle.tr_walk.specs.declared.event.Event.{Event}
-use Rattle.tr_walk.specs.declared.event.Event.TheVariants as events
+use Rattle.nb_model.specs.declared.port.Port.{Port}
+use Rattle.nb_model.specs.Names.{names}
+use Rattle.nb_model.specs.Network.{Tables}
 use Rattle.net_meaning.specs.declared.event.PlainEvent.{PlainEvent}
 use Rattle.net_meaning.specs.declared.event.PlainEvent.TheVariants as plain
-use Rattle.net_meaning.specs.SwitchMeaning.{frame_for, meaning}
-use Rattle.nb_model.specs.declared.port.Port.{Port}
-use Rattle.nb_model.specs.Network.{Tables}
+use Rattle.net_meaning.specs.Frame.{Passed, Part, Parts, Told, walk}
+use Rattle.net_meaning.specs.Frame.Passed.{GoesOn, Drops}
+use Rattle.net_meaning.specs.Frame.Told.{Note, Happens}
+use Rattle.net_meaning.specs.SwitchMeaning.{meaning}
 use Rattle.nd_full.specs.FullBuild.{full_build}
+use Rattle.sb_model.specs.declared.stage.Pipeline.TheVariants.{Ingress, Egress}
+use Rattle.tr_stage.specs.declared.outcome.Hit.{Hit}
+use Rattle.tr_stage.specs.declared.outcome.Outcome.{Outcome}
+use Rattle.tr_stage.specs.declared.outcome.Outcome.TheVariants.{Leave, Deliver, Drop}
+use Rattle.tr_stage.specs.Machine.{Flows, PipelineRun, flows_of, run_pipeline}
+use Rattle.tr_walk.specs.declared.event.Event.{Event}
+use Rattle.tr_walk.specs.declared.event.Event.TheVariants as events
 
--- a frame for this address, as it arrives at a port
-abbrev pub arriving : ObjId → ℕ → Values
-arriving port mac = with_value (frame_for mac) Inport port.0
+-- what becomes of a packet after ingress: it goes on to the whole of egress, or it is dropped
+abbrev pub after_ingress : Option Outcome → Option Passed
+after_ingress (Some (Leave packet zero)) = Some (GoesOn packet)
+after_ingress (Some (Drop cause)) = Some (Drops cause)
+after_ingress _ = None
 
--- whether a packet would go back by the port that it came in by
-abbrev pub is_sent_back : Values → Bool
-is_sent_back packet = (value packet Outport == value packet Inport) && (value packet FlagsLoopback == 0)
+-- and after egress: it goes out, or it is dropped
+abbrev pub after_egress : Option Outcome → Option Passed
+after_egress (Some (Deliver packet)) = Some (GoesOn packet)
+after_egress (Some (Drop cause)) = Some (Drops cause)
+after_egress _ = None
 
--- the hits of a pipeline's run, and then more events
-abbrev pub with_hits : PipelineRun → List Event → List Event
-with_hits run more = map events.Hit run.hits ++ more
+-- a pipeline's run as a part of a walk
+abbrev pub part_of : (Option Outcome → Option Passed) → PipelineRun → Part Hit
+part_of after run = record { notes = run.hits; passed = after run.outcome }
 
--- what happens at the end of egress: a packet is delivered at its port, or dropped
-abbrev pub delivered : ObjId → PipelineEnd → List Event
-delivered dp Stuck = []
-delivered dp (Ended (Leave packet table)) = []
-delivered dp (Ended (Deliver packet)) = events.Output (record { 0 = value packet Outport }) (headers packet) ∷ []
-delivered dp (Ended (Drop cause)) = events.Drop dp cause ∷ []
+-- the pipelines of a datapath as the parts of a walk
+abbrev pub pipelines : Flows → Parts Hit
+pipelines flows = record {
+  arriving = λ packet. part_of after_ingress (run_pipeline flows Ingress 0 packet);
+  leaving = λ packet. part_of after_egress (run_pipeline flows Egress 0 packet);
+}
 
--- what happens to a packet in egress
-abbrev pub leaving : List Row → ObjId → Values → List Event
-leaving rows dp packet = with_hits (run_pipeline rows dp Egress packet) (delivered dp (run_pipeline rows dp Egress packet).ending)
+-- an event of a walk by rows: a hit, or what becomes of the packet
+abbrev pub event_of : Told Hit → Event
+event_of (Note hit) = events.Hit hit
+event_of (Happens (plain.Output port packet)) = events.Output port packet
+event_of (Happens (plain.Drop dp cause)) = events.Drop dp cause
 
--- what happens at the end of ingress: a packet goes on to egress or is dropped, and none goes back by its own port
-abbrev pub arrived : List Row → ObjId → PipelineEnd → List Event
-arrived rows dp Stuck = []
-arrived rows dp (Ended (Leave packet table)) = if is_sent_back packet then events.Drop dp SamePort ∷ [] else leaving rows dp packet
-arrived rows dp (Ended (Deliver packet)) = []
-arrived rows dp (Ended (Drop cause)) = events.Drop dp cause ∷ []
-
--- the events of a frame for this address that arrives at this port of the switch
-abbrev pub machine : List Row → ObjId → ObjId → ℕ → List Event
-machine rows dp port mac = with_hits (run_pipeline rows dp Ingress (arriving port mac)) (arrived rows dp (run_pipeline rows dp Ingress (arriving port mac)).ending)
+-- the events of a packet that comes into the datapath by a port, where its rows decide
+abbrev pub machine : Flows → ObjId → Values → List Event
+machine flows port packet = map event_of (walk (pipelines flows) flows.dp port packet)
 
 -- what an event says of the packet; a hit says nothing
 abbrev pub plain_event : Event → Option PlainEvent
@@ -64,8 +66,12 @@ plain_event (events.Drop dp cause) = Some (plain.Drop dp cause)
 abbrev pub without_hits : List Event → List PlainEvent
 without_hits all = filter_map plain_event all
 
--- what a switch's rows do with each frame for a unicast MAC is, hits left out, what the switch does with it
+-- the rows of a network and what names mean in it, at one of its datapaths
+abbrev pub flows_at : Tables → ObjId → Flows
+flows_at tables dp = flows_of (full_build tables) (names tables) dp
+
+-- what a switch's rows do with each packet for a unicast MAC is, hits left out, what the switch does with it
 abbrev pub IsRefined : Tables → Type 0
 IsRefined tables =
-    (arrival : Port) (mac : ℕ) → Contains tables.ports arrival → is_multicast mac ≡ false
-    → without_hits (machine (full_build tables) arrival.switch arrival.id mac) ≡ meaning tables.ports arrival mac
+    (arrival : Port) (packet : Values) → Contains tables.ports arrival → is_multicast (value packet EthDst) ≡ false
+    → without_hits (machine (flows_at tables arrival.switch) arrival.id packet) ≡ meaning tables.ports arrival packet

@@ -1,6 +1,6 @@
 -- What a session keeps besides the network.
 use Rattle.std.specs.Prelude.{◌≡◌, List, Option, Some, None}
-use Rattle.sb_rows.specs.declared.row.Row.{Row}
+use Rattle.sb_model.specs.declared.row.Row.{Row}
 use Rattle.nb_model.specs.Network.{Tables}
 use Rattle.nb_model.specs.Sound.{IsSound}
 use Rattle.nd_full.specs.FullBuild.{full_build}

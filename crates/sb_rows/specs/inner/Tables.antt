@@ -1,15 +1,19 @@
 -- The tables among all rows, by which a search finds the rows of one.
-use Rattle.std.specs.Prelude.{ℕ, ◌+◌, ◌*◌, List, filter}
+use Rattle.std.specs.Prelude.{ℕ, ◌+◌, ◌*◌, Bool, List, [], ◌∷◌, Option, Some, None, if◌then◌else◌}
 use Rattle.nv_base.specs.declared.object.ObjId.{ObjId}
-use Rattle.sb_rows.specs.declared.stage.Stage.{Stage}
-use Rattle.sb_rows.specs.declared.row.Row.{Row}
-use Rattle.sb_rows.specs.Stage.{stage_place}
-use Rattle.sb_rows.specs.Match.{is_in_table}
+use Rattle.sb_model.specs.declared.stage.Stage.{Stage}
+use Rattle.sb_model.specs.declared.row.Row.{Row}
+use Rattle.sb_model.specs.Stage.{stage_place}
 
 -- the place of a table among all: by datapath, then by stage
 abbrev pub table_key : ObjId → Stage → ℕ
 table_key dp stage = dp.0 * 32 + stage_place stage
 
--- the rows of one table
-abbrev pub rows_of_table : ObjId → Stage → List Row → List Row
-rows_of_table dp stage rows = filter (is_in_table dp stage) rows
+-- the place of a row's table
+abbrev pub key_of : Row → ℕ
+key_of r = table_key r.dp r.stage
+
+-- the first element that passes a test, before the first that does not belong
+abbrev pub find_while : {X : Type 0} → (X → Bool) → (X → Bool) → List X → Option X
+find_while belongs passes [] = None
+find_while belongs passes (x ∷ xs) = if belongs x then (if passes x then Some x else find_while belongs passes xs) else None

@@ -5,7 +5,7 @@ use Rattle.nv_base.specs.inner.Exact as tells
 use Rattle.nv_base.specs.inner.Exact.{Tells}
 use Rattle.net_meaning.specs.inner.Exact as of_meaning
 use Rattle.pkt_core.specs.Packet.{Values}
-use Rattle.sb_rows.specs.inner.Exact as of_rows
+use Rattle.sb_model.specs.inner.Exact as of_rows
 use Rattle.tr_stage.specs.contracts.outcome.HitPartialEq.TheImpl as hit_eq
 use Rattle.tr_stage.specs.contracts.outcome.OutcomePartialEq.TheImpl as outcome_eq
 use Rattle.tr_stage.specs.declared.outcome.Outcome.TheVariants.{Leave, Deliver, Drop}

@@ -5,4 +5,4 @@ use Rattle.sb_rows.proofs.listing.put_rows.Goals as goal
 pub returns-in_err-put_row_line-clause-err : goal.returns-in_err-put_row_line-clause-err
 returns-in_err-put_row_line-clause-err c =
     let p = err_from_is_err_and c.from_residual.result c.from_residual.ensures.1 in
-    rw (p.1) (tail_more _ _ _ _ c.loop-row.invariant c.in_err-put_row_line.ensures.err)
+    rw (p.1) (tail_more _ _ _ _ c.loop-stored.invariant c.in_err-put_row_line.ensures.err)

@@ -15,5 +15,5 @@ invariant_of-self-in-Ok c =
     rw c.in_ok-push.ensures.items (
       c.self.invariant.0,
       λ name. port_indexed _ _ _ c.in_ok-key.key name before.ports _ same (c.len-place.ensures ∙ c.self.inside.ports.ok.0) new (c.self.invariant.1 name) (c.in-Ok.ensures.updates.0 name),
-      port_holds before c.args.switch c.args.name c.self.invariant.2 (subst (λ tables. Contains (switch_numbers tables.switches) c.args.switch.0) (sym c.self.view_is) c.requires.on) new,
+      port_holds before c.args.switch c.args.name c.self.invariant.2 c.requires.named (subst (λ tables. Contains (switch_numbers tables.switches) c.args.switch.0) (sym c.self.view_is) c.requires.on) new,
     )

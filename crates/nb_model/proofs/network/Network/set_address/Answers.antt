@@ -24,7 +24,7 @@ invariant_of-self c =
     rw same (
       c.self.invariant.0,
       λ other. c.self.invariant.1 other ∙ sym (place_addressed items name c.args.mac other),
-      address_holds (record { switches = c.self.inside.switches.items; ports = items; next = c.self.inside.next }) name c.args.mac c.self.invariant.2,
+      address_holds (record { switches = c.self.inside.switches.items; ports = items; next = c.self.inside.next }) name c.args.mac c.self.invariant.2 c.requires.unicast,
     )
 
 pub returns-in-Some : goal.returns-in-Some
@@ -40,4 +40,4 @@ pub returns-in_default : goal.returns-in_default
 returns-in_default c =
     let none : port_place c.self.inside.ports.items c.args.name.now ≡ None = sym (c.self.invariant.1 c.args.name.now) ∙ sym c.get.ensures.value ∙ ap option_copied c.in_default.is in
     let named : port_named c.args.self.now.ports c.args.name.now ≡ None = ap (λ tables. port_named tables.ports c.args.name.now) (sym c.self.view_is) ∙ no_place c.self.inside.ports.items c.args.name.now none in
-    absurd (false≢true (rw named at c.requires))
+    absurd (false≢true (rw named at c.requires.there))

@@ -4,7 +4,7 @@ use Rattle.nv_serve.proofs.session.Session.trace.Goals as goal
 
 -- each packet comes to an end in the rows of the network
 pub trace-requires : goal.trace-requires
-trace-requires c = rw c.in_ok-rows.ensures.rows.built (runnable c.args.self.now c.args.dp c.requires)
+trace-requires c = rw (c.in_ok-rows.ensures.rows.built, c.self.view_is, c.in_ok-rows.ensures.same) (runnable c.args.self.now c.args.dp c.in_ok-rows.ensures.rows.sound c.requires)
 
 -- the rows do what the switch does
 pub returns-clause-refinement : goal.returns-clause-refinement

@@ -1,7 +1,7 @@
 use Rattle.std.proofs.Common.{ltb, leb, drop, rules}
 use Rattle.std.proofs.lemmas.List.{take_rest}
 use Rattle.std.proofs.lemmas.List.Sorted.{IsPartitionPoint-from_clause, IsPartitionedBy-ltb, IsPartitionedBy-leb, IsNonDecreasingBy-drop}
-use Rattle.sb_rows.specs.declared.row.Row.{Row}
+use Rattle.sb_model.specs.declared.row.Row.{Row}
 use Rattle.sb_rows.proofs.Order.{dps_rise}
 use Rattle.sb_rows.proofs.Section.{section_at}
 use Rattle.sb_rows.proofs.rows.Rows.of_datapath.Goals as goal

@@ -1,24 +1,28 @@
 use Rattle.std.proofs.Common.{◌++◌, rules}
 use Rattle.std.specs.Ordering.{is_lt}
 use Rattle.std.specs.List.Sorted.{IsPermutation}
+use Rattle.std.proofs.lemmas.List.Elements.{All-append}
 use Rattle.std.proofs.lemmas.List.Sorted.{ranks_by, answers_always}
-use Rattle.sb_rows.specs.declared.row.Row.{Row}
-use Rattle.sb_rows.specs.Row.{row_cmp, IsInRowOrder}
+use Rattle.sb_model.specs.declared.row.Row.{Row}
+use Rattle.sb_rows.specs.Row.{row_cmp, IsInRowOrder, HasTypedMatch}
 use Rattle.sb_rows.proofs.AllAtOnce.{sorted_is_put, sorted_are_rows}
 use Rattle.sb_rows.proofs.Order.{row_cmp_total}
 use Rattle.sb_rows.proofs.rows.Rows.put_all.Goals as goal
-use Rattle.sb_rows.proofs.rows.Rows.put_all.Goals.{After-drop-rows-in-Ok}
+use Rattle.sb_rows.proofs.rows.Rows.put_all.Goals.{After-drop-stored-in-Ok}
 
 -- the sort moves the rows that were there and the new ones
-moved : (c : After-drop-rows-in-Ok) → IsPermutation (c.self.inside.sorted.items ++ c.args.rows.items) c.sort_by.new.self.items
-moved c = rw c.in_ok-append.ensures.items at c.sort_by.ensures.permutation
+moved : (c : After-drop-stored-in-Ok) → IsPermutation (c.self.inside.sorted.items ++ c.args.rows.items) c.sort_by.new.self.items
+moved c = rw (c.in_ok-append.ensures.items, c.in_ok-stored.ensures) at c.sort_by.ensures.permutation
 
 -- and leaves them in order
-ordered : (c : After-drop-rows-in-Ok) → IsInRowOrder c.sort_by.new.self.items
+ordered : (c : After-drop-stored-in-Ok) → IsInRowOrder c.sort_by.new.self.items
 ordered c = c.in-Ok.ensures.sorted (λ x y. is_lt (row_cmp x y)) (ranks_by row_cmp_total (λ (r : Row). r)) (answers_always _ _ _ (λ f a r g called. search rules))
 
 pub invariant_of-self-in-Ok : goal.invariant_of-self-in-Ok
-invariant_of-self-in-Ok c = sorted_are_rows c.self.inside.sorted.items c.args.rows.items _ (rw (← c.self.view_is) at c.requires) (moved c) (ordered c)
+invariant_of-self-in-Ok c =
+    let rows = c.self.inside.sorted.items in
+    let typed = All-append HasTypedMatch rows c.args.rows.items c.self.invariant.typed c.requires.typed in
+    sorted_are_rows rows c.args.rows.items _ (rw (← c.self.view_is) at c.requires.apart) typed (moved c) (ordered c)
 
 pub returns-in-Ok-clause-ok : goal.returns-in-Ok-clause-ok
-returns-in-Ok-clause-ok c = rw (← c.self.view_is) (sorted_is_put c.self.inside.sorted.items c.args.rows.items _ c.self.invariant.ordered (rw (← c.self.view_is) at c.requires) (moved c) (ordered c))
+returns-in-Ok-clause-ok c = rw (← c.self.view_is) (sorted_is_put c.self.inside.sorted.items c.args.rows.items _ c.self.invariant.ordered (rw (← c.self.view_is) at c.requires.apart) (moved c) (ordered c))

@@ -1,0 +1,3 @@
+pub mod Facts
+pub mod Same
+pub mod Stages

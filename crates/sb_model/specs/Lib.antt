@@ -1,0 +1,3 @@
+pub mod Make
+pub mod Stage
+pub mod inner

@@ -1,0 +1,83 @@
+//! The searches among rows in order.
+ghost use Rattle.std.specs.Prelude.{◌≡◌, ◌≤◌, ◌==◌, true, false, length, Contains, IfSome, IfNone, IsTrue, ◌↔◌};
+ghost use Rattle.std.specs.List.Sorted.{IsPartitionPoint};
+ghost use Rattle.std.specs.Option.{option_copied};
+ghost use Rattle.std.specs.Ordering.{is_le};
+ghost use Rattle.expr_eval.specs.MatchMeaning.{holds};
+ghost use Rattle.sb_rows.specs.Row.{IsInRowOrder, row_cmp};
+ghost use Rattle.sb_rows.specs.inner.Places.{IsAt};
+ghost use Rattle.sb_rows.specs.inner.Tables.{key_of, find_while};
+
+use crate::stored::Stored;
+use expr_core::Env;
+use expr_eval::holds;
+use pkt_core::Packet;
+use sb_model::Row;
+
+// Where a row goes among rows in order: after all that are not after it. Rows mostly come in order, so the last one
+// is looked at first.
+pub(crate) fn place_among(rows: &[Stored], row: &Stored) -> usize
+    requires { IsInRowOrder rows.now }
+    ensures bound { result ≤ length rows.now }
+    ensures point { IsPartitionPoint (λ y. is_le (row_cmp y row.now) ≡ true)
+        (λ y. is_le (row_cmp y row.now) ≡ false) rows.now result }
+{
+    match rows.last() {
+        Some(last) if last.order(row).is_le() => rows.len(),
+        _ => rows.partition_point(|there| there.order(row).is_le()),
+    }
+}
+
+// The place of a row among rows in order, if it is there. Matches and actions are compared only with rows that agree in
+// all else.
+pub(crate) fn place_of(rows: &[Stored], row: &Row) -> Option<usize>
+    requires { IsInRowOrder rows.now }
+    ensures there { IfSome result (λ at. IsAt row.now rows.now at) }
+    ensures absent { IfNone result (¬ Contains rows.now row.now) }
+{
+    let low = rows.partition_point(|there| there.key_order(row).is_lt());
+    let from_low = &rows[low..];
+    let count = from_low.partition_point(|there| there.key_order(row).is_le());
+    let at = place_in(&from_low[..count], row)?;
+    Some(low + at)
+}
+
+// The place of a row among these, if it is there.
+fn place_in(rows: &[Stored], row: &Row) -> Option<usize>
+    ensures there { IfSome result (λ at. IsAt row.now rows.now at) }
+    ensures absent { IfNone result (¬ Contains rows.now row.now) }
+{
+    for (at, there) in rows.iter().enumerate() {
+        if is_same(there.row(), row) {
+            return Some(at);
+        }
+    }
+    None
+}
+
+fn is_same(a: &Row, b: &Row) -> bool
+    ensures { IsTrue result ↔ (a.now ≡ b.now) }
+{
+    a == b
+}
+
+// The first row whose match holds of the packet, among those of the table of this key with which the rows begin.
+pub(crate) fn first_that_holds<'r, E: Env>(
+    rows: &'r [Stored],
+    key: u64,
+    packet: &Packet,
+    env: &E,
+) -> Option<&'r Row>
+    ensures { option_copied result ≡ find_while (λ r. key_of r == key)
+        (λ r. holds (E.lookup env.now) packet.now r.matching) rows.now }
+{
+    for stored in rows {
+        if stored.table_key() != key {
+            return None;
+        }
+        if holds(&stored.row().matching, packet, env) {
+            return Some(stored.row());
+        }
+    }
+    None
+}

@@ -1,0 +1,111 @@
+//! What the actions of a row do to a packet.
+ghost use Rattle.std.specs.Prelude.{◌≡◌, IsTrue, Some};
+ghost use Rattle.act_core.specs.WellFormed.{is_step, is_well_formed};
+ghost use Rattle.expr_core.specs.Lookup.{Lookup};
+ghost use Rattle.pkt_core.specs.Packet.{Values};
+ghost use Rattle.sb_model.specs.declared.stage.Stage as stages;
+ghost use Rattle.tr_stage.specs.Machine.{number_of, effect, run_actions};
+ghost use Rattle.tr_stage.specs.Machine.Effect.{Changed, Done};
+ghost use Rattle.tr_stage.specs.Runnable.{is_change, may_end, are_run};
+ghost use Rattle.tr_stage.specs.inner.Ending.{with_packet};
+
+use crate::Cause;
+use crate::cause::cause_at;
+use crate::part::set_part;
+use act_core::{Action, Step};
+use expr_core::Env;
+use nv_base::{Field, Name};
+use pkt_core::Packet;
+use sb_model::{Pipeline, Stage};
+
+// The number of the multicast group `_MC_flood`, which is each port of the datapath.
+const FLOOD_GROUP: u32 = 4_294_967_295;
+
+// The number of the multicast group `_MC_unknown`, which is each port for unknown addresses.
+const UNKNOWN_GROUP: u32 = 4_294_967_294;
+
+/// How a packet's step through a stage ends, but for the packet.
+#[derive(Clone, Copy)]
+pub(crate) enum Ending {
+    /// It goes on at this stage.
+    On(Stage),
+    /// It goes out of this pipeline.
+    Sent(Pipeline),
+    /// It is dropped.
+    Dropped(Cause),
+}
+
+/// Does the actions of a row, one after the other, and answers how the step ends.
+pub(crate) fn run_actions<E: Env>(
+    env: &E,
+    stage: Stage,
+    actions: &[Action],
+    packet: &mut Packet,
+) -> Ending
+    requires formed { IsTrue (is_well_formed actions.now) }
+    requires run { IsTrue (are_run (E.lookup env.now) stage actions.now) }
+    ensures { run_actions (E.lookup env.now) stage actions.now packet.old ≡ with_packet result packet.new }
+{
+    let mut rest = actions;
+    while let Some((first, others)) = rest.split_first() {
+        let Action::Step(step) = first else {
+            unreachable!()
+        };
+        if others.is_empty() {
+            return end(stage, step);
+        }
+        change(env, step, packet);
+        rest = others;
+    }
+    unreachable!()
+}
+
+// Does an assignment or an exchange.
+fn change<E: Env>(env: &E, step: &Step, packet: &mut Packet)
+    requires formed { IsTrue (is_step step.now) }
+    requires change { IsTrue (is_change (E.lookup env.now) step.now) }
+    ensures { (stage : stages.Stage) → effect (E.lookup env.now) stage step.now packet.old ≡ Changed packet.new }
+{
+    match step {
+        Step::Set(field, bits, constant) => set_part(packet, *field, *bits, constant.value),
+        Step::Copy(field, bits, from) => {
+            let number = packet.get(*from);
+            set_part(packet, *field, *bits, number);
+        }
+        Step::SetOutport(name) => match number_of(env, name) {
+            Some(number) => packet.set(Field::Outport, u128::from(number)),
+            None => unreachable!(),
+        },
+        Step::Exchange(one, other) => packet.exchange(*one, *other),
+        _ => unreachable!(),
+    }
+}
+
+// The last action of a row.
+fn end(stage: Stage, step: &Step) -> Ending
+    requires { IsTrue (may_end stage step.now) }
+    ensures { (net : Lookup) (packet : Values) → effect net stage step.now packet ≡ Done (with_packet result packet) }
+{
+    match step {
+        Step::Next => match stage.next() {
+            Some(next) => Ending::On(next),
+            None => unreachable!(),
+        },
+        Step::Output => Ending::Sent(stage.pipeline()),
+        Step::Drop => Ending::Dropped(cause_at(stage)),
+        _ => unreachable!(),
+    }
+}
+
+// What `outport` becomes for a name.
+fn number_of<E: Env>(env: &E, name: &Name) -> Option<u32>
+    ensures { result ≡ number_of (E.lookup env.now) name.now }
+{
+    if name.as_slice() == b"_MC_flood".as_slice() {
+        Some(FLOOD_GROUP)
+    } else if name.as_slice() == b"_MC_unknown".as_slice() {
+        Some(UNKNOWN_GROUP)
+    } else {
+        env.port(name).map(|port| port.0)
+    }
+}

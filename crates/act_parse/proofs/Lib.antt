@@ -15,3 +15,7 @@ pub mod Constants
 pub mod Written
 pub mod WrittenSteps
 pub mod WrittenActions
+pub mod Viable
+pub mod ViableSteps
+pub mod ViableFields
+pub mod ViableActions

@@ -18,7 +18,7 @@ use Rattle.act_parse.specs.Reading.Reading.{Read, Stuck}
 use Rattle.act_parse.proofs.TakesTokens.{same_bytes, and_then_read, read_same, token_takes, tokens_take, ended_is, word_takes, find_passes}
 use Rattle.act_parse.proofs.TakesFields.{step_takes}
 
-spaced_takes : (text : List ℕ) (s : Step) (rest : List ℕ) → reading.spaced_step text ≡ Read s rest → (text ≡ spaced_text s ++ rest) × (is_step s ≡ true)
+pub spaced_takes : (text : List ℕ) (s : Step) (rest : List ℕ) → reading.spaced_step text ≡ Read s rest → (text ≡ spaced_text s ++ rest) × (is_step s ≡ true)
 spaced_takes text s rest e =
     let parts = and_then_read (reading.step text) (λ s rest. and_then (token (codes " ") rest) (λ _ rest. Read s rest)) s rest e in
     let one = step_takes text parts.0 parts.1 parts.2 in
@@ -52,7 +52,7 @@ steps_take (suc n) before text all rest e = go (is_at (codes "}") text) e (λ s 
           and_from _ _ one.1 others.3,
         )
 
-all_steps_take : (text : List ℕ) (ss : List Step) (rest : List ℕ) → reading.all_steps text ≡ Read ss rest → (text ≡ joined spaced_text [] [] ss ++ rest) × (is_block ss ≡ true)
+pub all_steps_take : (text : List ℕ) (ss : List Step) (rest : List ℕ) → reading.all_steps text ≡ Read ss rest → (text ≡ joined spaced_text [] [] ss ++ rest) × (is_block ss ≡ true)
 all_steps_take text ss rest e =
     let parts = and_then_read (reading.spaced_step text) (λ s rest. reading.steps (suc (length rest)) (s ∷ []) rest) ss rest e in
     let one = spaced_takes text parts.0 parts.1 parts.2 in
@@ -79,19 +79,19 @@ block_takes name text ss rest e =
       two.1,
     ))
 
-block_written : (k : Block) (ss : List Step) → action_text (block_action k ss) ≡ block_text (block_name k) ss
+pub block_written : (k : Block) (ss : List Step) → action_text (block_action k ss) ≡ block_text (block_name k) ss
 block_written Arp ss = refl
 block_written Icmp4 ss = refl
 block_written TcpReset ss = refl
 block_written Reject ss = refl
 
-block_good : (k : Block) (ss : List Step) → is_action (block_action k ss) ≡ is_block ss
+pub block_good : (k : Block) (ss : List Step) → is_action (block_action k ss) ≡ is_block ss
 block_good Arp ss = refl
 block_good Icmp4 ss = refl
 block_good TcpReset ss = refl
 block_good Reject ss = refl
 
-action_takes : (text : List ℕ) (a : Action) (rest : List ℕ) → reading.action text ≡ Read a rest → (text ≡ action_text a ++ rest) × (is_action a ≡ true)
+pub action_takes : (text : List ℕ) (a : Action) (rest : List ℕ) → reading.action text ≡ Read a rest → (text ≡ action_text a ++ rest) × (is_action a ≡ true)
 action_takes text a rest e = go (block_of (word text)) refl e
   where
     P : Action → Type 0

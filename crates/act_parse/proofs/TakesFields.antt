@@ -67,11 +67,15 @@ bits_take width text b rest e = go (is_at (codes "[") text) refl e
         let same = read_same _ _ _ _ e in
         subst (AreBits width text rest) same.0 (same.1, refl)
 
+pub bits_taken : (width : ℕ) (text : List ℕ) (b : Bits) (rest : List ℕ) → reading.bits width text ≡ Read b rest → (text ≡ bits_text b ++ rest) × (are_bits_of width b ≡ true)
+unfolding AreBits
+bits_taken width text b rest e = bits_take width text b rest e
+
 -- the field that is found has the name
 pub field_found : (w : List ℕ) (f : Field) → field_of w ≡ Some f → w ≡ field_name f
 field_found w f e = sym (same_bytes (field_name f) w (find_passes (λ g. is_named g w) all_fields f e))
 
-field_takes : (width : ℕ) (text : List ℕ) (f : Field) (rest : List ℕ) → reading.field_of_width width text ≡ Read f rest → (text ≡ field_name f ++ rest) × (eqb (field_width f) width ≡ true)
+pub field_takes : (width : ℕ) (text : List ℕ) (f : Field) (rest : List ℕ) → reading.field_of_width width text ≡ Read f rest → (text ≡ field_name f ++ rest) × (eqb (field_width f) width ≡ true)
 field_takes width text f rest e = go (field_of (word text)) refl e
   where
     go : (o : Option Field) → field_of (word text) ≡ o → reading.named_field width text o ≡ Read f rest → (text ≡ field_name f ++ rest) × (eqb (field_width f) width ≡ true)
@@ -121,6 +125,12 @@ value_takes f b text s rest good e = go (constant text) refl e
         ended_is (Takes (part_text f b ++ codes " = ") text rest) (Set f b c.0) s (codes ";" ∷ []) c.1 rest passed.1
         (λ took. (value_text (part_text f b) (const_text c.0) text rest (number ∙ ap (λ xs. const_text c.0 ++ xs) took), and_from _ _ good passed.0))
 
+pub same_number : (n : ℕ) → eqb n n ≡ true
+same_number n = grind (arith, nat_tests)
+
+pub same_width : (w : ℕ) (g : Field) → eqb (field_width g) w ≡ true → eqb w (field_width g) ≡ true
+same_width w g e = let same : field_width g ≡ w = eqb-true _ _ e in subst (λ (n : ℕ). eqb n (field_width g) ≡ true) same (same_number (field_width g))
+
 exchange_takes : (f : Field) (text : List ℕ) (s : Step) (rest : List ℕ) → reading.exchange f text ≡ Read s rest → Takes (field_name f ++ codes " <->") text rest s
 exchange_takes f text s rest e =
     let space = and_then_read (token (codes " ") text) (λ _ rest. and_then (reading.field_of_width (field_width f) rest) (λ g rest. ended (Exchange f g) (codes ";" ∷ []) rest)) s rest e in
@@ -133,12 +143,6 @@ exchange_takes f text s rest e =
           ∙ append_assoc (field_name f) (codes " <->") (32 ∷ (field_name parts.0 ++ 59 ∷ rest)) ∙ sym (four_pieces (field_name f) (codes " <-> ") (field_name parts.0) (codes ";") rest),
       same_width (field_width f) parts.0 other.1,
     ))
-  where
-    same_width : (w : ℕ) (g : Field) → eqb (field_width g) w ≡ true → eqb w (field_width g) ≡ true
-    same_width w g e = let same : field_width g ≡ w = eqb-true _ _ e in subst (λ (n : ℕ). eqb n (field_width g) ≡ true) same (reflexive (field_width g))
-      where
-        reflexive : (n : ℕ) → eqb n n ≡ true
-        reflexive n = grind (arith, nat_tests)
 
 -- what is done with a part, after the space
 sign_takes : (f : Field) (b : Bits) (text : List ℕ) (s : Step) (rest : List ℕ) → are_bits_of (field_width f) b ≡ true → reading.sign_of_part f b text ≡ Read s rest → Takes (part_text f b ++ codes " ") text rest s

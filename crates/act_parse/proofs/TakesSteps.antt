@@ -28,7 +28,7 @@ finished_takes : (s t : Step) (before text rest : List ℕ) → finished s text 
 finished_takes s t before text rest e whole good =
     ended_is (Takes before text rest) s t (codes ";" ∷ []) text rest e (λ took. (ap (λ xs. before ++ xs) took ∙ sym (append_assoc before (codes ";") rest) ∙ ap (λ xs. xs ++ rest) whole, good))
 
-pipeline_takes : (text : List ℕ) (egress : Bool) (rest : List ℕ) → reading.pipeline text ≡ Read egress rest → text ≡ pipeline_name egress ++ rest
+pub pipeline_takes : (text : List ℕ) (egress : Bool) (rest : List ℕ) → reading.pipeline text ≡ Read egress rest → text ≡ pipeline_name egress ++ rest
 pipeline_takes text egress rest e = go (is_at (codes "egress") text) refl e
   where
     go : (b : Bool) → is_at (codes "egress") text ≡ b → cond b (Read true (drop 6 text)) (and_then (token (codes "ingress") text) (λ _ rest. Read false rest)) ≡ Read egress rest → text ≡ pipeline_name egress ++ rest
@@ -88,7 +88,7 @@ opened inner plain t name text rest takes whole good e = go (is_at (codes "(") t
 next_takes : (text : List ℕ) (s : Step) (rest : List ℕ) → reading.next text ≡ Read s rest → Takes (codes "next") text rest s
 next_takes text s rest e = opened reading.jump Next s (codes "next") text rest (λ xs f. jump_takes xs s rest f) refl refl e
 
-bit : (n : ℕ) → ltb n 2 ≡ true → decimal_text n ≡ truth_text (eqb n 1)
+pub bit : (n : ℕ) → ltb n 2 ≡ true → decimal_text n ≡ truth_text (eqb n 1)
 unfolding digits
 bit zero e = refl
 bit (suc zero) e = refl
@@ -108,11 +108,11 @@ commit_takes text s rest e =
     ))
 
 -- an address in parentheses, if it is there
-abbrev address_part : Option Ip4 → List ℕ
+abbrev pub address_part : Option Ip4 → List ℕ
 address_part None = codes ";"
 address_part (Some a) = codes "(" ++ (ip4_text a ++ codes ");")
 
-abbrev is_address_if : Option Ip4 → Bool
+abbrev pub is_address_if : Option Ip4 → Bool
 is_address_if None = true
 is_address_if (Some a) = is_address a
 
@@ -139,28 +139,28 @@ translated of name text s rest whole good e =
     subst (Takes name text rest) same.0
     (ap (λ xs. name ++ xs) (took.0 ∙ ap (λ xs. address_part parts.0 ++ xs) same.1) ∙ sym (append_assoc name (address_part parts.0) rest) ∙ ap (λ xs. xs ++ rest) (whole parts.0), sym (good parts.0) ∙ took.1)
 
-snat_text : (o : Option Ip4) → codes "ct_snat" ++ address_part o ≡ step_text (reading.snat_of o)
+pub snat_text : (o : Option Ip4) → codes "ct_snat" ++ address_part o ≡ step_text (reading.snat_of o)
 snat_text None = refl
 snat_text (Some a) = refl
 
-snat_good : (o : Option Ip4) → is_address_if o ≡ is_step (reading.snat_of o)
+pub snat_good : (o : Option Ip4) → is_address_if o ≡ is_step (reading.snat_of o)
 snat_good None = refl
 snat_good (Some a) = refl
 
-dnat_text : (o : Option Ip4) → codes "ct_dnat" ++ address_part o ≡ step_text (reading.dnat_of o)
+pub dnat_text : (o : Option Ip4) → codes "ct_dnat" ++ address_part o ≡ step_text (reading.dnat_of o)
 dnat_text None = refl
 dnat_text (Some a) = refl
 
-dnat_good : (o : Option Ip4) → is_address_if o ≡ is_step (reading.dnat_of o)
+pub dnat_good : (o : Option Ip4) → is_address_if o ≡ is_step (reading.dnat_of o)
 dnat_good None = refl
 dnat_good (Some a) = refl
 
 -- the port of a target is there where it is to be
-abbrev has : Bool → Target → Bool
+abbrev pub has : Bool → Target → Bool
 has true t = is_some t.port
 has false t = is_none t.port
 
-abbrev IsTarget : Bool → List ℕ → List ℕ → Target → Type 0
+abbrev pub IsTarget : Bool → List ℕ → List ℕ → Target → Type 0
 IsTarget has_port text rest t = (text ≡ target_text t ++ rest) × (is_target t ≡ true) × (has has_port t ≡ true)
 
 port_takes : (has_port : Bool) (addr : Ip4) (text : List ℕ) (t : Target) (rest : List ℕ) → is_address addr ≡ true → reading.port has_port addr text ≡ Read t rest → (whole : List ℕ) → whole ≡ ip4_text addr ++ text → IsTarget has_port whole rest t
@@ -176,7 +176,7 @@ port_takes false addr text t rest good e whole is =
     let same = read_same _ _ _ _ e in
     subst (IsTarget false whole rest) same.0 (is ∙ ap (λ xs. ip4_text addr ++ xs) same.1 ∙ sym (append_assoc (ip4_text addr) [] rest), and_from _ _ good refl, refl)
 
-target_takes : (has_port : Bool) (text : List ℕ) (t : Target) (rest : List ℕ) → reading.target has_port text ≡ Read t rest → IsTarget has_port text rest t
+pub target_takes : (has_port : Bool) (text : List ℕ) (t : Target) (rest : List ℕ) → reading.target has_port text ≡ Read t rest → IsTarget has_port text rest t
 target_takes has_port text t rest e =
     let parts = and_then_read (ip4 text) (reading.port has_port) t rest e in
     let addr = ip4_takes text parts.0 parts.1 parts.2 in
@@ -190,7 +190,7 @@ has_some false t e = go t.port e
     go None e = refl
     go (Some n) e = absurd (cc)
 
-first_target_takes : (text : List ℕ) (t : Target) (rest : List ℕ) → reading.first_target text ≡ Read t rest → IsTarget (is_some t.port) text rest t
+pub first_target_takes : (text : List ℕ) (t : Target) (rest : List ℕ) → reading.first_target text ≡ Read t rest → IsTarget (is_some t.port) text rest t
 first_target_takes text t rest e =
     let parts = and_then_read (ip4 text) (λ addr rest. reading.port (is_at (codes ":") rest) addr rest) t rest e in
     let addr = ip4_takes text parts.0 parts.1 parts.2 in
@@ -228,7 +228,11 @@ targets_take (suc n) has_port before text all rest e = go (is_at (codes ",") tex
           and_from _ _ one.2 others.4,
         )
 
-all_targets_take : (text : List ℕ) (ts : List Target) (rest : List ℕ) → reading.all_targets text ≡ Read ts rest → (text ≡ joined target_text [] (codes ",") ts ++ rest) × (((has_one ts && list_all is_target ts) && have_ports_or_none ts) ≡ true)
+pub alike : (b : Bool) (us : List Target) → list_all (has b) us ≡ true → have_ports_or_none us ≡ true
+alike true us e = or_left _ _ e
+alike false us e = or_right _ _ e
+
+pub all_targets_take : (text : List ℕ) (ts : List Target) (rest : List ℕ) → reading.all_targets text ≡ Read ts rest → (text ≡ joined target_text [] (codes ",") ts ++ rest) × (((has_one ts && list_all is_target ts) && have_ports_or_none ts) ≡ true)
 all_targets_take text ts rest e =
     let parts = and_then_read (reading.first_target text) (λ t rest. reading.targets (length rest) (is_some t.port) (t ∷ []) rest) ts rest e in
     let one = first_target_takes text parts.0 parts.1 parts.2 in
@@ -238,10 +242,6 @@ all_targets_take text ts rest e =
       one.0 ∙ ap (λ xs. target_text parts.0 ++ xs) others.2 ∙ sym (append_assoc (target_text parts.0) (joined target_text (codes ",") (codes ",") others.0) rest),
       and_from _ _ (and_from _ _ one.1 others.3) (alike (is_some parts.0.port) (parts.0 ∷ others.0) (and_from _ _ one.2 others.4)),
     )
-  where
-    alike : (b : Bool) (us : List Target) → list_all (has b) us ≡ true → have_ports_or_none us ≡ true
-    alike true us e = or_left _ _ e
-    alike false us e = or_right _ _ e
 
 backends_take : (text : List ℕ) (s : Step) (rest : List ℕ) → reading.backends text ≡ Read s rest → Takes (codes "ct_lb(") text rest s
 backends_take text s rest e =

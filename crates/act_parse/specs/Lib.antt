@@ -1,4 +1,5 @@
 pub mod Token
 pub mod Keyword
 pub mod Reading
+pub mod Fronts
 pub mod inner

@@ -1,9 +1,11 @@
-//! The laws of the reader: it reads exactly what is written of well-formed lists.
-ghost use Rattle.std.specs.Prelude.{◌≡◌, true, ℕ, List, Ok};
+//! The laws of the reader: it reads exactly what is written of well-formed lists, and up to a fault the reading goes on.
+ghost use Rattle.std.specs.Prelude.{◌≡◌, true, ℕ, List, take, Ok, Err};
 ghost use Rattle.act_core.specs.Text.{actions_text};
 ghost use Rattle.act_core.specs.WellFormed.{is_well_formed};
 ghost use Rattle.act_core.specs.declared.action.Action.{Action};
+ghost use Rattle.act_parse.specs.Fronts.{IsFront};
 ghost use Rattle.act_parse.specs.Reading.{answer};
+ghost use Rattle.act_parse.specs.declared.fault.ActionFault.TheVariants.{Syntax};
 
 /// What is read of a text is a well-formed list, and the text is what is written of it.
 pub fn what_is_read_is_written()
@@ -14,4 +16,9 @@ pub fn what_is_read_is_written()
 /// What is written of a well-formed list is read as that list.
 pub fn what_is_written_is_read()
     ensures { (list : List Action) → is_well_formed list ≡ true → answer (actions_text list) ≡ Ok list }
+{}
+
+/// What is before the token at which the reading stops is the front of what is written of a well-formed list.
+pub fn what_is_before_a_fault_goes_on()
+    ensures { (text : List ℕ) (p : ℕ) → answer text ≡ Err (Syntax p) → IsFront (take p text) }
 {}

@@ -96,7 +96,7 @@ stops s b rest apart = λ k past high. none_from (constant_of (take k (s ++ b �
     let spelt = (constant_spelt (take k (s ++ b ∷ rest)) c e).0 in
     false≢true (sym (fails_at is_in_constant s b (take (k - length s - 1) rest) apart) ∙ subst (λ (xs : List ℕ). list_all is_in_constant xs ≡ true) (cut s b rest k past) spelt))
 
-same_pointwise : (xs : List ℕ) → pointwise nat_eq xs xs ≡ true
+pub same_pointwise : (xs : List ℕ) → pointwise nat_eq xs xs ≡ true
 same_pointwise [] = refl
 same_pointwise (x ∷ xs) = rw (reflexive x, same_pointwise xs) refl
   where

@@ -19,3 +19,9 @@ pub mod Viable
 pub mod ViableSteps
 pub mod ViableFields
 pub mod ViableActions
+pub mod FirstToken
+pub mod Local
+pub mod LocalTokens
+pub mod LocalSteps
+pub mod LocalFields
+pub mod LocalActions

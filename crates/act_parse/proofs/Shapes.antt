@@ -1,9 +1,9 @@
 -- What the spelling of a constant tells of its bytes and its length.
-use Rattle.std.proofs.Common.{◌≡◌, ℕ, ◌<◌, ◌≤◌, Bool, true, false, ltb, leb, eqb, List, [], ◌∷◌, length, Option, Some, None, is_some, ◌||◌, ◌&&◌, refl, ap, subst, arith}
+use Rattle.std.proofs.Common.{◌≡◌, ℕ, suc, ◌<◌, ◌≤◌, Bool, true, false, ltb, leb, eqb, List, [], ◌∷◌, length, Option, Some, None, is_some, ◌||◌, ◌&&◌, refl, ap, subst, arith}
 use Rattle.std.specs.Char.{is_digit}
 use Rattle.std.specs.List.{list_all, slice_split, join_with_byte}
 use Rattle.std.specs.Str.Parse.{digits_value}
-use Rattle.std.proofs.lemmas.Bool.{lt-ltb, ltb-true, leb-true, le-leb, eqb-true, and_parts, or_left}
+use Rattle.std.proofs.lemmas.Bool.{lt-ltb, ltb-true, leb-true, le-leb, eqb-true, and_parts, or_left, false≢true}
 use Rattle.std.proofs.lemmas.Option.{cond_some}
 use Rattle.std.proofs.lemmas.List.Splits.{join_with_byte-slice_split}
 use Rattle.nv_base.specs.Bytes.{octet_of, pair_of, number_of_parts}
@@ -113,3 +113,24 @@ ip4_too_long text long = none_from (ip4_of text) (λ a e. omega (arith, long, ip
 
 pub mac_not_so_long : (text : List ℕ) → (length text ≡ 17 → ⊥) → mac_of text ≡ None
 mac_not_so_long text other = none_from (mac_of text) (λ n e. other (mac_length text n e))
+
+-- a colon is after two bytes
+abbrev pub HasColon : List ℕ → Type 0
+HasColon (a ∷ b ∷ c ∷ cs) = eqb c 58 ≡ true
+HasColon _ = ⊥
+
+pub mac_third : (text : List ℕ) (n : ℕ) → mac_of text ≡ Some n → HasColon text
+mac_third text n e =
+    let split = split_parts pair_of 6 58 text n e in
+    subst HasColon split.3 (go split.0 (omega (arith, split.1)) (weaker _ _ (λ p h. (pair_parts p h).0) split.0 split.2))
+  where
+    go : (parts : List (List ℕ)) → 2 ≤ length parts → list_all (λ p. eqb (length p) 2) parts ≡ true → HasColon (join_with_byte 58 parts)
+    go [] two all = absurd (omega (arith, two))
+    go (p ∷ []) two all = absurd (omega (arith, two))
+    go ([] ∷ r ∷ ps) two all = absurd (false≢true (and_parts false (list_all (λ p. eqb (length p) 2) (r ∷ ps)) all).0)
+    go ((a ∷ []) ∷ r ∷ ps) two all = absurd (false≢true (and_parts false (list_all (λ p. eqb (length p) 2) (r ∷ ps)) all).0)
+    go ((a ∷ b ∷ []) ∷ r ∷ ps) two all = refl
+    go ((a ∷ b ∷ c ∷ cs) ∷ r ∷ ps) two all = absurd (long (eqb-true (suc (suc (suc (length cs)))) 2 (and_parts (eqb (length (a ∷ b ∷ c ∷ cs)) 2) (list_all (λ p. eqb (length p) 2) (r ∷ ps)) all).0))
+      where
+        long : {n : ℕ} → suc (suc (suc n)) ≡ 2 → ⊥
+        long e = omega arith

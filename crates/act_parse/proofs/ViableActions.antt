@@ -112,7 +112,7 @@ another_stops text left e =
     token_stops (codes " ") text [] (λ _ rest. reading.action rest) left e ([], refl, refl)
     (λ u rest f. also rest left (λ xs a. (a.0 ∷ [], ap (λ ys. 32 ∷ ys) (a.1 ∙ sym (append-nil (action_text a.0))), and_from _ _ a.2 refl)) (action_stops rest left f))
 
-another_takes : (text : List ℕ) (a : Action) (rest : List ℕ) → reading.another text ≡ Read a rest → (text ≡ 32 ∷ (action_text a ++ rest)) × (is_action a ≡ true)
+pub another_takes : (text : List ℕ) (a : Action) (rest : List ℕ) → reading.another text ≡ Read a rest → (text ≡ 32 ∷ (action_text a ++ rest)) × (is_action a ≡ true)
 another_takes text a rest e =
     let space = and_then_read (token (codes " ") text) (λ _ rest. reading.action rest) a rest e in
     let one = action_takes space.1 a rest space.3 in
@@ -127,7 +127,7 @@ actions_stop (suc n) before (b ∷ bs) left e =
     (λ a rest f g. let took = another_takes (b ∷ bs) a rest f in
     past (codes " " ++ action_text a) rest (b ∷ bs) left took.0 (also rest left (λ xs more. (a ∷ more.0, ap (λ ys. 32 ∷ (action_text a ++ ys)) more.1, and_from _ _ took.1 more.2)) (actions_stop n (before ++ a ∷ []) rest left g)))
 
-reading_stops : (text : List ℕ) (left : ℕ) → reading.reading text ≡ Stuck left → Viable IsList text left
+pub reading_stops : (text : List ℕ) (left : ℕ) → reading.reading text ≡ Stuck left → Viable IsList text left
 reading_stops [] left e = absurd (cc)
 reading_stops (b ∷ bs) left e =
     sequel (reading.action (b ∷ bs)) (λ a rest. reading.actions (length rest) (a ∷ []) rest) left e

@@ -15,5 +15,7 @@ mod targets;
 mod token;
 
 pub use fault::ActionFault;
-pub use laws::{what_is_before_a_fault_goes_on, what_is_read_is_written, what_is_written_is_read};
+pub use laws::{
+    faults_stay, what_is_before_a_fault_goes_on, what_is_read_is_written, what_is_written_is_read,
+};
 pub use reader::parse_actions;

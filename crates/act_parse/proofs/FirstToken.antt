@@ -6,39 +6,36 @@ use Rattle.std.specs.Option.{option_map}
 use Rattle.std.specs.Cmp.Lexicographic.{pointwise}
 use Rattle.std.proofs.Math.Seq.{take-append_seam, drop-append_seam}
 use Rattle.std.proofs.lemmas.Bool.{and_parts, and_from, false≢true}
+use Rattle.std.proofs.lemmas.List.{take-append-drop}
 use Rattle.nv_base.specs.Ip4.{ip4_of}
 use Rattle.nv_base.specs.Mac.{mac_of}
 use Rattle.nv_base.specs.Number.{decimal_of}
-use Rattle.expr_core.specs.Text.{const_text}
 use Rattle.expr_core.specs.declared.constant.Const.{Const}
-use Rattle.act_parse.specs.Token.{begins_word, word, after_word, is_word, is_at, or_else, number_after_0x, constant_of, constant, quoted}
+use Rattle.act_parse.specs.Token.{begins_word, word, after_word, is_word, is_at, or_else, number_after_0x, constant_of, longest, quoted}
 use Rattle.act_parse.specs.Tokens.{Token, signs, word_token, sign_token, first_token}
 use Rattle.act_parse.specs.Tokens.Token.{Constant, Name, Word, Sign}
 use Rattle.act_parse.proofs.Choices.{none_from}
 use Rattle.act_parse.proofs.Constants.{no_decimal, same_pointwise}
+use Rattle.act_parse.proofs.Longest.{nowhere}
 use Rattle.act_parse.proofs.Shapes.{hexadecimal_parts, mac_first, mac_third, ip4_first}
-use Rattle.act_parse.proofs.TakesTokens.{same_bytes, at_takes, constant_takes, word_takes, find_passes, quoted_takes}
-use Rattle.act_parse.proofs.Written.{no_constant}
+use Rattle.act_parse.proofs.TakesTokens.{same_bytes, at_takes, word_takes, find_passes, quoted_takes}
 
 -- what the first token says of the text
 abbrev pub Says : List ℕ → Token → List ℕ → Type 0
-Says text (Constant c) after = constant text ≡ Some (c, after)
-Says text (Name n) after = (constant text ≡ None) × (quoted text ≡ Some (n, after))
-Says text (Word w) after = (constant text ≡ None) × (quoted text ≡ None) × (word text ≡ w) × (after_word text ≡ after)
-Says text (Sign s) after = (constant text ≡ None) × (quoted text ≡ None) × (is_at s text ≡ true) × (drop (length s) text ≡ after)
+Says text (Constant s) after = (x : Const × ℕ) × (longest (length text) text ≡ Some x) × (take x.1 text ≡ s) × (drop x.1 text ≡ after)
+Says text (Name n) after = (longest (length text) text ≡ None) × (quoted text ≡ Some (n, after))
+Says text (Word w) after = (longest (length text) text ≡ None) × (quoted text ≡ None) × (word text ≡ w) × (after_word text ≡ after)
+Says text (Sign s) after = (longest (length text) text ≡ None) × (quoted text ≡ None) × (is_at s text ≡ true) × (drop (length s) text ≡ after)
 
 pub says : (text : List ℕ) (t : Token) (after : List ℕ) → first_token text ≡ Some (t, after) → Says text t after
-says text t after e = go (constant text) (quoted text) (is_word text) (find (λ s. is_at s text) signs) refl refl refl refl e
+says text t after e = go (longest (length text) text) (quoted text) (is_word text) (find (λ s. is_at s text) signs) refl refl refl refl e
   where
-    P : Token × List ℕ → Type 0
-    P x = Says text x.0 x.1
-
     moved : (x y : Token × List ℕ) → Some x ≡ Some y → Says text x.0 x.1 → Says text y.0 y.1
     moved x y same holds = let is : x ≡ y = cc in subst (λ (z : Token × List ℕ). Says text z.0 z.1) is holds
 
-    go : (o : Option (Const × List ℕ)) (q : Option (List ℕ × List ℕ)) (b : Bool) (s : Option (List ℕ)) → constant text ≡ o → quoted text ≡ q → is_word text ≡ b → find (λ s. is_at s text) signs ≡ s
-        → or_else {T = Token × List ℕ} (option_map (λ c. (Constant c.0, c.1)) o) (or_else {T = Token × List ℕ} (option_map (λ n. (Name n.0, n.1)) q) (or_else {T = Token × List ℕ} (cond b (Some (Word (word text), after_word text)) None) (option_map (λ s. (Sign s, drop (length s) text)) s))) ≡ Some (t, after) → Says text t after
-    go (Some c) q b s co qu wo si e = moved (Constant c.0, c.1) (t, after) e co
+    go : (o : Option (Const × ℕ)) (q : Option (List ℕ × List ℕ)) (b : Bool) (s : Option (List ℕ)) → longest (length text) text ≡ o → quoted text ≡ q → is_word text ≡ b → find (λ s. is_at s text) signs ≡ s
+        → or_else {T = Token × List ℕ} (option_map (λ c. (Constant (take c.1 text), drop c.1 text)) o) (or_else {T = Token × List ℕ} (option_map (λ n. (Name n.0, n.1)) q) (or_else {T = Token × List ℕ} (cond b (Some (Word (word text), after_word text)) None) (option_map (λ s. (Sign s, drop (length s) text)) s))) ≡ Some (t, after) → Says text t after
+    go (Some x) q b s co qu wo si e = moved (Constant (take x.1 text), drop x.1 text) (t, after) e (x, co, refl, refl)
     go None (Some n) b s co qu wo si e = moved (Name n.0, n.1) (t, after) e (co, qu)
     go None None true s co qu wo si e = moved (Word (word text), after_word text) (t, after) e (co, qu, refl, refl)
     go None None false (Some s) co qu wo si e = moved (Sign s, drop (length s) text) (t, after) e (co, qu, find_passes (λ s. is_at s text) signs s si, refl)
@@ -46,13 +43,15 @@ says text t after e = go (constant text) (quoted text) (is_word text) (find (λ 
 
 -- how many bytes a token has
 abbrev pub bytes : Token → ℕ
-bytes (Constant c) = length (const_text c)
+bytes (Constant s) = length s
 bytes (Name n) = length n + 2
 bytes (Word w) = length w
 bytes (Sign s) = length s
 
 pub has_bytes : (text : List ℕ) (t : Token) (after : List ℕ) → first_token text ≡ Some (t, after) → length text ≡ bytes t + length after
-has_bytes text (Constant c) after e = omega (arith, ap length (constant_takes text (c, after) (says text (Constant c) after e)), length-append (const_text c) after)
+has_bytes text (Constant n) after e =
+    let s = says text (Constant n) after e in
+    omega (arith, ap length (take-append-drop s.0.1 text), length-append (take s.0.1 text) (drop s.0.1 text), ap length s.2, ap length s.3)
 has_bytes text (Name n) after e = omega (arith, ap length (quoted_takes text (n, after) (says text (Name n) after e).1).0, length-append n (34 ∷ after))
 has_bytes text (Word w) after e =
     let s = says text (Word w) after e in
@@ -78,16 +77,16 @@ spells_none x ys apart mac = rw (decimals, hexadecimals, mac, ip) refl
     ip = none_from _ (λ a e. false≢true (sym apart ∙ ip4_first x ys a e))
 
 -- a byte that begins no constant
-pub no_constant_there : (x : ℕ) (xs : List ℕ) → is_digit x 10 ≡ false → is_digit x 16 ≡ false → constant (x ∷ xs) ≡ None
-no_constant_there x xs ten sixteen = no_constant (x ∷ xs) by_front
+pub no_constant_there : (x : ℕ) (xs : List ℕ) → is_digit x 10 ≡ false → is_digit x 16 ≡ false → longest (length (x ∷ xs)) (x ∷ xs) ≡ None
+no_constant_there x xs ten sixteen = nowhere (x ∷ xs) by_front
   where
     by_front : (k : ℕ) → constant_of (take k (x ∷ xs)) ≡ None
     by_front zero = refl
     by_front (suc k) = spells_none x (take k xs) ten (none_from _ (λ n e. false≢true (sym sixteen ∙ mac_first x (take k xs) n e)))
 
 -- a word of three bytes or more that begins no constant
-no_constant_word : (x y z : ℕ) (zs : List ℕ) → is_digit x 10 ≡ false → eqb z 58 ≡ false → constant (x ∷ y ∷ z ∷ zs) ≡ None
-no_constant_word x y z zs ten apart = no_constant (x ∷ y ∷ z ∷ zs) by_front
+no_constant_word : (x y z : ℕ) (zs : List ℕ) → is_digit x 10 ≡ false → eqb z 58 ≡ false → longest (length (x ∷ y ∷ z ∷ zs)) (x ∷ y ∷ z ∷ zs) ≡ None
+no_constant_word x y z zs ten apart = nowhere (x ∷ y ∷ z ∷ zs) by_front
   where
     by_front : (k : ℕ) → constant_of (take k (x ∷ y ∷ z ∷ zs)) ≡ None
     by_front zero = refl
@@ -110,7 +109,7 @@ pub record IsName (w : List ℕ) : Type 0 where
 pub named : (w text : List ℕ) → IsName w → word text ≡ w → first_token text ≡ Some (Word w, after_word text)
 named w text n is =
     let whole : text ≡ n.x ∷ n.y ∷ n.z ∷ (n.zs ++ after_word text) = word_takes text ∙ ap (λ xs. xs ++ after_word text) (is ∙ n.spelt) in
-    let none : constant text ≡ None = ap constant whole ∙ no_constant_word n.x n.y n.z (n.zs ++ after_word text) n.ten n.apart in
+    let none : longest (length text) text ≡ None = ap (λ (xs : List ℕ). longest (length xs) xs) whole ∙ no_constant_word n.x n.y n.z (n.zs ++ after_word text) n.ten n.apart in
     let unquoted : quoted text ≡ None = ap quoted whole ∙ rw n.quote refl in
     let worded : is_word text ≡ true = ap is_word whole ∙ n.begins in
     rw (none, unquoted, worded) (ap (λ (v : List ℕ). Some (Word v, after_word text)) is)
@@ -161,4 +160,4 @@ sign_stands b bs ten sixteen others = record {
 }
   where
     whole : (d : List ℕ) → first_token (b ∷ (bs ++ d)) ≡ Some (Sign (b ∷ bs), d)
-    whole d = ap (λ (o : Option (Const × List ℕ)). or_else {T = Token × List ℕ} (option_map (λ c. (Constant c.0, c.1)) o) (or_else {T = Token × List ℕ} (option_map (λ n. (Name n.0, n.1)) (quoted (b ∷ (bs ++ d)))) (or_else (word_token (b ∷ (bs ++ d))) (sign_token (b ∷ (bs ++ d)))))) (no_constant_there b (bs ++ d) ten sixteen) ∙ others d
+    whole d = ap (λ (o : Option (Const × ℕ)). or_else {T = Token × List ℕ} (option_map (λ c. (Constant (take c.1 (b ∷ (bs ++ d))), drop c.1 (b ∷ (bs ++ d)))) o) (or_else {T = Token × List ℕ} (option_map (λ n. (Name n.0, n.1)) (quoted (b ∷ (bs ++ d)))) (or_else (word_token (b ∷ (bs ++ d))) (sign_token (b ∷ (bs ++ d)))))) (no_constant_there b (bs ++ d) ten sixteen) ∙ others d

@@ -1,7 +1,9 @@
 -- The readings of tokens, constants and names look at the first token only.
-use Rattle.std.proofs.Common.{◌≡◌, ℕ, ◌≤◌, ◌^◌, Bool, true, false, cond, leb, ltb, eqb, ◌&&◌, List, [], ◌∷◌, ◌++◌, length, Option, Some, None, codes, refl, ap, sym, subst, ◌∙◌, arith, length-append}
+use Rattle.std.proofs.Common.{◌≡◌, ℕ, ◌≤◌, ◌^◌, Bool, true, false, cond, leb, ltb, nat_eq, eqb, ◌&&◌, List, [], ◌∷◌, ◌++◌, length, take, drop, Option, Some, None, codes, refl, ap, sym, subst, ◌∙◌, arith, length-append}
 use Rattle.std.specs.Char.{is_digit}
 use Rattle.std.specs.Option.{option_map}
+use Rattle.std.specs.Cmp.Lexicographic.{pointwise}
+use Rattle.std.proofs.lemmas.Option.{cond_some}
 use Rattle.nv_base.specs.Field.{field_name, field_width, field_of}
 use Rattle.nv_base.specs.Ip4.{address}
 use Rattle.nv_base.specs.declared.field.Field.{Field}
@@ -13,7 +15,7 @@ use Rattle.act_parse.specs.declared.keyword.Keyword.{Keyword}
 use Rattle.act_parse.specs.declared.keyword.Keyword.TheVariants as keyword
 use Rattle.act_parse.specs.declared.keyword.Block.{Block}
 use Rattle.act_parse.specs.declared.keyword.Block.TheVariants as block
-use Rattle.act_parse.specs.Token.{begins_word, word, after_word, constant, quoted}
+use Rattle.act_parse.specs.Token.{begins_word, word, after_word, constant_of, longest, as_written, constant, quoted}
 use Rattle.act_parse.specs.Keyword.{keyword_name, block_name}
 use Rattle.act_parse.specs.Tokens.{Token, first_token}
 use Rattle.act_parse.specs.Tokens.Token.{Constant, Name, Word}
@@ -21,7 +23,9 @@ use Rattle.act_parse.specs.Reading as reading
 use Rattle.act_parse.specs.Reading.{Reading, stuck, token, tokens, ended, decimal_within, decimal, address_within, ip4}
 use Rattle.act_parse.specs.Reading.Reading.{Read}
 use Rattle.act_parse.proofs.Choices.{none_from}
-use Rattle.act_parse.proofs.TakesTokens.{constant_takes, word_takes, quoted_takes}
+use Rattle.act_parse.proofs.Constants.{same_pointwise}
+use Rattle.act_parse.proofs.Longest.{spelled}
+use Rattle.act_parse.proofs.TakesTokens.{same_bytes, constant_takes, word_takes, quoted_takes}
 use Rattle.act_parse.proofs.TakesFields.{field_found}
 use Rattle.act_parse.proofs.FirstToken.{IsName, Stands, named, no_constant_there, says, sign_stands, word_stands}
 use Rattle.act_parse.proofs.Local.{Both, turned, Sized, Agree, Local, pure_local, sized_stuck, agree_stuck, stuck_local, then_local, like, agree_next, same_pair, token_local}
@@ -145,20 +149,40 @@ looked_local {K} {T} look p a b seen one two = record {
         go true at = agree_next (a x.0 x.1) (a x.0 both.after2) text other rest others x.1 both.after2 both at refl ((one x.0).sized x.1) (λ next. (one x.0).agree x.1 both.after2 rest others next)
         go false at = agree_stuck text other rest others both
 
+-- the front that a constant was read from
+constant_parts : (text : List ℕ) (x : Const × List ℕ) → constant text ≡ Some x → (n : ℕ) × (longest (length text) text ≡ Some (x.0, n)) × (take n text ≡ const_text x.0) × (drop n text ≡ x.1)
+constant_parts text x e = go (longest (length text) text) refl e
+  where
+    go : (o : Option (Const × ℕ)) → longest (length text) text ≡ o → as_written text o ≡ Some x → (n : ℕ) × (longest (length text) text ≡ Some (x.0, n)) × (take n text ≡ const_text x.0) × (drop n text ≡ x.1)
+    go None is e = absurd (cc)
+    go (Some found) is e =
+        let inner = cond_some (pointwise nat_eq (take found.1 text) (const_text found.0)) (found.0, drop found.1 text) x e in
+        let front = same_bytes (take found.1 text) (const_text found.0) inner.0 in
+        subst (λ (y : Const × List ℕ). (n : ℕ) × (longest (length text) text ≡ Some (y.0, n)) × (take n text ≡ const_text y.0) × (drop n text ≡ y.1)) inner.1 (found.1, is, front, refl)
+
+-- the same bytes, where they are the longest constant of another text too, are the same constant there
+same_spelling : (text other : List ℕ) (x y : Const × ℕ) → longest (length text) text ≡ Some x → longest (length other) other ≡ Some y → take y.1 other ≡ take x.1 text → take x.1 text ≡ const_text x.0 → constant other ≡ Some (x.0, drop y.1 other)
+same_spelling text other x y one two same written =
+    let both : Some y.0 ≡ Some x.0 = sym (spelled (length other) other y two) ∙ ap constant_of same ∙ spelled (length text) text x one in
+    let is : y.0 ≡ x.0 = cc in
+    ap (as_written other) two ∙ rw (is, same, written, same_pointwise (const_text x.0)) refl
+
 pub constant_seen : Seen constant
 constant_seen = record {
   short = λ text x e. omega (arith, ap length (constant_takes text x e), length-append (const_text x.0) x.1);
   both = λ text other rest others b x e.
-      let front : first_token text ≡ Some (Constant x.0, x.1) = rw e refl in
-      let same = same_pair (b.first, b.after) (Constant x.0, x.1) (sym b.begins ∙ front) in
-      (says other (Constant x.0) b.after2 (b.begins2 ∙ ap (λ (t : Token). Some (t, b.after2)) same.0), same.1);
+      let here = constant_parts text x e in
+      let front : first_token text ≡ Some (Constant (take here.0 text), drop here.0 text) = rw here.1 refl in
+      let same = same_pair (b.first, b.after) (Constant (take here.0 text), drop here.0 text) (sym b.begins ∙ front) in
+      let there = says other (Constant (take here.0 text)) b.after2 (b.begins2 ∙ ap (λ (t : Token). Some (t, b.after2)) same.0) in
+      (same_spelling text other (x.0, here.0) there.0 here.1 there.1 there.2 here.2 ∙ ap (λ (xs : List ℕ). Some (x.0, xs)) there.3, same.1 ∙ here.3);
 }
 
 pub quoted_seen : Seen quoted
 quoted_seen = record {
   short = λ text x e. omega (arith, ap length (quoted_takes text x e).0, length-append x.0 (34 ∷ x.1));
   both = λ text other rest others b x e.
-      let none : constant text ≡ None = ap constant (quoted_takes text x e).0 ∙ no_constant_there 34 (x.0 ++ 34 ∷ x.1) refl refl in
+      let none : longest (length text) text ≡ None = ap (λ (xs : List ℕ). longest (length xs) xs) (quoted_takes text x e).0 ∙ no_constant_there 34 (x.0 ++ 34 ∷ x.1) refl refl in
       let front : first_token text ≡ Some (Name x.0, x.1) = rw (none, e) refl in
       let same = same_pair (b.first, b.after) (Name x.0, x.1) (sym b.begins ∙ front) in
       ((says other (Name x.0) b.after2 (b.begins2 ∙ ap (λ (t : Token). Some (t, b.after2)) same.0)).1, same.1);

@@ -25,7 +25,7 @@ use Rattle.act_parse.specs.Keyword.{keyword_of, keywords, block_of, blocks}
 use Rattle.act_parse.specs.Reading as reading
 use Rattle.act_parse.specs.Reading.Reading.{Read, Stuck}
 use Rattle.act_parse.proofs.Choices.{none_from}
-use Rattle.act_parse.proofs.Longest.{cut}
+use Rattle.act_parse.proofs.Longest.{nowhere}
 use Rattle.act_parse.proofs.Shapes.{hexadecimal_parts, mac_digits, mac_length, ip4_first}
 use Rattle.act_parse.proofs.Constants.{no_decimal, stops, dots, constant_read, decimal_read}
 
@@ -166,7 +166,7 @@ no_front f r k =
         ap (list_all (λ c. is_digit c 16 || eqb c 58)) front ∙ rw (list_all-append (λ c. is_digit c 16 || eqb c 58) (field_name f) (take (k - length (field_name f)) r), no_mac_byte f) refl
 
 pub no_constant : (text : List ℕ) → ((k : ℕ) → constant_of (take k text) ≡ None) → constant text ≡ None
-no_constant text none = ap (as_written text) (cut 0 (length text) text (omega arith) (λ k low high. none k))
+no_constant text none = ap (as_written text) (nowhere text none)
 
 pub field_read : (width : ℕ) (g : Field) (b : ℕ) (r : List ℕ) → is_in_word b ≡ false → eqb (field_width g) width ≡ true → reading.field_of_width width (field_name g ++ b ∷ r) ≡ Read g (b ∷ r)
 field_read width g b r apart same =

@@ -1,13 +1,12 @@
 -- The tokens that a text begins with.
-use Rattle.std.specs.Prelude.{◌≡◌, ℕ, List, [], ◌∷◌, length, drop, Option, Some, None, codes, if◌then◌else◌}
+use Rattle.std.specs.Prelude.{◌≡◌, ℕ, List, [], ◌∷◌, length, take, drop, Option, Some, None, codes, if◌then◌else◌}
 use Rattle.std.specs.List.{find}
 use Rattle.std.specs.Option.{option_map}
-use Rattle.expr_core.specs.declared.constant.Const.{Const}
-use Rattle.act_parse.specs.Token.{word, after_word, is_word, is_at, or_else, constant, quoted}
+use Rattle.act_parse.specs.Token.{word, after_word, is_word, is_at, or_else, longest, quoted}
 
--- a token
+-- a token: the bytes of a constant, a word or a sign, or a name without its quotes
 pub data Token : Type 0 where
-  Constant : Const → Token
+  Constant : List ℕ → Token
   Name : List ℕ → Token
   Word : List ℕ → Token
   Sign : List ℕ → Token
@@ -15,6 +14,10 @@ pub data Token : Type 0 where
 -- the signs: none is the front of another
 abbrev pub signs : List (List ℕ)
 signs = codes " " ∷ codes ";" ∷ codes "(" ∷ codes ")" ∷ codes "{" ∷ codes "}" ∷ codes "[" ∷ codes "]" ∷ codes "," ∷ codes "=" ∷ codes ":" ∷ codes ".." ∷ codes "--" ∷ codes "<->" ∷ codes "\"" ∷ []
+
+-- the longest constant that the text begins with, in any spelling, and what follows it
+abbrev pub constant_token : List ℕ → Option (Token × List ℕ)
+constant_token text = option_map (λ c. (Constant (take c.1 text), drop c.1 text)) (longest (length text) text)
 
 -- the longest word that the text begins with, and what follows it
 abbrev pub word_token : List ℕ → Option (Token × List ℕ)
@@ -27,7 +30,7 @@ sign_token text = option_map (λ s. (Sign s, drop (length s) text)) (find (λ s.
 -- the token that the text begins with, and what follows it: a constant, a name in double quotes, a word or a sign
 abbrev pub first_token : List ℕ → Option (Token × List ℕ)
 first_token text =
-    or_else (option_map (λ c. (Constant c.0, c.1)) (constant text))
+    or_else (constant_token text)
     (or_else (option_map (λ n. (Name n.0, n.1)) (quoted text))
     (or_else (word_token text) (sign_token text)))
 

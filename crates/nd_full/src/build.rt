@@ -15,7 +15,7 @@ use expr_core::{Const, Form};
 use nb_model::{Network, Port};
 use nv_base::{Field, Kept, Mac, Name, ObjId, OutOfMemory};
 use sb_model::{Row, Stage, equals};
-use sb_rows::Rows;
+use sb_rows::{NewRows, Rows};
 use std::alloc::Global;
 
 /// The rows of the network, made anew. `OutOfMemory` comes only where memory ran out.
@@ -26,27 +26,34 @@ pub fn full_build(alloc: Global, network: &Network) -> Result<Rows, OutOfMemory>
 {
     let made = rows_of_units(alloc, network)?;
     let mut rows = Rows::new(alloc);
-    rows.put_all(made)?;
+    rows.put_new(made)?;
     Ok(rows)
 }
 
 // The rows of all units, one unit after the other.
-fn rows_of_units(alloc: Global, network: &Network) -> Result<Vec<Row>, OutOfMemory>
-    ensures rows { IfOk result (λ rows. rows.items ≡ unit_rows network.now) }
+fn rows_of_units(alloc: Global, network: &Network) -> Result<NewRows, OutOfMemory>
+    ensures rows { IfOk result (λ rows. rows ≡ unit_rows network.now) }
     ensures sound { IsSound network.now }
 {
-    let mut rows = Vec::new(alloc);
-    add_rows_of_switches(alloc, &mut rows, network.switches())?;
-    add_rows_of_ports(alloc, &mut rows, network.ports())?;
+    let (switches, ports) = (network.switches(), network.ports());
+    let mut rows = NewRows::with_capacity(alloc, most_rows(switches, ports))?;
+    add_rows_of_switches(alloc, &mut rows, switches)?;
+    add_rows_of_ports(alloc, &mut rows, ports)?;
     Ok(rows)
+}
+
+// There are no more rows than this. So much room is taken at once; no clause speaks of room.
+fn most_rows(switches: &[(ObjId, Name)], ports: &[Port]) -> usize {
+    let of_switches = switches.len().saturating_mul(fixed_rows().len());
+    of_switches.saturating_add(ports.len())
 }
 
 fn add_rows_of_switches(
     alloc: Global,
-    rows: &mut Vec<Row>,
+    rows: &mut NewRows,
     switches: &[(ObjId, Name)],
 ) -> Result<(), OutOfMemory>
-    ensures { OnOk result (rows.new.items ≡ rows.old.items ++ flat_map switch_rows switches.now) }
+    ensures { OnOk result (rows.new ≡ rows.old ++ flat_map switch_rows switches.now) }
 {
     for switch in switches {
         add_switch_rows(alloc, rows, switch)?;
@@ -57,21 +64,21 @@ fn add_rows_of_switches(
 #[tactic(auto, unfolding(crate::specs::FullBuild::switch_rows))]
 fn add_switch_rows(
     alloc: Global,
-    rows: &mut Vec<Row>,
+    rows: &mut NewRows,
     switch: &(ObjId, Name),
 ) -> Result<(), OutOfMemory>
-    ensures { OnOk result (rows.new.items ≡ rows.old.items ++ switch_rows switch.now) }
+    ensures { OnOk result (rows.new ≡ rows.old ++ switch_rows switch.now) }
 {
     add_fixed_rows(alloc, rows, switch.0, fixed_rows())
 }
 
 fn add_fixed_rows(
     alloc: Global,
-    rows: &mut Vec<Row>,
+    rows: &mut NewRows,
     dp: ObjId,
     fixed: &[FixedRow],
 ) -> Result<(), OutOfMemory>
-    ensures { OnOk result (rows.new.items ≡ rows.old.items ++ map (row_on dp) fixed.now) }
+    ensures { OnOk result (rows.new ≡ rows.old ++ map (row_on dp) fixed.now) }
 {
     for row in fixed {
         rows.push(row_on(alloc, dp, *row)?)?;
@@ -79,8 +86,8 @@ fn add_fixed_rows(
     Ok(())
 }
 
-fn add_rows_of_ports(alloc: Global, rows: &mut Vec<Row>, ports: &[Port]) -> Result<(), OutOfMemory>
-    ensures { OnOk result (rows.new.items ≡ rows.old.items ++ flat_map port_rows ports.now) }
+fn add_rows_of_ports(alloc: Global, rows: &mut NewRows, ports: &[Port]) -> Result<(), OutOfMemory>
+    ensures { OnOk result (rows.new ≡ rows.old ++ flat_map port_rows ports.now) }
 {
     for port in ports {
         add_port_rows(alloc, rows, port)?;
@@ -88,8 +95,8 @@ fn add_rows_of_ports(alloc: Global, rows: &mut Vec<Row>, ports: &[Port]) -> Resu
     Ok(())
 }
 
-fn add_port_rows(alloc: Global, rows: &mut Vec<Row>, port: &Port) -> Result<(), OutOfMemory>
-    ensures { OnOk result (rows.new.items ≡ rows.old.items ++ port_rows port.now) }
+fn add_port_rows(alloc: Global, rows: &mut NewRows, port: &Port) -> Result<(), OutOfMemory>
+    ensures { OnOk result (rows.new ≡ rows.old ++ port_rows port.now) }
 {
     if let Some(mac) = port.address {
         rows.push(lookup_row(alloc, port, mac)?)?;

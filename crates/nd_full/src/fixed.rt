@@ -112,7 +112,8 @@ fn actions_of(alloc: Global, does: Does) -> Result<Items<Action>, OutOfMemory>
 pub(crate) fn output_to(alloc: Global, name: Name) -> Result<Items<Action>, OutOfMemory>
     ensures { IfOk result (λ actions. actions ≡ output_to name) }
 {
-    let mut actions = one_step(alloc, Step::SetOutport(name))?;
+    let mut actions = Items::with_capacity(alloc, 2)?;
+    actions.push(Action::Step(Step::SetOutport(name)))?;
     actions.push(Action::Step(Step::Output))?;
     Ok(actions)
 }

@@ -1,4 +1,4 @@
-ghost use Rattle.std.specs.Prelude.{◌≡◌, List, [], ◌∷◌, ◌++◌, length, OnOk, OnErr};
+ghost use Rattle.std.specs.Prelude.{◌≡◌, List, [], ◌∷◌, ◌++◌, length, IfOk, OnOk, OnErr};
 
 use crate::OutOfMemory;
 use std::alloc::Global;
@@ -26,6 +26,15 @@ impl<T> Items<T> {
         Items {
             items: Vec::new(alloc),
         }
+    }
+
+    /// The empty list, with room for so many items.
+    pub fn with_capacity(alloc: Global, count: usize) -> Result<Self, OutOfMemory>
+        ensures { IfOk result (λ list. list ≡ []) }
+    {
+        Ok(Items {
+            items: Vec::with_capacity(alloc, count)?,
+        })
     }
 
     /// Puts an item last. After `OutOfMemory` the list is as before.

@@ -53,7 +53,7 @@ fn compares(field: Field, item: Item) -> Typed
 pub fn one_step(alloc: Global, step: Step) -> Result<Items<Action>, OutOfMemory>
     ensures { IfOk result (λ actions. actions ≡ Action.Step step ∷ []) }
 {
-    let mut actions = Items::new(alloc);
+    let mut actions = Items::with_capacity(alloc, 1)?;
     actions.push(Action::Step(step))?;
     Ok(actions)
 }

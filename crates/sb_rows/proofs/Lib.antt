@@ -1,6 +1,7 @@
 pub mod AllAtOnce
 pub mod Among
 pub mod Appends
+pub mod Asked
 pub mod Distinct
 pub mod Members
 pub mod Order

@@ -1,12 +1,13 @@
 -- Rows in row order rise by their tables, and a table's rows are those of one key.
-use Rattle.std.proofs.Common.{◌≡◌, ℕ, zero, suc, ◌+◌, ◌*◌, ◌<◌, ◌≤◌, Bool, true, false, cond, List, [], ◌∷◌, length, length-drop, get_or, drop, eqb, ltb, sym, ap, refl, ◌∙◌, arith}
+use Rattle.std.proofs.Common.{◌≡◌, ◌≢◌, ℕ, zero, suc, ◌+◌, ◌*◌, ◌<◌, ◌≤◌, Bool, true, false, cond, List, [], ◌∷◌, length, length-drop, get_or, drop, eqb, ltb, sym, ap, refl, ◌∙◌, arith}
 use Rattle.std.specs.Prelude.{◌&&◌, Some, None}
-use Rattle.std.specs.Ordering.{is_lt}
+use Rattle.std.specs.declared.cmp.Ordering.{Ordering}
+use Rattle.std.specs.Ordering.{is_lt, nat_cmp, ordering_then}
 use Rattle.std.specs.List.{All, AllWithin, find}
 use Rattle.std.specs.List.Sorted.{IsNonDecreasingBy, IsPartitionPoint}
 use Rattle.std.proofs.lemmas.Bool.{eqb-true, eq-eqb, and_parts}
 use Rattle.std.proofs.lemmas.Bool.Decides.{nat_tests}
-use Rattle.std.proofs.lemmas.List.{get_or-drop}
+use Rattle.std.proofs.lemmas.List.{get_or-drop, get_or_default}
 use Rattle.std.proofs.lemmas.List.Elements.{All-head, All-tail}
 use Rattle.std.proofs.lemmas.List.Sorted.{IsNonDecreasingBy-from_all_adjacent, IsNonDecreasingBy-drop}
 use Rattle.pkt_core.specs.Packet.{Values}
@@ -14,7 +15,7 @@ use Rattle.expr_core.specs.Lookup.{Lookup}
 use Rattle.expr_eval.specs.MatchMeaning.{holds}
 use Rattle.sb_model.specs.declared.stage.Stage.{Stage}
 use Rattle.sb_model.specs.declared.row.Row.{Row}
-use Rattle.sb_rows.specs.Row.{key_cmp, IsInRowOrder}
+use Rattle.sb_rows.specs.Row.{key_cmp, row_cmp, IsInRowOrder}
 use Rattle.sb_rows.specs.Match.{is_in_table, select}
 use Rattle.sb_rows.specs.inner.Tables.{table_key, key_of, find_while}
 use Rattle.sb_rows.proofs.Order.{keys_in_order}
@@ -33,6 +34,15 @@ key_from_order x y h =
 -- rows in order are in the order of their tables
 pub keys_rise : (xs : List Row) → IsInRowOrder xs → IsNonDecreasingBy key_of xs
 keys_rise xs up = IsNonDecreasingBy-from_all_adjacent key_of xs (λ k d lt. key_from_order _ _ (keys_in_order xs up k d (omega arith) lt))
+
+-- rows of two tables are in the order of their tables
+by_table : (dp p t q : ℕ) (rank text : Ordering) → p < 32 → q < 32 → dp * 32 + p ≢ t * 32 + q
+    → nat_cmp (dp * 32 + p) (t * 32 + q) ≡ ordering_then (ordering_then (ordering_then (nat_cmp dp t) (nat_cmp p q)) rank) text
+by_table dp p t q rank text a b other = grind (arith, nat_tests)
+
+pub order_by_table : (x y : Row) → key_of x ≢ key_of y → nat_cmp (key_of x) (key_of y) ≡ row_cmp x y
+unfolding key_cmp row_cmp
+order_by_table x y other = by_table x.dp.0 (stage_place x.stage) y.dp.0 (stage_place y.stage) _ _ (place_below x.stage) (place_below y.stage) other
 
 -- a row is of a table where it has its key
 key_tells : (dp p t q : ℕ) → p < 32 → q < 32 → eqb (dp * 32 + p) (t * 32 + q) ≡ (eqb dp t && eqb p q)
@@ -77,11 +87,33 @@ module _ {X : Type 0} (key : X → ℕ) (t : ℕ) (passes : X → Bool) where
           sym (find_none (λ y. eqb (key y) t && passes y) xs
           (λ k d below. ap (λ (b : Bool). b && passes (get_or xs k d)) (later t (key x) (key (get_or xs k d)) (All-head (λ y. t ≤ key y) x xs from) (rise 0 (suc k) d (omega arith) (omega arith)) is)))
 
-not_below : (t n : ℕ) → ltb n t ≡ false → t ≤ n
-not_below t n h = grind (arith, nat_tests)
-
-below_other : (t n : ℕ) → ltb n t ≡ true → eqb n t ≡ false
+below_other : (t n : ℕ) → n < t → eqb n t ≡ false
 below_other t n h = grind (arith, nat_tests)
+
+-- where a test of the keys parts rows, the keys are parted
+pub point_of_test : (rows : List Row) (t i : ℕ) → IsPartitionPoint (λ r. ltb (key_of r) t ≡ true) (λ r. ltb (key_of r) t ≡ false) rows i → IsPartitionPoint (λ r. key_of r < t) (λ r. t ≤ key_of r) rows i
+point_of_test rows t i point = (λ k d le below. is_below (key_of (get_or rows k d)) (point.0 k d le below), λ k d le below. is_not_below (key_of (get_or rows k d)) (point.1 k d le below))
+  where
+    is_below : (n : ℕ) → ltb n t ≡ true → n < t
+    is_below n h = grind (arith, nat_tests)
+
+    is_not_below : (n : ℕ) → ltb n t ≡ false → t ≤ n
+    is_not_below n h = grind (arith, nat_tests)
+
+-- a table begins behind a row of a lower one where the row after that is of no lower one
+pub begins_behind : (rows : List Row) → IsInRowOrder rows → (t near : ℕ) (x y : Row) → near + 1 < length rows → key_of (get_or rows near x) < t → t ≤ key_of (get_or rows (near + 1) y)
+    → IsPartitionPoint (λ r. key_of r < t) (λ r. t ≤ key_of r) rows (near + 1)
+begins_behind rows up t near x y within lower upper = (
+  λ k d le below.
+      let inside : near < length rows = omega arith in
+      let same : get_or rows near d ≡ get_or rows near x = get_or_default rows near d x inside in
+      let rise = keys_rise rows up k near d (omega arith) inside in
+      omega (arith, rise, ap key_of same, lower),
+  λ k d le below.
+      let same : get_or rows (near + 1) d ≡ get_or rows (near + 1) y = get_or_default rows (near + 1) d y within in
+      let rise = keys_rise rows up (near + 1) k d (omega arith) below in
+      omega (arith, rise, ap key_of same, upper),
+)
 
 module _ (dp : ObjId) (stage : Stage) (net : Lookup) (packet : Values) where
   abbrev takes : Row → Bool
@@ -89,13 +121,13 @@ module _ (dp : ObjId) (stage : Stage) (net : Lookup) (packet : Values) where
 
   -- so the row that a packet meets is found from the first row that is not of a lower table
   pub select_from : (rows : List Row) → IsInRowOrder rows → (low : ℕ) → low ≤ length rows
-      → IsPartitionPoint (λ r. ltb (key_of r) (table_key dp stage) ≡ true) (λ r. ltb (key_of r) (table_key dp stage) ≡ false) rows low
+      → IsPartitionPoint (λ r. key_of r < table_key dp stage) (λ r. table_key dp stage ≤ key_of r) rows low
       → find_while (λ r. eqb (key_of r) (table_key dp stage)) (λ r. holds net packet r.matching) (drop low rows) ≡ select dp stage net packet rows
   select_from rows up low within point =
       let t = table_key dp stage in
       let dropped = length-drop low rows in
       find_while_is key_of t takes (drop low rows) (IsNonDecreasingBy-drop key_of low rows (keys_rise rows up))
-      (λ k d below. rw (get_or-drop low rows k d) (not_below t (key_of (get_or rows (low + k) d)) (point.1 (low + k) d (omega arith) (omega (arith, dropped)))))
+      (λ k d below. rw (get_or-drop low rows k d) (point.1 (low + k) d (omega arith) (omega (arith, dropped))))
       ∙ sym (find_past (λ r. eqb (key_of r) t && takes r) rows low within (λ k d le below. ap (λ (b : Bool). b && takes (get_or rows k d)) (below_other t (key_of (get_or rows k d)) (point.0 k d le below))))
       ∙ find_alike (λ r. eqb (key_of r) t && takes r) (λ r. is_in_table dp stage r && takes r) (λ r. ap (λ (b : Bool). b && takes r) (in_table-key dp stage r)) rows
 

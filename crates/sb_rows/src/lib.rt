@@ -4,10 +4,12 @@
 
 mod laws;
 mod listing;
+mod new_rows;
 mod rows;
 mod search;
 mod stored;
 
 pub use laws::{rows_are_told_by_their_members, rows_that_are_put_are_in_order};
 pub use listing::put_listing;
+pub use new_rows::NewRows;
 pub use rows::Rows;

@@ -4,7 +4,8 @@ ghost use Rattle.std.specs.Option.{option_copied};
 ghost use Rattle.sb_rows.specs.Row.{AreApart, AreRows, HasTypedMatch, IsWithout, put_row, put_rows, rows_of};
 ghost use Rattle.sb_rows.specs.Match.{select};
 
-use crate::search::{first_that_holds, place_among, place_of};
+use crate::NewRows;
+use crate::search::{first_that_holds, place_among, place_of, table_from};
 use crate::stored::{Stored, table_key};
 use expr_core::Env;
 use nv_base::{ObjId, OutOfMemory};
@@ -61,7 +62,8 @@ impl Rows {
         ensures ok { OnOk result (self.new ≡ put_row row self.old) }
         ensures err { OnErr result (self.new ≡ self.old) }
     {
-        let stored = Stored::new(*self.sorted.allocator(), row)?;
+        let alloc = *self.sorted.allocator();
+        let stored = Stored::new(alloc, row, &mut Vec::new(alloc))?;
         let at = place_among(&self.sorted, &stored);
         self.sorted.insert(at, stored)?;
         Ok(())
@@ -75,9 +77,19 @@ impl Rows {
         ensures ok { OnOk result (self.new ≡ put_rows self.old rows.items) }
         ensures err { OnErr result (self.new ≡ self.old) }
     {
+        let new = all_new(*self.sorted.allocator(), rows)?;
+        self.put_new(new)
+    }
+
+    /// The same of rows that came one by one. No row is in memory twice.
+    pub fn put_new(&mut self, rows: NewRows) -> Result<(), OutOfMemory>
+        requires apart { AreApart (self.old ++ rows) }
+        requires typed { All HasTypedMatch rows }
+        ensures ok { OnOk result (self.new ≡ put_rows self.old rows) }
+        ensures err { OnErr result (self.new ≡ self.old) }
+    {
         let before = self.sorted.len();
-        let mut stored = all_stored(*self.sorted.allocator(), rows)?;
-        self.sorted.append(&mut stored)?;
+        append(&mut self.sorted, rows.into_stored())?;
         match self.sorted.sort_by(|one, other| one.order(other)) {
             Ok(()) => Ok(()),
             Err(_) => {
@@ -130,11 +142,9 @@ impl Rows {
     pub(crate) fn of_datapath(&self, dp: ObjId) -> &[Stored]
         ensures { result.now ≡ rows_of dp self.now }
     {
-        let low = self
-            .sorted
-            .partition_point(|stored| stored.row().dp.0 < dp.0);
+        let low = self.sorted.partition_point(|stored| stored.dp().0 < dp.0);
         let from_low = &self.sorted[low..];
-        let count = from_low.partition_point(|stored| stored.row().dp.0 <= dp.0);
+        let count = from_low.partition_point(|stored| stored.dp().0 <= dp.0);
         &from_low[..count]
     }
 
@@ -143,21 +153,50 @@ impl Rows {
     pub fn select<E: Env>(&self, dp: ObjId, stage: Stage, packet: &Packet, env: &E) -> Option<&Row>
         ensures { option_copied result ≡ select dp stage (E.lookup env.now) packet.now self.now }
     {
+        let mut near = 0;
+        self.select_near(dp, stage, packet, env, &mut near)
+    }
+
+    /// The same, for tables one after the other. `near` is where the row of the table before was found, or anything, and
+    /// becomes where this one is. A table that begins right after it is not searched for; the answer does not depend on it.
+    pub fn select_near<E: Env>(
+        &self,
+        dp: ObjId,
+        stage: Stage,
+        packet: &Packet,
+        env: &E,
+        near: &mut usize,
+    ) -> Option<&Row>
+        ensures { option_copied result ≡ select dp stage (E.lookup env.now) packet.now self.now }
+    {
         let key = table_key(dp, stage);
-        let low = self
-            .sorted
-            .partition_point(|stored| stored.table_key() < key);
-        first_that_holds(&self.sorted[low..], key, packet, env)
+        let low = table_from(&self.sorted, *near, key);
+        let (row, before) = first_that_holds(&self.sorted[low..], key, packet, env);
+        *near = low + before;
+        row
     }
 }
 
-// The rows, in their order, each with the text of its match.
-fn all_stored(alloc: Global, rows: Vec<Row>) -> Result<Vec<Stored>, OutOfMemory>
-    ensures { IfOk result (λ stored. stored.items ≡ rows.items) }
+// The rows, in their order, each with what is kept beside it.
+fn all_new(alloc: Global, rows: Vec<Row>) -> Result<NewRows, OutOfMemory>
+    ensures { IfOk result (λ new. new ≡ rows.items) }
 {
-    let mut stored = Vec::new(alloc);
+    let mut new = NewRows::with_capacity(alloc, rows.len())?;
     for row in rows {
-        stored.push(Stored::new(alloc, row)?)?;
+        new.push(row)?;
     }
-    Ok(stored)
+    Ok(new)
+}
+
+// Puts more after what is there, without a copy where nothing is.
+fn append(rows: &mut Vec<Stored>, mut more: Vec<Stored>) -> Result<(), OutOfMemory>
+    ensures ok { OnOk result (rows.new.items ≡ rows.old.items ++ more.items) }
+    ensures err { OnErr result (rows.new.items ≡ rows.old.items) }
+{
+    if rows.is_empty() {
+        *rows = more;
+    } else {
+        rows.append(&mut more)?;
+    }
+    Ok(())
 }

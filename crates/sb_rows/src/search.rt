@@ -1,5 +1,5 @@
 //! The searches among rows in order.
-ghost use Rattle.std.specs.Prelude.{◌≡◌, ◌≤◌, ◌==◌, true, false, length, Contains, IfSome, IfNone, IsTrue, ◌↔◌};
+ghost use Rattle.std.specs.Prelude.{◌≡◌, ◌<◌, ◌≤◌, ◌==◌, true, false, length, Contains, IfSome, IfNone, IsTrue, ◌↔◌};
 ghost use Rattle.std.specs.List.Sorted.{IsPartitionPoint};
 ghost use Rattle.std.specs.Option.{option_copied};
 ghost use Rattle.std.specs.Ordering.{is_le};
@@ -10,7 +10,6 @@ ghost use Rattle.sb_rows.specs.inner.Tables.{key_of, find_while};
 
 use crate::stored::Stored;
 use expr_core::Env;
-use expr_eval::holds;
 use pkt_core::Packet;
 use sb_model::Row;
 
@@ -61,23 +60,42 @@ fn is_same(a: &Row, b: &Row) -> bool
     a == b
 }
 
-// The first row whose match holds of the packet, among those of the table of this key with which the rows begin.
+// Where the rows of the table of this key begin, or would, among rows in order. The place after `near` is looked at first.
+pub(crate) fn table_from(rows: &[Stored], near: usize, key: u64) -> usize
+    requires { IsInRowOrder rows.now }
+    ensures bound { result ≤ length rows.now }
+    ensures point { IsPartitionPoint (λ r. key_of r < key) (λ r. key ≤ key_of r) rows.now result }
+{
+    if near < rows.len()
+        && near + 1 < rows.len()
+        && rows[near].table_key() < key
+        && key <= rows[near + 1].table_key()
+    {
+        near + 1
+    } else {
+        rows.partition_point(|stored| stored.table_key() < key)
+    }
+}
+
+// The first row whose match holds of the packet, among those of the table of this key with which the rows begin, and how
+// many rows are before it.
 pub(crate) fn first_that_holds<'r, E: Env>(
     rows: &'r [Stored],
     key: u64,
     packet: &Packet,
     env: &E,
-) -> Option<&'r Row>
-    ensures { option_copied result ≡ find_while (λ r. key_of r == key)
+) -> (Option<&'r Row>, usize)
+    ensures row { option_copied result.0 ≡ find_while (λ r. key_of r == key)
         (λ r. holds (E.lookup env.now) packet.now r.matching) rows.now }
+    ensures before { result.1 ≤ length rows.now }
 {
-    for stored in rows {
+    for (before, stored) in rows.iter().enumerate() {
         if stored.table_key() != key {
-            return None;
+            return (None, before);
         }
-        if holds(&stored.row().matching, packet, env) {
-            return Some(stored.row());
+        if stored.takes(packet, env) {
+            return (Some(stored.row()), before);
         }
     }
-    None
+    (None, rows.len())
 }

@@ -1,15 +1,27 @@
-//! A row beside the text of its match, which orders it and is listed.
-ghost use Rattle.std.specs.Prelude.{◌≡◌, IfOk};
+//! A row beside what searches look at first, and the text of its match, which orders it and is listed.
+ghost use Rattle.std.specs.Prelude.{◌≡◌, ◌%◌, IfOk};
 ghost use Rattle.expr_core.specs.Text.{typed_text};
+ghost use Rattle.expr_eval.specs.MatchMeaning.{holds};
 ghost use Rattle.sb_rows.specs.Row.{key_cmp, row_cmp};
+ghost use Rattle.sb_rows.specs.inner.Beside.{has_asked, IsAskedBy};
 ghost use Rattle.sb_rows.specs.inner.Tables.{table_key, key_of};
 
-use expr_core::put_tree;
-use nv_base::{ObjId, OutOfMemory};
+use expr_core::{Bits, Env, Item, Node, Rel, Right, Typed, TypedAtom, put_tree};
+use expr_eval::holds;
+use nv_base::{Field, ObjId, OutOfMemory};
+use pkt_core::Packet;
 use sb_model::{Row, Stage};
 use std::alloc::Global;
 use std::cmp::Ordering;
 use std::marker::Model;
+
+// What a match asks of a packet before all else.
+#[derive(Clone, Copy)]
+pub(crate) enum Asked {
+    Anything,
+    // That the number of a field has this last byte.
+    LastByte(Field, u8),
+}
 
 // A row, and the text of its match.
 #[derive(Drop)]
@@ -18,11 +30,13 @@ struct Written {
     text: Vec<u8>,
 }
 
-// A row beside the text of its match and the place of its table. A clause sees it as the row. It is small, since many
-// are moved where one is put or taken, and a search for a table looks at the places alone.
+// A row beside the text of its match, and what searches look at first: its table, and what its match asks. A clause sees
+// it as the row. It is small, since many are moved where one is put or taken, and looked at where one is searched.
 #[derive(Drop)]
 pub(crate) struct Stored {
-    key: u64,
+    dp: ObjId,
+    stage: Stage,
+    asked: Asked,
     kept: Box<Written>,
 }
 
@@ -39,19 +53,26 @@ impl Model for Stored {
 
     ghost view = { λ s. s.kept.value.row };
 
-    ghost invariant = { λ s. IsBeside s.kept.value.row s.key s.kept.value.text.items };
+    ghost invariant = { λ s. IsBeside s.kept.value.row s.dp s.stage s.asked s.kept.value.text.items };
 }
 
 impl Stored {
-    // The row, for which the text of its match is written.
-    pub(crate) fn new(alloc: Global, row: Row) -> Result<Self, OutOfMemory>
+    // The row, for which the text of its match is written. `room` is a place to write in, of which nothing stays.
+    pub(crate) fn new(alloc: Global, row: Row, room: &mut Vec<u8>) -> Result<Self, OutOfMemory>
         ensures { IfOk result (λ stored. stored ≡ row) }
     {
-        let mut text = Vec::new(alloc);
-        put_tree(&mut text, &row.matching)?;
-        let key = table_key(row.dp, row.stage);
+        room.clear();
+        put_tree(room, &row.matching)?;
+        let text = Vec::from_slice(alloc, room.as_slice())?;
+        let (dp, stage) = (row.dp, row.stage);
+        let asked = asked_by(&row.matching);
         let kept = Box::new(alloc, Written { row, text })?;
-        Ok(Stored { key, kept })
+        Ok(Stored {
+            dp,
+            stage,
+            asked,
+            kept,
+        })
     }
 
     pub(crate) fn row(&self) -> &Row
@@ -67,11 +88,26 @@ impl Stored {
         self.kept.text.as_slice()
     }
 
-    // The place of the row's table among all.
+    // The datapath of the row. The row is not looked at.
+    pub(crate) fn dp(&self) -> ObjId
+        ensures { result ≡ self.now.dp }
+    {
+        self.dp
+    }
+
+    // The place of the row's table among all. The row is not looked at.
     pub(crate) fn table_key(&self) -> u64
         ensures { result ≡ key_of self.now }
     {
-        self.key
+        table_key(self.dp, self.stage)
+    }
+
+    // Whether the match holds of the packet. The row is looked at only where the packet has what is asked first.
+    #[inline]
+    pub(crate) fn takes<E: Env>(&self, packet: &Packet, env: &E) -> bool
+        ensures { result ≡ holds (E.lookup env.now) packet.now self.now.matching }
+    {
+        has_asked(self.asked, packet) && holds(&self.row().matching, packet, env)
     }
 
     // The order of the row and another by all but their matches: by datapath, stage, falling priority, and hint.
@@ -92,15 +128,51 @@ impl Stored {
         by_place.then(by_rank)
     }
 
-    // The order of the row and another. Their texts are looked at only where all else is equal.
-    #[tactic(auto, unfolding(crate::specs::Row::row_cmp))]
+    // The order of the row and another. The rows are looked at only where they are of one table, and their texts only
+    // where all else is equal.
+    #[tactic(auto, using(crate::proofs::Tables::order_by_table), unfolding(crate::specs::Row::row_cmp))]
     pub(crate) fn order(&self, other: &Stored) -> Ordering
         ensures { result ≡ row_cmp self.now other.now }
     {
+        if self.table_key() != other.table_key() {
+            return self.table_key().cmp(&other.table_key());
+        }
         match self.key_order(other.row()) {
             Ordering::Equal => self.text().cmp(other.text()),
             unlike => unlike,
         }
+    }
+}
+
+// What the match asks first. Most matches compare a field with one number.
+#[tactic(auto, using(crate::proofs::Asked::asks_nothing, crate::proofs::Asked::asks_last_byte))]
+fn asked_by(matching: &Typed) -> Asked
+    ensures { IsAskedBy matching.now result }
+{
+    match &matching.node {
+        Node::Atom(
+            TypedAtom::Compare(field, Bits::Whole, Rel::Eq, Right::Item(Item::One(constant))),
+        ) => Asked::LastByte(*field, last_byte(constant.value)),
+        _ => Asked::Anything,
+    }
+}
+
+// The lowest eight bits of the number.
+#[inline]
+fn last_byte(number: u128) -> u8
+    ensures { result ≡ number % 256 }
+{
+    (number % 256) as u8
+}
+
+// Whether the packet has what is asked.
+#[inline]
+fn has_asked(asked: Asked, packet: &Packet) -> bool
+    ensures { result ≡ has_asked asked packet.now }
+{
+    match asked {
+        Asked::Anything => true,
+        Asked::LastByte(field, byte) => last_byte(packet.get(field)) == byte,
     }
 }
 

@@ -37,9 +37,10 @@ pub fn run_pipeline<E: Env>(
     };
     let mut packet = *packet;
     let mut budget = STEP_BUDGET;
+    let mut near = 0;
     while budget > 0 {
         budget -= 1;
-        let Some(row) = rows.select(dp, stage, &packet, env) else {
+        let Some(row) = rows.select_near(dp, stage, &packet, env, &mut near) else {
             unreachable!()
         };
         hits.push(hit_of(dp, stage, row))?;

@@ -3,9 +3,9 @@ use Rattle.nd_full.proofs.Typed.{rows_typed}
 use Rattle.nd_full.proofs.build.full_build.Goals as goal
 
 -- the rows of a sound network are apart
-pub put_all-requires-clause-apart : goal.put_all-requires-clause-apart
-put_all-requires-clause-apart c = rw (c.new-rows.ensures, c.in_ok-made.ensures.rows) (rows_apart c.args.network.now c.rows_of_units.ensures.sound)
+pub put_new-requires-clause-apart : goal.put_new-requires-clause-apart
+put_new-requires-clause-apart c = rw (c.new-rows.ensures, c.in_ok-made.ensures.rows) (rows_apart c.args.network.now c.rows_of_units.ensures.sound)
 
 -- and well-typed
-pub put_all-requires-clause-typed : goal.put_all-requires-clause-typed
-put_all-requires-clause-typed c = rw c.in_ok-made.ensures.rows (rows_typed c.args.network.now c.rows_of_units.ensures.sound)
+pub put_new-requires-clause-typed : goal.put_new-requires-clause-typed
+put_new-requires-clause-typed c = rw c.in_ok-made.ensures.rows (rows_typed c.args.network.now c.rows_of_units.ensures.sound)

@@ -6,7 +6,7 @@ use Rattle.sb_rows.specs.inner.Tables.{key_of, find_while}
 use Rattle.sb_rows.proofs.search.first_that_holds.Given as goal
 
 -- a search of the rows that are left finds what a search of all does
-abbrev pub invariant-loop-stored : goal.invariant-loop-stored
-invariant-loop-stored g l =
-    find_while (λ (r : Row). key_of r == l.key) (λ (r : Row). holds (g.E.Env.lookup l.env) l.packet r.matching) (drop l.stored-index l.rows)
+abbrev pub invariant-loop-before : goal.invariant-loop-before
+invariant-loop-before g l =
+    find_while (λ (r : Row). key_of r == l.key) (λ (r : Row). holds (g.E.Env.lookup l.env) l.packet r.matching) (drop l.before l.rows)
     ≡ find_while (λ (r : Row). key_of r == l.key) (λ (r : Row). holds (g.E.Env.lookup l.env) l.packet r.matching) l.rows

@@ -26,52 +26,52 @@ loop-budget-init g c =
     (ap (λ (k : DatapathKind). stage_at k c.args.pipeline c.args.table) (sym (c.kind_of.ensures c.args.rows.now)) ∙ sym c.at.ensures ∙ c.in-Some.is) in
     record { joined = ap (λ (w : PipelineRun). c.args.hits.now.items ++ w.hits) (sym begins); same_end = ap (λ (w : PipelineRun). w.outcome) (sym begins) }
 
-pub unreachable-requires-in_default-select : goal.unreachable-requires-in_default-select
-unreachable-requires-in_default-select g c =
+pub unreachable-requires-in_default-select_near : goal.unreachable-requires-in_default-select_near
+unreachable-requires-in_default-select_near g c =
     row_there _ _ _ _ _ _ _ c.loop-budget-test.true c.loop-budget.invariant (pipeline_never_stuck _ c.requires.rows _ _ _ c.requires.table)
-    (sym c.select.ensures ∙ ap option_copied c.in_default-select.is)
+    (sym c.select_near.ensures ∙ ap option_copied c.in_default-select_near.is)
 
 pub returns-in_err-push-clause-runs : goal.returns-in_err-push-clause-runs
 returns-in_err-push-clause-runs g c = pipeline_never_stuck _ c.requires.rows _ _ _ c.requires.table
 
 pub run_actions-requires-clause-formed : goal.run_actions-requires-clause-formed
-run_actions-requires-clause-formed g c = rw c.as_slice.ensures (acting_formed _ c.requires.rows _ _ _ (sym c.select.ensures ∙ ap option_copied c.in-Some-select.is))
+run_actions-requires-clause-formed g c = rw c.as_slice.ensures (acting_formed _ c.requires.rows _ _ _ (sym c.select_near.ensures ∙ ap option_copied c.in-Some-select_near.is))
 
 pub run_actions-requires-clause-run : goal.run_actions-requires-clause-run
-run_actions-requires-clause-run g c = rw c.as_slice.ensures (acting_run _ c.requires.rows _ _ _ (sym c.select.ensures ∙ ap option_copied c.in-Some-select.is))
+run_actions-requires-clause-run g c = rw c.as_slice.ensures (acting_run _ c.requires.rows _ _ _ (sym c.select_near.ensures ∙ ap option_copied c.in-Some-select_near.is))
 
 pub loop-budget-preserved : goal.loop-budget-preserved
 loop-budget-preserved g c =
-    step_taken (flows_of c.args.rows.now (g.E.Env.lookup c.args.env.now) c.args.dp) c.loop-budget.budget c.loop-budget.stage c.loop-budget.packet _ c.loop-budget.hits.items _ c.in-Some-select.row.now (On c.in-On.next c.run_actions.new.packet) c.push.new.self.items
-    c.loop-budget-test.true c.loop-budget.invariant (sym c.select.ensures ∙ ap option_copied c.in-Some-select.is)
+    step_taken (flows_of c.args.rows.now (g.E.Env.lookup c.args.env.now) c.args.dp) c.loop-budget.budget c.loop-budget.stage c.loop-budget.packet _ c.loop-budget.hits.items _ c.in-Some-select_near.row.now (On c.in-On.next c.run_actions.new.packet) c.push.new.self.items
+    c.loop-budget-test.true c.loop-budget.invariant (sym c.select_near.ensures ∙ ap option_copied c.in-Some-select_near.is)
     (ap (λ actions. run_actions (g.E.Env.lookup c.args.env.now) c.loop-budget.stage actions c.loop-budget.packet) (sym c.as_slice.ensures) ∙ c.run_actions.ensures ∙ ap (λ (e : Ending). with_packet e c.run_actions.new.packet) c.in-On.is)
     (c.in_ok-push.ensures.items ∙ ap (λ hit. c.loop-budget.hits.items ++ hit) c.hit_of.ensures)
 
 pub returns-in-Sent-clause-hits : goal.returns-in-Sent-clause-hits
 returns-in-Sent-clause-hits g c =
-    (run_ends (flows_of c.args.rows.now (g.E.Env.lookup c.args.env.now) c.args.dp) c.loop-budget.budget c.loop-budget.stage c.loop-budget.packet _ c.loop-budget.hits.items _ c.in-Some-select.row.now (sent c.in-Sent.pipeline c.run_actions.new.packet) c.push.new.self.items
-    c.loop-budget-test.true c.loop-budget.invariant (sym c.select.ensures ∙ ap option_copied c.in-Some-select.is)
+    (run_ends (flows_of c.args.rows.now (g.E.Env.lookup c.args.env.now) c.args.dp) c.loop-budget.budget c.loop-budget.stage c.loop-budget.packet _ c.loop-budget.hits.items _ c.in-Some-select_near.row.now (sent c.in-Sent.pipeline c.run_actions.new.packet) c.push.new.self.items
+    c.loop-budget-test.true c.loop-budget.invariant (sym c.select_near.ensures ∙ ap option_copied c.in-Some-select_near.is)
     (ap (λ actions. run_actions (g.E.Env.lookup c.args.env.now) c.loop-budget.stage actions c.loop-budget.packet) (sym c.as_slice.ensures) ∙ c.run_actions.ensures ∙ ap (λ (e : Ending). with_packet e c.run_actions.new.packet) c.in-Sent.is)
     (c.in_ok-push.ensures.items ∙ ap (λ hit. c.loop-budget.hits.items ++ hit) c.hit_of.ensures)).0
 
 pub returns-in-Sent-clause-outcome : goal.returns-in-Sent-clause-outcome
 returns-in-Sent-clause-outcome g c =
-    (run_ends (flows_of c.args.rows.now (g.E.Env.lookup c.args.env.now) c.args.dp) c.loop-budget.budget c.loop-budget.stage c.loop-budget.packet _ c.loop-budget.hits.items _ c.in-Some-select.row.now (sent c.in-Sent.pipeline c.run_actions.new.packet) c.push.new.self.items
-    c.loop-budget-test.true c.loop-budget.invariant (sym c.select.ensures ∙ ap option_copied c.in-Some-select.is)
+    (run_ends (flows_of c.args.rows.now (g.E.Env.lookup c.args.env.now) c.args.dp) c.loop-budget.budget c.loop-budget.stage c.loop-budget.packet _ c.loop-budget.hits.items _ c.in-Some-select_near.row.now (sent c.in-Sent.pipeline c.run_actions.new.packet) c.push.new.self.items
+    c.loop-budget-test.true c.loop-budget.invariant (sym c.select_near.ensures ∙ ap option_copied c.in-Some-select_near.is)
     (ap (λ actions. run_actions (g.E.Env.lookup c.args.env.now) c.loop-budget.stage actions c.loop-budget.packet) (sym c.as_slice.ensures) ∙ c.run_actions.ensures ∙ ap (λ (e : Ending). with_packet e c.run_actions.new.packet) c.in-Sent.is)
     (c.in_ok-push.ensures.items ∙ ap (λ hit. c.loop-budget.hits.items ++ hit) c.hit_of.ensures)).1 ∙ ap Some (sym c.sent.ensures)
 
 pub returns-in-Dropped-clause-hits : goal.returns-in-Dropped-clause-hits
 returns-in-Dropped-clause-hits g c =
-    (run_ends (flows_of c.args.rows.now (g.E.Env.lookup c.args.env.now) c.args.dp) c.loop-budget.budget c.loop-budget.stage c.loop-budget.packet _ c.loop-budget.hits.items _ c.in-Some-select.row.now (outcomes.Drop c.in-Dropped.cause) c.push.new.self.items
-    c.loop-budget-test.true c.loop-budget.invariant (sym c.select.ensures ∙ ap option_copied c.in-Some-select.is)
+    (run_ends (flows_of c.args.rows.now (g.E.Env.lookup c.args.env.now) c.args.dp) c.loop-budget.budget c.loop-budget.stage c.loop-budget.packet _ c.loop-budget.hits.items _ c.in-Some-select_near.row.now (outcomes.Drop c.in-Dropped.cause) c.push.new.self.items
+    c.loop-budget-test.true c.loop-budget.invariant (sym c.select_near.ensures ∙ ap option_copied c.in-Some-select_near.is)
     (ap (λ actions. run_actions (g.E.Env.lookup c.args.env.now) c.loop-budget.stage actions c.loop-budget.packet) (sym c.as_slice.ensures) ∙ c.run_actions.ensures ∙ ap (λ (e : Ending). with_packet e c.run_actions.new.packet) c.in-Dropped.is)
     (c.in_ok-push.ensures.items ∙ ap (λ hit. c.loop-budget.hits.items ++ hit) c.hit_of.ensures)).0
 
 pub returns-in-Dropped-clause-outcome : goal.returns-in-Dropped-clause-outcome
 returns-in-Dropped-clause-outcome g c =
-    (run_ends (flows_of c.args.rows.now (g.E.Env.lookup c.args.env.now) c.args.dp) c.loop-budget.budget c.loop-budget.stage c.loop-budget.packet _ c.loop-budget.hits.items _ c.in-Some-select.row.now (outcomes.Drop c.in-Dropped.cause) c.push.new.self.items
-    c.loop-budget-test.true c.loop-budget.invariant (sym c.select.ensures ∙ ap option_copied c.in-Some-select.is)
+    (run_ends (flows_of c.args.rows.now (g.E.Env.lookup c.args.env.now) c.args.dp) c.loop-budget.budget c.loop-budget.stage c.loop-budget.packet _ c.loop-budget.hits.items _ c.in-Some-select_near.row.now (outcomes.Drop c.in-Dropped.cause) c.push.new.self.items
+    c.loop-budget-test.true c.loop-budget.invariant (sym c.select_near.ensures ∙ ap option_copied c.in-Some-select_near.is)
     (ap (λ actions. run_actions (g.E.Env.lookup c.args.env.now) c.loop-budget.stage actions c.loop-budget.packet) (sym c.as_slice.ensures) ∙ c.run_actions.ensures ∙ ap (λ (e : Ending). with_packet e c.run_actions.new.packet) c.in-Dropped.is)
     (c.in_ok-push.ensures.items ∙ ap (λ hit. c.loop-budget.hits.items ++ hit) c.hit_of.ensures)).1
 

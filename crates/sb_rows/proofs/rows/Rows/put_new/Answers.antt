@@ -7,22 +7,22 @@ use Rattle.sb_model.specs.declared.row.Row.{Row}
 use Rattle.sb_rows.specs.Row.{row_cmp, IsInRowOrder, HasTypedMatch}
 use Rattle.sb_rows.proofs.AllAtOnce.{sorted_is_put, sorted_are_rows}
 use Rattle.sb_rows.proofs.Order.{row_cmp_total}
-use Rattle.sb_rows.proofs.rows.Rows.put_all.Goals as goal
-use Rattle.sb_rows.proofs.rows.Rows.put_all.Goals.{After-drop-stored-in-Ok}
+use Rattle.sb_rows.proofs.rows.Rows.put_new.Goals as goal
+use Rattle.sb_rows.proofs.rows.Rows.put_new.Goals.{In-Ok}
 
 -- the sort moves the rows that were there and the new ones
-moved : (c : After-drop-stored-in-Ok) → IsPermutation (c.self.inside.sorted.items ++ c.args.rows.items) c.sort_by.new.self.items
-moved c = rw (c.in_ok-append.ensures.items, c.in_ok-stored.ensures) at c.sort_by.ensures.permutation
+moved : (c : In-Ok) → IsPermutation (c.self.inside.sorted.items ++ c.args.rows) c.sort_by.new.self.items
+moved c = rw (c.in_ok-append.ensures.ok, c.into_stored.ensures) at c.sort_by.ensures.permutation
 
 -- and leaves them in order
-ordered : (c : After-drop-stored-in-Ok) → IsInRowOrder c.sort_by.new.self.items
+ordered : (c : In-Ok) → IsInRowOrder c.sort_by.new.self.items
 ordered c = c.in-Ok.ensures.sorted (λ x y. is_lt (row_cmp x y)) (ranks_by row_cmp_total (λ (r : Row). r)) (answers_always _ _ _ (λ f a r g called. search rules))
 
 pub invariant_of-self-in-Ok : goal.invariant_of-self-in-Ok
 invariant_of-self-in-Ok c =
     let rows = c.self.inside.sorted.items in
-    let typed = All-append HasTypedMatch rows c.args.rows.items c.self.invariant.typed c.requires.typed in
-    sorted_are_rows rows c.args.rows.items _ (rw (← c.self.view_is) at c.requires.apart) typed (moved c) (ordered c)
+    let typed = All-append HasTypedMatch rows c.args.rows c.self.invariant.typed c.requires.typed in
+    sorted_are_rows rows c.args.rows _ (rw (← c.self.view_is) at c.requires.apart) typed (moved c) (ordered c)
 
 pub returns-in-Ok-clause-ok : goal.returns-in-Ok-clause-ok
-returns-in-Ok-clause-ok c = rw (← c.self.view_is) (sorted_is_put c.self.inside.sorted.items c.args.rows.items _ c.self.invariant.ordered (rw (← c.self.view_is) at c.requires.apart) (moved c) (ordered c))
+returns-in-Ok-clause-ok c = rw (← c.self.view_is) (sorted_is_put c.self.inside.sorted.items c.args.rows _ c.self.invariant.ordered (rw (← c.self.view_is) at c.requires.apart) (moved c) (ordered c))

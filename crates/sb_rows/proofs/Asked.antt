@@ -1,0 +1,50 @@
+-- What a match asks of a packet before all else.
+use Rattle.std.proofs.Common.{◌≡◌, ℕ, Bool, true, false, eqb, ap, ◌∙◌, refl, sym}
+use Rattle.std.specs.Prelude.{◌&&◌, ◌%◌}
+use Rattle.nv_base.specs.declared.field.Field.{Field}
+use Rattle.std.proofs.lemmas.Bool.{false≢true, eqb-true, eq-eqb}
+use Rattle.expr_core.specs.Formula.{Formula}
+use Rattle.expr_core.specs.Formula.Formula.{Leaf}
+use Rattle.expr_core.specs.Lookup.{Lookup}
+use Rattle.expr_core.specs.declared.comparison.Item.TheVariants.{One}
+use Rattle.expr_core.specs.declared.comparison.Rel.TheVariants.{Eq}
+use Rattle.expr_core.specs.declared.comparison.Right.TheVariants as right
+use Rattle.expr_core.specs.declared.constant.Const.{Const}
+use Rattle.expr_core.specs.declared.part.Bits.TheVariants.{Whole}
+use Rattle.expr_core.specs.declared.typed.TypedAtom.{TypedAtom}
+use Rattle.expr_core.specs.declared.typed.TypedAtom.TheVariants.{Compare}
+use Rattle.expr_eval.specs.MatchMeaning.{holds}
+use Rattle.pkt_core.specs.Packet.{Values, value}
+use Rattle.pkt_core.specs.Prerequisite.{is_there}
+use Rattle.sb_rows.specs.declared.stored.Asked.{Asked}
+use Rattle.sb_rows.specs.declared.stored.Asked.TheVariants.{Anything, LastByte}
+use Rattle.sb_rows.specs.inner.Beside.{has_asked, IsAskedBy}
+
+-- two numbers whose last bytes differ are two
+apart_by_byte : (n c : ℕ) → eqb (n % 256) (c % 256) ≡ false → eqb n c ≡ false
+apart_by_byte n c other = by (eqb n c) refl
+  where
+    by : (b : Bool) → eqb n c ≡ b → b ≡ false
+    by true is = absurd (false≢true (sym other ∙ eq-eqb (n % 256) (c % 256) (ap (λ (m : ℕ). m % 256) (eqb-true n c is))))
+    by false is = refl
+
+and_false : (b c : Bool) → c ≡ false → (b && c) ≡ false
+and_false true c e = e
+and_false false c e = refl
+
+-- any match asks that a packet has anything
+pub asks_nothing : (matching : Formula TypedAtom) → IsAskedBy matching Anything
+asks_nothing matching net packet not = absurd (false≢true (sym not))
+
+-- the comparison of a field with a number asks that the number of the field has its last byte
+pub asks_last_byte : (field : Field) (c : Const) → IsAskedBy (Leaf (Compare field Whole Eq (right.Item (One c)))) (LastByte field (c.value % 256))
+asks_last_byte field c net packet other = and_false (is_there packet field) _ (apart_by_byte (value packet field) c.value other)
+
+-- a match that asks for what a packet has not does not hold
+pub taken : (net : Lookup) (packet : Values) (matching : Formula TypedAtom) (asked : Asked) → IsAskedBy matching asked
+    → (has_asked asked packet && holds net packet matching) ≡ holds net packet matching
+taken net packet matching asked asks = by (has_asked asked packet) refl
+  where
+    by : (b : Bool) → has_asked asked packet ≡ b → (b && holds net packet matching) ≡ holds net packet matching
+    by true is = refl
+    by false is = sym (asks net packet is)

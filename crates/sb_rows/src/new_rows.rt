@@ -1,0 +1,57 @@
+ghost use Rattle.std.specs.Prelude.{◌≡◌, [], ◌∷◌, ◌++◌, IfOk, OnOk, OnErr};
+
+use crate::stored::Stored;
+use nv_base::OutOfMemory;
+use sb_model::Row;
+use std::alloc::Global;
+use std::marker::Model;
+
+/// Rows that are to be put among others, in the order in which they came. A clause sees it as the list of the rows.
+#[derive(Drop)]
+pub struct NewRows {
+    stored: Vec<Stored>,
+    // Where the text of a match is written first, so that what is kept of it has no more room than it needs.
+    room: Vec<u8>,
+}
+
+impl Model for NewRows {
+    ghost use Rattle.std.specs.Prelude.{List};
+    ghost use Rattle.sb_model.specs.declared.row.Row.{Row};
+    ghost use Rattle.sb_model.specs.contracts.row.Row as row_of;
+    ghost use Rattle.std.specs.Coded.{codes};
+
+    ghost Value = { List Row };
+
+    ghost coded = { Prim.hlevel (codes, row_of.the_row.coded) };
+
+    ghost view = { λ r. r.stored.items };
+}
+
+impl NewRows {
+    /// No rows, and room for so many.
+    pub fn with_capacity(alloc: Global, count: usize) -> Result<Self, OutOfMemory>
+        ensures { IfOk result (λ rows. rows ≡ []) }
+    {
+        Ok(NewRows {
+            stored: Vec::with_capacity(alloc, count)?,
+            room: Vec::new(alloc),
+        })
+    }
+
+    /// Puts a row last. After `OutOfMemory` the rows are as before.
+    pub fn push(&mut self, row: Row) -> Result<(), OutOfMemory>
+        ensures ok { OnOk result (self.new ≡ self.old ++ row ∷ []) }
+        ensures err { OnErr result (self.new ≡ self.old) }
+    {
+        let stored = Stored::new(*self.stored.allocator(), row, &mut self.room)?;
+        self.stored.push(stored)?;
+        Ok(())
+    }
+
+    // The rows, in their order.
+    pub(crate) fn into_stored(self) -> Vec<Stored>
+        ensures { result.items ≡ self }
+    {
+        self.stored
+    }
+}

@@ -1,5 +1,5 @@
 -- The output of a run.
-use Rattle.std.specs.Prelude.{ℕ, ◌-◌, Bool, ◌==◌, if◌then◌else◌, List, length, take, nat_lt, codes}
+use Rattle.std.specs.Prelude.{ℕ, ◌-◌, Bool, ◌==◌, if◌then◌else◌, List, length, take, codes}
 use Rattle.std.specs.List.{slice_split}
 use Rattle.nb_model.specs.Network.{empty_network}
 use Rattle.nv_serve.specs.Reply.{replies, some_refused}
@@ -20,13 +20,13 @@ complete_lines input = take (length (lines_of input) - 1) (lines_of input)
 abbrev pub output : List ℕ → List ℕ
 output input = replies empty_network (lines_of input)
 
--- the line of a program that has arguments
+-- how the program is called
 abbrev pub usage_line : List ℕ
-usage_line = codes "usage: ovn_nd\n"
+usage_line = codes "usage: ovn_nd [--hops N]\n"
 
--- what is due for an input, by the count of arguments, the program's name among them
-abbrev pub output_for : ℕ → List ℕ → List ℕ
-output_for count given = if nat_lt 1 count then usage_line else output given
+-- what is due for an input, by whether the arguments are accepted
+abbrev pub output_for : Bool → List ℕ → List ℕ
+output_for accepted given = if accepted then output given else usage_line
 
 -- what is written for the complete lines alone
 abbrev pub complete_output : List ℕ → List ℕ

@@ -1,5 +1,7 @@
-ghost use Rattle.std.specs.Prelude.{◌≡◌, ◌<◌, ◌≤◌, ◌↔◌, ◌⊎◌, ◌+◌, ◌++◌, ℕ, List, [], IsTrue, IsSomeAnd, length, take, true};
+ghost use Rattle.std.specs.Prelude.{◌≡◌, ◌<◌, ◌≤◌, ◌↔◌, ◌⊎◌, ◌+◌, ◌++◌, ℕ, List, [], IsTrue, IsSomeAnd, length, take, map, true, false};
 ghost use Rattle.std.specs.Io.KnownBytes.{IsAtEnd};
+ghost use Rattle.std.specs.String.{string_bytes};
+ghost use Rattle.nv_options.specs.Options.{accepts};
 ghost use Rattle.nv_io.specs.Counts.{Rose, count_after};
 ghost use Rattle.nv_serve.specs.Calls.{BeginsDue, Moved, told_left, start_at};
 ghost use Rattle.nv_serve.specs.Output.{lines_of, output, output_for, complete_output, usage_line, is_refused, input_limit};
@@ -13,11 +15,12 @@ use crate::converse::converse;
 use crate::put_all::put_all;
 use crate::server::Server;
 use nv_io::{Sink, Source};
+use nv_options::{ArgumentFault, accept_arguments};
 use std::alloc::Global;
 
 /// Runs the program: reads the input by pieces of at most 4,096 bytes, runs each line once its end is known, and
-/// writes its reply before it reads on. `arguments` begins with the program's name. Where there are more, nothing is
-/// read, and what is written is the line `usage: ovn_nd`.
+/// writes its reply before it reads on. `arguments` begins with the program's name. Where they are not accepted, nothing is
+/// read, and what is written is the line `usage: ovn_nd [--hops N]`.
 ///
 /// Of a source or a sink that does not tell its bytes, the clauses on content say how many there are.
 pub fn run<S: Source, K: Sink>(
@@ -37,7 +40,7 @@ pub fn run<S: Source, K: Sink>(
     ensures read_fault { result ≡ Status.ReadFault → Moved S.state K.state (source.old, sink.old) (source.new, sink.new) (λ given written.
         written ≡ complete_output given) }
     ensures write_fault { result ≡ Status.WriteFault → Moved S.state K.state (source.old, sink.old) (source.new, sink.new) (λ given written.
-        BeginsDue (output_for (length arguments.now)) given (told_left (S.state source.new).left) written) }
+        BeginsDue (output_for (accepts (map string_bytes arguments.now))) given (told_left (S.state source.new).left) written) }
     ensures input_too_long { result ≡ Status.InputTooLong → Moved S.state K.state (source.old, sink.old) (source.new, sink.new) (λ given written.
         (input_limit < length given) × (written ≡ complete_output (take input_limit given))) }
     ensures out_of_memory { result ≡ Status.OutOfMemory → Moved S.state K.state (source.old, sink.old) (source.new, sink.new) (λ given written.
@@ -53,11 +56,12 @@ pub fn run<S: Source, K: Sink>(
         → count_after (S.state source.old).given (input_limit + 1) ≤ (S.state source.new).given }
     ensures within_the_limit { IsFinished result ⊎ (result ≡ Status.ReadFault)
         → Moved S.state K.state (source.old, sink.old) (source.new, sink.new) (λ given written. length given ≤ input_limit) }
-    ensures usage_cause { result ≡ Status.Usage → 1 < length arguments.now }
+    ensures usage_cause { result ≡ Status.Usage → accepts (map string_bytes arguments.now) ≡ false }
 
-    // Arguments are refused before anything is read.
-    ensures usage_comes { 1 < length arguments.now → (result ≡ Status.Usage) ⊎ (result ≡ Status.WriteFault) }
-    ensures usage_reads_nothing { 1 < length arguments.now → source.new ≡ source.old }
+    // Arguments that are not accepted are refused before anything is read.
+    ensures usage_comes { accepts (map string_bytes arguments.now) ≡ false
+        → (result ≡ Status.Usage) ⊎ (result ≡ Status.WriteFault) ⊎ (result ≡ Status.OutOfMemory) }
+    ensures usage_reads_nothing { accepts (map string_bytes arguments.now) ≡ false → source.new ≡ source.old }
 
     // Each frame of the input is answered by events that are, hits left out, what the switch does with it.
     ensures refinement { IsFinished result → Moved S.state K.state (source.old, sink.old) (source.new, sink.new) (λ given written.
@@ -69,28 +73,45 @@ pub fn run<S: Source, K: Sink>(
         NothingFollowsAFault S.take_gives K.put_gives (start_at source.old sink.old)
         (record { source = source.new; sink = sink.new; given = given; written = written }) result) }
 
-    // Completeness: with no argument, no fault and no more input than may be, only memory keeps the run from its end.
-    ensures complete { length arguments.now ≤ 1
+    // Completeness: with arguments that are accepted, no fault and no more input than may be, only memory keeps the run from its end.
+    ensures complete { accepts (map string_bytes arguments.now) ≡ true
         → (Rose (S.state source.old).faults (S.state source.new).faults → ⊥)
         → (Rose (K.state sink.old).faults (K.state sink.new).faults → ⊥)
         → IsSomeAnd (S.state source.old).left (λ input. length input ≤ input_limit)
         ⊎ ((S.state source.new).given < count_after (S.state source.old).given (input_limit + 1))
         → IsFinished result ⊎ (result ≡ Status.OutOfMemory) }
 {
-    serve(alloc, arguments.len(), source, sink)
+    serve(alloc, arguments, source, sink)
 }
 
-// All that a run with so many arguments promises, as one fact for each status.
-fn serve<S: Source, K: Sink>(alloc: Global, count: usize, source: &mut S, sink: &mut K) -> Status
+// All that a run promises, as one fact for each status.
+fn serve<S: Source, K: Sink>(
+    alloc: Global,
+    arguments: &[String],
+    source: &mut S,
+    sink: &mut K,
+) -> Status
     ensures ends { Moved S.state K.state (source.old, sink.old) (source.new, sink.new) (λ given written.
-        Ends count (S.state source.old, K.state sink.old) (S.state source.new, K.state sink.new) (given, written) result
+        Ends (accepts (map string_bytes arguments.now)) (S.state source.old, K.state sink.old) (S.state source.new, K.state sink.new) (given, written) result
         × NothingFollowsAFault S.take_gives K.put_gives (start_at source.old sink.old)
         (record { source = source.new; sink = sink.new; given = given; written = written }) result) }
-    ensures arguments { 1 < count → (source.new ≡ source.old) × ((result ≡ Status.Usage) ⊎ (result ≡ Status.WriteFault)) }
+    ensures arguments { accepts (map string_bytes arguments.now) ≡ false
+        → (source.new ≡ source.old) × ((result ≡ Status.Usage) ⊎ (result ≡ Status.WriteFault) ⊎ (result ≡ Status.OutOfMemory)) }
 {
-    if count > 1 {
-        return refuse_arguments(sink);
+    match accept_arguments(alloc, arguments) {
+        Ok(()) => answer_lines(alloc, source, sink),
+        Err(ArgumentFault::Refused) => refuse_arguments(sink),
+        Err(ArgumentFault::Memory) => Status::OutOfMemory,
     }
+}
+
+// Answers the lines of the input.
+fn answer_lines<S: Source, K: Sink>(alloc: Global, source: &mut S, sink: &mut K) -> Status
+    ensures { Moved S.state K.state (source.old, sink.old) (source.new, sink.new) (λ given written.
+        Ends true (S.state source.old, K.state sink.old) (S.state source.new, K.state sink.new) (given, written) result
+        × NothingFollowsAFault S.take_gives K.put_gives (start_at source.old sink.old)
+        (record { source = source.new; sink = sink.new; given = given; written = written }) result) }
+{
     let mut server = Server::new(alloc);
     match converse(alloc, &mut server, source, sink) {
         Ok(()) if server.some_refused => Status::SomeRefused,
@@ -103,7 +124,7 @@ fn serve<S: Source, K: Sink>(alloc: Global, count: usize, source: &mut S, sink: 
 fn refuse_arguments<K: Sink>(sink: &mut K) -> Status
     ensures { Refuses (Wrote K.put_gives K.state sink.old sink.new) (PutFailed K.put_gives K.state sink.old sink.new) result }
 {
-    match put_all(sink, b"usage: ovn_nd\n") {
+    match put_all(sink, b"usage: ovn_nd [--hops N]\n") {
         Ok(()) => Status::Usage,
         Err(_) => Status::WriteFault,
     }

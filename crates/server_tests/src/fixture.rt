@@ -3,10 +3,9 @@ ghost use Rattle.std.specs.Prelude.{IfOk, Contains, ◌<◌, ◌^◌};
 ghost use Rattle.nb_model.specs.Sound.{switch_numbers};
 
 use nb_model::Network;
-use nv_base::{Field, Mac, Name, ObjId};
+use nv_base::{Field, Mac, Name, ObjId, OutOfMemory};
 use pkt_core::Packet;
 use std::alloc::Global;
-use std::test::Fail;
 
 pub(crate) const SWITCH: ObjId = ObjId(1);
 
@@ -29,7 +28,7 @@ pub(crate) const MULTICAST: u64 = 0x0100_5e00_0001;
 pub(crate) const NO_HINT: ObjId = ObjId(0);
 
 // A switch `sw0` with the ports `p0`, which has an address, and `p1`, which has none.
-pub(crate) fn network(alloc: Global) -> Result<Network, Fail>
+pub(crate) fn network(alloc: Global) -> Result<Network, OutOfMemory>
     ensures { IfOk result (λ network. Contains (switch_numbers network.switches) 1) }
 {
     let mut network = Network::new(alloc);

@@ -1,38 +1,44 @@
 use crate::fixture::{
     ADDRESS, MULTICAST, NO_HINT, OTHER_PORT, PORT, SWITCH, UNKNOWN, network, packet,
 };
+use nb_model::Network;
 use nd_full::full_build;
 use net_meaning::{Cause, PlainEvent};
-use nv_base::{Field, Kept, Mac, Name, ObjId};
+use nv_base::{Field, Kept, Mac, Name, ObjId, OutOfMemory};
 use pkt_core::Packet;
 use sb_model::{Row, Stage};
 use std::alloc::Global;
+use std::process::Abort;
 use std::test::Fail;
 use tr_stage::Hit;
 use tr_walk::{Event, trace};
 
 // What happens to a packet that comes into the switch by a port.
-fn walk(alloc: Global, port: ObjId, packet: &Packet) -> Result<Vec<Event>, Fail> {
+fn walk(alloc: Global, port: ObjId, packet: &Packet) -> Result<Vec<Event>, OutOfMemory> {
     let network = network(alloc)?;
     let rows = full_build(alloc, &network)?;
-    Ok(trace(alloc, &rows, &network, SWITCH, port, packet)?)
+    trace(alloc, &rows, &network, SWITCH, port, packet)
+}
+
+// Whether the port of this name is the one of this number, and has this address.
+fn is_port(network: &Network, name: &Name, number: ObjId, address: Mac) -> bool {
+    match (network.port_named(name), network.port_numbered(number)) {
+        (Some(named), Some(numbered)) => named == numbered && named.address == Some(address),
+        _ => false,
+    }
+}
+
+fn name(text: &str, alloc: Global, rt: &impl Abort) -> Name {
+    Name::from_slice(alloc, text.as_bytes()).expect(rt, "memory")
 }
 
 #[test]
 fn objects_are_found(rt: HostRuntime) -> Result<(), Fail> {
     let network = network(rt.alloc())?;
-    let name = Name::from_slice(rt.alloc(), b"sw0")?;
-    assert!(rt; network.switch_named(&name) == Some(SWITCH));
+    assert!(rt; network.switch_named(&name("sw0", rt.alloc(), &rt)) == Some(SWITCH));
     assert!(rt; network.switch_numbered(PORT).is_none());
     assert_eq!(rt; network.switches().len(), 1);
-    let name = Name::from_slice(rt.alloc(), b"p0")?;
-    match (network.port_named(&name), network.port_numbered(PORT)) {
-        (Some(named), Some(numbered)) => {
-            assert!(rt; named == numbered);
-            assert!(rt; named.address == Some(Mac(ADDRESS)));
-        }
-        _ => panic!(rt; "it is not found"),
-    }
+    assert!(rt; is_port(&network, &name("p0", rt.alloc(), &rt), PORT, Mac(ADDRESS)));
     assert_eq!(rt; network.ports().len(), 2);
     Ok(())
 }
@@ -48,8 +54,9 @@ fn is_in(met: Option<&Row>, stage: Stage, priority: u16, hint: ObjId) -> bool {
 }
 
 #[test]
-fn rows_are_built_in_order(rt: HostRuntime) -> Result<(), Fail> {
-    let rows = full_build(rt.alloc(), &network(rt.alloc())?)?;
+fn rows_are_built_at_once_in_row_order(rt: HostRuntime) -> Result<(), Fail> {
+    let network = network(rt.alloc())?;
+    let rows = full_build(rt.alloc(), &network).expect(&rt, "memory");
     let expected = [
         (Stage::LsInCheckPortSec, 100, NO_HINT),
         (Stage::LsInCheckPortSec, 0, NO_HINT),

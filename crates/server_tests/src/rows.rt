@@ -1,16 +1,19 @@
-ghost use Rattle.std.specs.Prelude.{◌<◌, ◌^◌, None, false, refl};
+ghost use Rattle.std.specs.Prelude.{None, false, refl};
+ghost use Rattle.expr_core.specs.WellTyped.{IsTyped};
+ghost use Rattle.expr_core.specs.declared.role.Role.TheVariants as role;
 ghost use Rattle.sb_rows.specs.Row.{HasTypedMatch};
 
+use crate::fixture::packet;
 use act_core::{Action, Step};
-use expr_core::{Const, Env, Form, Pred};
-use nv_base::{Field, Items, Kept, Name, ObjId, OutOfMemory};
+use expr_core::{Const, Env, Form, Pred, Typed};
+use nv_base::{Field, Items, Kept, Name, ObjId};
 use pkt_core::Packet;
 use sb_model::{
     DatapathKind, Pipeline, Row, Stage, bit, equals, is_port, one_step, predicate, takes_each,
 };
 use sb_rows::{Rows, put_listing};
 use std::alloc::Global;
-use std::test::Fail;
+use std::process::Abort;
 
 // A network without ports, sets and groups.
 struct Empty;
@@ -37,130 +40,144 @@ impl Env for Empty {
     ghost multicast_is_no_port = { λ _. (refl, refl) };
 }
 
-// Where a row stands: its datapath, stage, priority and hint.
+// The packets that a row takes.
 #[derive(Clone, Copy)]
-struct At(u32, Stage, u16, u32);
+enum Takes {
+    Each,
+    ToMulticast,
+    FromMulticast,
+    // Those to the MAC 0a:00:00:00:00:xx, of this last byte.
+    To(u8),
+    // Those that came in by the port `vm-1`.
+    FromPort,
+}
 
-// A row for each packet.
-fn for_each(at: At, actions: Items<Action>) -> Row
-    ensures { HasTypedMatch result }
+// What a row does.
+#[derive(Clone, Copy)]
+enum Does {
+    Next,
+    Drop,
+    Output,
+    // Out by the port or the group of this name.
+    OutBy(&'static str),
+}
+
+// A row as plain data: its datapath, stage, priority and hint, the packets that it takes, and what it does.
+#[derive(Clone, Copy)]
+struct Plain(u32, Stage, u16, u32, Takes, Does);
+
+fn match_of(takes: Takes, alloc: Global, rt: &impl Abort) -> Typed
+    ensures { IsTyped role.Row result }
 {
-    Row {
-        dp: ObjId(at.0),
-        stage: at.1,
-        priority: at.2,
-        hint: ObjId(at.3),
-        matching: takes_each(),
-        actions,
+    match takes {
+        Takes::Each => takes_each(),
+        Takes::ToMulticast => predicate(Pred::EthMcast),
+        Takes::FromMulticast => bit(Field::EthSrc, 40),
+        Takes::To(last) => {
+            let constant = Const {
+                form: Form::Mac,
+                value: 0x0a00_0000_0000 + u128::from(last),
+            };
+            equals(Field::EthDst, constant)
+        }
+        Takes::FromPort => is_port(Field::Inport, name("vm-1", alloc, rt)),
     }
 }
 
-// A row for packets of multicast destinations.
-fn for_multicast(at: At, actions: Items<Action>) -> Row
-    ensures { HasTypedMatch result }
-{
-    Row {
-        matching: predicate(Pred::EthMcast),
-        ..for_each(at, actions)
-    }
+fn name(text: &str, alloc: Global, rt: &impl Abort) -> Name {
+    Name::from_slice(alloc, text.as_bytes()).expect(rt, "memory")
 }
 
-// A row for packets of multicast sources.
-fn from_multicast(at: At, actions: Items<Action>) -> Row
-    ensures { HasTypedMatch result }
-{
-    Row {
-        matching: bit(Field::EthSrc, 40),
-        ..for_each(at, actions)
-    }
-}
-
-// A row for packets to this MAC.
-fn for_mac(at: At, mac: u64, actions: Items<Action>) -> Row
-    requires { mac < 2 ^ 48 }
-    ensures { HasTypedMatch result }
-{
-    let constant = Const {
-        form: Form::Mac,
-        value: u128::from(mac),
+fn actions_of(does: Does, alloc: Global, rt: &impl Abort) -> Items<Action> {
+    let first = match does {
+        Does::Next => Step::Next,
+        Does::Drop => Step::Drop,
+        Does::Output => Step::Output,
+        Does::OutBy(port) => Step::SetOutport(name(port, alloc, rt)),
     };
-    Row {
-        matching: equals(Field::EthDst, constant),
-        ..for_each(at, actions)
+    let mut actions = one_step(alloc, first).expect(rt, "memory");
+    if let Does::OutBy(_) = does {
+        actions
+            .push(Action::Step(Step::Output))
+            .expect(rt, "memory");
     }
+    actions
 }
 
-// A row for packets that came in by the port of this name.
-fn from_port(at: At, name: Name, actions: Items<Action>) -> Row
+fn row_of(plain: Plain, alloc: Global, rt: &impl Abort) -> Row
     ensures { HasTypedMatch result }
 {
+    let Plain(dp, stage, priority, hint, takes, does) = plain;
     Row {
-        matching: is_port(Field::Inport, name),
-        ..for_each(at, actions)
+        dp: ObjId(dp),
+        stage,
+        priority,
+        hint: ObjId(hint),
+        matching: match_of(takes, alloc, rt),
+        actions: actions_of(does, alloc, rt),
     }
 }
 
-// Out by the port of this name.
-fn out_by(alloc: Global, port: &[u8]) -> Result<Items<Action>, OutOfMemory> {
-    let name = Name::from_slice(alloc, port)?;
-    let mut actions = one_step(alloc, Step::SetOutport(name))?;
-    actions.push(Action::Step(Step::Output))?;
-    Ok(actions)
-}
-
-fn put_new(rows: &mut Rows, row: Row) -> Result<(), Fail>
-    requires { HasTypedMatch row }
-{
+// Puts a row that is made of this, where none is there that is equal.
+fn put_new(rows: &mut Rows, plain: Plain, alloc: Global, rt: &impl Abort) {
+    let row = row_of(plain, alloc, rt);
     if !rows.contains(&row) {
-        rows.put(row)?;
+        rows.put(row).expect(rt, "memory");
     }
-    Ok(())
+}
+
+// The rows that are made of these, put one after the other.
+fn rows_of(table: &[Plain], alloc: Global, rt: &impl Abort) -> Rows {
+    let mut rows = Rows::new(alloc);
+    for plain in table {
+        put_new(&mut rows, *plain, alloc, rt);
+    }
+    rows
+}
+
+// The listing of the datapaths of these numbers and names, or of the one alone that has the number `only`.
+fn listing(
+    rows: &Rows,
+    named: &[(u32, &'static str)],
+    only: Option<ObjId>,
+    alloc: Global,
+    rt: &impl Abort,
+) -> Vec<u8> {
+    let mut names = Vec::new(alloc);
+    for (number, text) in named {
+        names
+            .push((ObjId(*number), name(text, alloc, rt)))
+            .expect(rt, "memory");
+    }
+    let mut out = Vec::new(alloc);
+    put_listing(&mut out, rows, &names, only).expect(rt, "memory");
+    out
 }
 
 #[test]
-fn a_switch_is_listed_in_row_order(rt: HostRuntime) -> Result<(), Fail> {
-    let alloc = rt.alloc();
-    let mut rows = Rows::new(alloc);
-    assert!(rt; rows.is_empty());
-    let egress = At(1, Stage::LsOutCheckPortSec, 0, 0);
-    put_new(&mut rows, for_each(egress, one_step(alloc, Step::Output)?))?;
-    let lookup = At(1, Stage::LsInL2Lkup, 70, 0);
-    put_new(
-        &mut rows,
-        for_multicast(lookup, out_by(alloc, b"_MC_flood")?),
-    )?;
-    let at = At(1, Stage::LsInL2Lkup, 50, 4);
-    put_new(
-        &mut rows,
-        for_mac(at, 0x0a00_0000_000b, out_by(alloc, b"vm-2")?),
-    )?;
-    let at = At(1, Stage::LsInL2Lkup, 50, 3);
-    put_new(
-        &mut rows,
-        for_mac(at, 0x0a00_0000_000c, out_by(alloc, b"vm-1")?),
-    )?;
-    put_new(
-        &mut rows,
-        for_mac(at, 0x0a00_0000_000a, out_by(alloc, b"vm-1")?),
-    )?;
-    let port_security = At(1, Stage::LsInCheckPortSec, 100, 2);
-    put_new(
-        &mut rows,
-        from_multicast(port_security, one_step(alloc, Step::Drop)?),
-    )?;
-    put_new(
-        &mut rows,
-        for_multicast(port_security, one_step(alloc, Step::Drop)?),
-    )?;
-    put_new(
-        &mut rows,
-        for_multicast(port_security, one_step(alloc, Step::Drop)?),
-    )?;
+fn a_switch_is_listed_in_row_order(rt: HostRuntime) {
+    let lookup = Stage::LsInL2Lkup;
+    let security = Stage::LsInCheckPortSec;
+    let table = [
+        Plain(1, Stage::LsOutCheckPortSec, 0, 0, Takes::Each, Does::Output),
+        Plain(
+            1,
+            lookup,
+            70,
+            0,
+            Takes::ToMulticast,
+            Does::OutBy("_MC_flood"),
+        ),
+        Plain(1, lookup, 50, 4, Takes::To(0x0b), Does::OutBy("vm-2")),
+        Plain(1, lookup, 50, 3, Takes::To(0x0c), Does::OutBy("vm-1")),
+        Plain(1, lookup, 50, 3, Takes::To(0x0a), Does::OutBy("vm-1")),
+        Plain(1, security, 100, 2, Takes::FromMulticast, Does::Drop),
+        Plain(1, security, 100, 2, Takes::ToMulticast, Does::Drop),
+        Plain(1, security, 100, 2, Takes::ToMulticast, Does::Drop),
+    ];
+    let rows = rows_of(&table, rt.alloc(), &rt);
     assert_eq!(rt; rows.len(), 7);
-    let mut names = Vec::new(alloc);
-    names.push((ObjId(1), Name::from_slice(alloc, b"sw0")?))?;
-    let mut out = Vec::new(alloc);
-    put_listing(&mut out, &rows, &names, None)?;
+    let out = listing(&rows, &[(1, "sw0")], None, rt.alloc(), &rt);
     let want = "Datapath: sw0  Pipeline: ingress
   table=0 (ls_in_check_port_sec), priority=100, hint=2, match=(eth.mcast), action=(drop;)
   table=0 (ls_in_check_port_sec), priority=100, hint=2, match=(eth.src[40]), action=(drop;)
@@ -172,22 +189,19 @@ Datapath: sw0  Pipeline: egress
   table=4 (ls_out_check_port_sec), priority=0, hint=0, match=(1), action=(output;)
 ";
     assert_eq!(rt; out.as_slice(), want.as_bytes());
-    Ok(())
 }
 
 #[test]
-fn datapaths_are_listed_by_name_list_and_one_alone(rt: HostRuntime) -> Result<(), Fail> {
-    let alloc = rt.alloc();
-    let mut rows = Rows::new(alloc);
-    let router = At(2, Stage::LrOutDelivery, 7, 0);
-    put_new(&mut rows, for_each(router, one_step(alloc, Step::Output)?))?;
-    let switch = At(1, Stage::LsInL2Unknown, 7, 0);
-    put_new(&mut rows, for_each(switch, one_step(alloc, Step::Output)?))?;
-    let other = At(3, Stage::LsInL2Unknown, 7, 0);
-    put_new(&mut rows, for_each(other, one_step(alloc, Step::Output)?))?;
-    let mut names = Vec::new(alloc);
-    names.push((ObjId(2), Name::from_slice(alloc, b"lr")?))?;
-    names.push((ObjId(1), Name::from_slice(alloc, b"ls")?))?;
+fn datapaths_are_listed_by_name_list_and_one_alone(rt: HostRuntime) {
+    let table = [
+        Plain(2, Stage::LrOutDelivery, 7, 0, Takes::Each, Does::Output),
+        Plain(1, Stage::LsInL2Unknown, 7, 0, Takes::Each, Does::Output),
+        Plain(3, Stage::LsInL2Unknown, 7, 0, Takes::Each, Does::Output),
+    ];
+    let rows = rows_of(&table, rt.alloc(), &rt);
+    let names = [(2, "lr"), (1, "ls")];
+    let one = listing(&rows, &names, Some(ObjId(1)), rt.alloc(), &rt);
+    let both = listing(&rows, &names, None, rt.alloc(), &rt);
     let router = "Datapath: lr  Pipeline: ingress
 Datapath: lr  Pipeline: egress
   table=2 (lr_out_delivery), priority=7, hint=0, match=(1), action=(output;)
@@ -196,15 +210,10 @@ Datapath: lr  Pipeline: egress
   table=8 (ls_in_l2_unknown), priority=7, hint=0, match=(1), action=(output;)
 Datapath: ls  Pipeline: egress
 ";
-    let mut one = Vec::new(alloc);
-    put_listing(&mut one, &rows, &names, Some(ObjId(1)))?;
     assert_eq!(rt; one.as_slice(), switch.as_bytes());
-    let mut both = Vec::new(alloc);
-    put_listing(&mut both, &rows, &names, None)?;
     assert_eq!(rt; both.len(), router.len() + switch.len());
     assert!(rt; both.as_slice().starts_with(router.as_bytes()));
     assert!(rt; both.as_slice().ends_with(switch.as_bytes()));
-    Ok(())
 }
 
 #[test]
@@ -221,128 +230,91 @@ fn stages_have_their_table(rt: HostRuntime) {
     assert!(rt; Stage::first(DatapathKind::Router, Pipeline::Egress) == Stage::LrOutUndnat);
 }
 
-// Whether the row is there, with this priority and hint.
-fn is_of(met: Option<&Row>, priority: u16, hint: u32) -> bool {
-    match met {
-        Some(row) => row.priority == priority && row.hint.0 == hint,
-        None => false,
+// The priority and the hint of the row that a packet meets.
+fn met(rows: &Rows, dp: u32, stage: Stage, packet: &Packet) -> Option<(u16, u32)> {
+    match rows.select(ObjId(dp), stage, packet, &Empty) {
+        Some(row) => Some((row.priority, row.hint.0)),
+        None => None,
     }
 }
 
 #[test]
-fn a_packet_meets_the_first_row_of_its_table_that_takes_it(rt: HostRuntime) -> Result<(), Fail> {
-    let alloc = rt.alloc();
-    let mut rows = Rows::new(alloc);
+fn a_packet_meets_the_first_row_of_its_table_that_takes_it(rt: HostRuntime) {
     let lookup = Stage::LsInL2Lkup;
-    put_new(
-        &mut rows,
-        for_each(At(1, lookup, 0, 0), one_step(alloc, Step::Next)?),
-    )?;
-    let mac = 0x0a00_0000_000a;
-    put_new(
-        &mut rows,
-        for_mac(At(1, lookup, 50, 9), mac, out_by(alloc, b"a")?),
-    )?;
-    put_new(
-        &mut rows,
-        for_mac(At(1, lookup, 50, 8), mac, out_by(alloc, b"b")?),
-    )?;
-    put_new(
-        &mut rows,
-        for_multicast(At(1, lookup, 70, 0), out_by(alloc, b"_MC_flood")?),
-    )?;
-    let port = Name::from_slice(alloc, b"vm-1")?;
-    put_new(
-        &mut rows,
-        from_port(At(1, lookup, 80, 0), port, one_step(alloc, Step::Drop)?),
-    )?;
-    let security = At(1, Stage::LsInCheckPortSec, 100, 0);
-    put_new(
-        &mut rows,
-        from_multicast(security, one_step(alloc, Step::Drop)?),
-    )?;
-    put_new(
-        &mut rows,
-        for_each(At(2, lookup, 99, 0), one_step(alloc, Step::Drop)?),
-    )?;
-    let mut packet = Packet::zero();
-    let here = ObjId(1);
-    assert!(rt; is_of(rows.select(here, lookup, &packet, &Empty), 0, 0));
-    packet.set(Field::EthDst, 0x0a00_0000_000a);
-    assert!(rt; is_of(rows.select(here, lookup, &packet, &Empty), 50, 8));
-    packet.set(Field::EthDst, 0xffff_ffff_ffff);
-    assert!(rt; is_of(rows.select(here, lookup, &packet, &Empty), 70, 0));
-    assert!(rt; is_of(rows.select(ObjId(2), lookup, &packet, &Empty), 99, 0));
-    let first = Stage::LsInCheckPortSec;
-    assert!(rt; rows.select(here, first, &packet, &Empty).is_none());
-    packet.set(Field::EthSrc, 0x0100_0000_0000);
-    assert!(rt; is_of(rows.select(here, first, &packet, &Empty), 100, 0));
-    assert!(rt;
-        rows.select(here, Stage::LsOutPreAcl, &packet, &Empty)
-            .is_none()
-    );
-    assert!(rt; rows.select(ObjId(3), lookup, &packet, &Empty).is_none());
-    Ok(())
-}
-
-#[test]
-fn a_row_that_is_taken_is_gone(rt: HostRuntime) -> Result<(), Fail> {
-    let alloc = rt.alloc();
-    let mut rows = Rows::new(alloc);
-    let at = At(1, Stage::LsInL2Lkup, 50, 9);
-    put_new(&mut rows, for_mac(at, 1, out_by(alloc, b"a")?))?;
-    put_new(&mut rows, for_mac(at, 2, out_by(alloc, b"a")?))?;
-    put_new(&mut rows, for_mac(at, 3, out_by(alloc, b"a")?))?;
-    let other_actions = for_mac(at, 2, out_by(alloc, b"b")?);
-    assert!(rt; !rows.take(&other_actions));
-    let second = for_mac(at, 2, out_by(alloc, b"a")?);
-    assert!(rt; rows.take(&second));
-    assert!(rt; !rows.take(&second));
-    assert_eq!(rt; rows.len(), 2);
-    assert!(rt; rows.contains(&for_mac(at, 1, out_by(alloc, b"a")?)));
-    assert!(rt; rows.contains(&for_mac(at, 3, out_by(alloc, b"a")?)));
-    Ok(())
-}
-
-#[test]
-fn a_copied_row_is_equal(rt: HostRuntime) -> Result<(), Fail> {
-    let alloc = rt.alloc();
-    let at = At(1, Stage::LsInL2Lkup, 50, 9);
-    let here = for_mac(at, 7, out_by(alloc, b"vm-1")?);
-    let copied = here.copy(alloc)?;
-    assert!(rt; copied == here);
-    assert!(rt; copied != for_mac(at, 7, out_by(alloc, b"vm-2")?));
-    assert!(rt; copied != for_mac(at, 8, out_by(alloc, b"vm-1")?));
-    Ok(())
-}
-
-// A store with these two rows, put at once into one that has none.
-#[tactic(auto, using(crate::proofs::Apart::two_apart, crate::proofs::Apart::two_typed))]
-fn put_at_once(alloc: Global, low: Row, high: Row) -> Result<Rows, OutOfMemory>
-    requires apart { low.priority < high.priority }
-    requires low_typed { HasTypedMatch low }
-    requires high_typed { HasTypedMatch high }
-{
-    let mut rows = Rows::new(alloc);
-    let mut both = Vec::new(alloc);
-    both.push(low)?;
-    both.push(high)?;
-    rows.put_all(both)?;
-    Ok(rows)
-}
-
-#[test]
-fn rows_put_at_once_are_in_row_order(rt: HostRuntime) -> Result<(), Fail> {
-    let alloc = rt.alloc();
-    let mut low = for_each(At(1, Stage::LsInLb, 0, 0), one_step(alloc, Step::Next)?);
-    let mut high = for_each(At(1, Stage::LsInLb, 0, 0), one_step(alloc, Step::Drop)?);
-    low.priority = 10;
-    high.priority = 20;
-    let rows = put_at_once(alloc, low, high)?;
-    assert_eq!(rt; rows.len(), 2);
-    match rows.get(0) {
-        Some(first) => assert_eq!(rt; first.priority, 20),
-        None => panic!(rt; "there is no row"),
+    let security = Stage::LsInCheckPortSec;
+    let table = [
+        Plain(1, lookup, 0, 0, Takes::Each, Does::Next),
+        Plain(1, lookup, 50, 9, Takes::To(0x0a), Does::OutBy("a")),
+        Plain(1, lookup, 50, 8, Takes::To(0x0a), Does::OutBy("b")),
+        Plain(
+            1,
+            lookup,
+            70,
+            0,
+            Takes::ToMulticast,
+            Does::OutBy("_MC_flood"),
+        ),
+        Plain(1, lookup, 80, 0, Takes::FromPort, Does::Drop),
+        Plain(1, security, 100, 0, Takes::FromMulticast, Does::Drop),
+        Plain(2, lookup, 99, 0, Takes::Each, Does::Drop),
+    ];
+    let rows = rows_of(&table, rt.alloc(), &rt);
+    let to_all = packet(0, 0xffff_ffff_ffff);
+    for (dp, stage, packet, expected) in [
+        (1, lookup, packet(0, 0), Some((0, 0))),
+        (1, lookup, packet(0, 0x0a00_0000_000a), Some((50, 8))),
+        (1, lookup, to_all, Some((70, 0))),
+        (2, lookup, to_all, Some((99, 0))),
+        (1, security, to_all, None),
+        (
+            1,
+            security,
+            packet(0x0100_0000_0000, 0xffff_ffff_ffff),
+            Some((100, 0)),
+        ),
+        (1, Stage::LsOutPreAcl, to_all, None),
+        (3, lookup, to_all, None),
+    ] {
+        assert_eq!(rt; met(&rows, dp, stage, &packet), expected);
     }
-    Ok(())
+}
+
+// A row to the MAC of this last byte, and out by this port.
+fn to_port(last: u8, port: &'static str) -> Plain {
+    Plain(
+        1,
+        Stage::LsInL2Lkup,
+        50,
+        9,
+        Takes::To(last),
+        Does::OutBy(port),
+    )
+}
+
+#[test]
+fn a_row_that_is_taken_is_gone(rt: HostRuntime) {
+    let mut rows = Rows::new(rt.alloc());
+    assert!(rt; rows.is_empty());
+    for last in [1, 2, 3] {
+        put_new(&mut rows, to_port(last, "a"), rt.alloc(), &rt);
+    }
+    for (last, port, expected) in [(2, "b", false), (2, "a", true), (2, "a", false)] {
+        let row = row_of(to_port(last, port), rt.alloc(), &rt);
+        assert_eq!(rt; rows.take(&row), expected, "out by {port}");
+    }
+    assert_eq!(rt; rows.len(), 2);
+    for last in [1, 3] {
+        assert!(rt; rows.contains(&row_of(to_port(last, "a"), rt.alloc(), &rt)));
+    }
+}
+
+#[test]
+fn a_copied_row_is_equal(rt: HostRuntime) {
+    for (last, port, expected) in [(7, "vm-1", true), (7, "vm-2", false), (8, "vm-1", false)] {
+        let here = row_of(to_port(7, "vm-1"), rt.alloc(), &rt);
+        let copied = here.copy(rt.alloc()).expect(&rt, "memory");
+        assert!(rt; copied == here);
+        let other = row_of(to_port(last, port), rt.alloc(), &rt);
+        assert_eq!(rt; copied == other, expected);
+    }
 }

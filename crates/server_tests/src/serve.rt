@@ -1,9 +1,8 @@
-use nv_base::OutOfMemory;
 use nv_io::{CleanSource, MemSink, MemSource, NullSink, Sink, StdSource};
 use nv_serve::{Line, Refusal, Status, read_line, run};
 use std::alloc::Global;
 use std::io::{self, ErrorKind, Read};
-use std::test::Fail;
+use std::process::Abort;
 
 // What `ls-add sw0` and `lflow-list` are answered.
 const ADDED_AND_LISTED: &str = "ok
@@ -32,16 +31,38 @@ ok
 // Room for the output of any script here.
 const ROOM: usize = 8192;
 
+// A sink with room for so many bytes, which takes nine at a time.
+fn sink_of(room: usize, failing_puts: &[u64], alloc: Global, rt: &impl Abort) -> MemSink {
+    let failing = Vec::from_slice(alloc, failing_puts).expect(rt, "memory");
+    MemSink::new(alloc, room, 9, failing).expect(rt, "memory")
+}
+
+// A source of the script, which gives nine bytes at a time.
+fn source_of(script: &str, failing_takes: &[u64], alloc: Global, rt: &impl Abort) -> MemSource {
+    let failing = Vec::from_slice(alloc, failing_takes).expect(rt, "memory");
+    let script = Vec::from_slice(alloc, script.as_bytes()).expect(rt, "memory");
+    MemSource::new(script, 9, failing)
+}
+
 // How the run of three new switches ends, whose names are given by one take each.
 fn adds_three<K: Sink>(
-    alloc: Global,
     failing_takes: &[u64],
     sink: &mut K,
-) -> Result<(Status, u64), OutOfMemory> {
-    let script = Vec::from_slice(alloc, b"ls-add a\nls-add b\nls-add c\n")?;
-    let mut source = MemSource::new(script, 9, Vec::from_slice(alloc, failing_takes)?);
+    alloc: Global,
+    rt: &impl Abort,
+) -> (Status, u64) {
+    let mut source = source_of("ls-add a\nls-add b\nls-add c\n", failing_takes, alloc, rt);
     let status = run(alloc, &[], &mut source, sink);
-    Ok((status, source.takes()))
+    (status, source.takes())
+}
+
+fn texts(words: &[&str], alloc: Global, rt: &impl Abort) -> Vec<String> {
+    let mut texts = Vec::new(alloc);
+    for word in words {
+        let text = String::from_str(alloc, word).expect(rt, "memory");
+        texts.push(text).expect(rt, "memory");
+    }
+    texts
 }
 
 // A reader whose second read fails, and whose other reads give a command each.
@@ -63,72 +84,68 @@ impl Read for FailsOnce {
 }
 
 #[test]
-fn no_input_is_no_output(rt: HostRuntime) -> Result<(), Fail> {
-    let mut arguments = Vec::new(rt.alloc());
-    arguments.push(String::from_str(rt.alloc(), "ovn_nd")?)?;
+fn no_input_is_no_output(rt: HostRuntime) {
+    let arguments = texts(&["ovn_nd"], rt.alloc(), &rt);
     let mut source = CleanSource::new(Vec::new(rt.alloc()), 9);
     let mut sink = NullSink::new();
     let status = run(rt.alloc(), &arguments, &mut source, &mut sink);
     assert_eq!(rt; status, Status::Done);
     assert_eq!(rt; (sink.len(), sink.puts()), (0, 0));
-    Ok(())
 }
 
 #[test]
-fn arguments_are_refused(rt: HostRuntime) -> Result<(), Fail> {
-    let mut arguments = Vec::new(rt.alloc());
-    for argument in ["ovn_nd", "--hops", "0"] {
-        arguments.push(String::from_str(rt.alloc(), argument)?)?;
+fn arguments_are_refused(rt: HostRuntime) {
+    let arguments = texts(&["ovn_nd", "--hops", "0"], rt.alloc(), &rt);
+    let mut source = source_of("ls-add a\n", &[], rt.alloc(), &rt);
+    // Where there is room for six bytes, the put after them is the last.
+    for (room, expected, written) in [
+        (ROOM, Status::Usage, "usage: ovn_nd [--hops N]\n"),
+        (6, Status::WriteFault, "usage:"),
+    ] {
+        let mut sink = sink_of(room, &[], rt.alloc(), &rt);
+        let status = run(rt.alloc(), &arguments, &mut source, &mut sink);
+        assert_eq!(rt; (status, source.takes()), (expected, 0));
+        assert_eq!(rt; sink.as_slice(), written.as_bytes());
     }
-    let script = Vec::from_slice(rt.alloc(), b"ls-add a\n")?;
-    let mut source = MemSource::new(script, 9, Vec::new(rt.alloc()));
-    let mut sink = MemSink::new(rt.alloc(), ROOM, 9, Vec::new(rt.alloc()))?;
-    let status = run(rt.alloc(), &arguments, &mut source, &mut sink);
-    assert_eq!(rt; (status, source.takes()), (Status::Usage, 0));
-    assert_eq!(rt; sink.as_slice(), b"usage: ovn_nd\n".as_slice());
-
-    // There is room for six bytes: the put after them is the last.
-    let mut sink = MemSink::new(rt.alloc(), 6, 9, Vec::new(rt.alloc()))?;
-    let status = run(rt.alloc(), &arguments, &mut source, &mut sink);
-    assert_eq!(rt; (status, source.takes()), (Status::WriteFault, 0));
-    assert_eq!(rt; sink.as_slice(), b"usage:".as_slice());
-    Ok(())
 }
 
 #[test]
-fn a_fault_ends_the_run(rt: HostRuntime) -> Result<(), Fail> {
+fn a_fault_ends_the_run(rt: HostRuntime) {
     // The third take fails: the first two lines are answered, and there is no fourth take.
-    let mut sink = MemSink::new(rt.alloc(), ROOM, 9, Vec::new(rt.alloc()))?;
-    let ended = adds_three(rt.alloc(), &[3], &mut sink)?;
-    assert_eq!(rt; ended, (Status::ReadFault, 3));
+    let mut sink = sink_of(ROOM, &[], rt.alloc(), &rt);
+    assert_eq!(rt;
+        adds_three(&[3], &mut sink, rt.alloc(), &rt),
+        (Status::ReadFault, 3)
+    );
     assert_eq!(rt; sink.as_slice(), b"ok\nok\n".as_slice());
 
     // The first put fails: there is no second, and no second take.
-    let failing_puts = Vec::from_slice(rt.alloc(), &[1])?;
-    let mut sink = MemSink::new(rt.alloc(), ROOM, 9, failing_puts)?;
-    let ended = adds_three(rt.alloc(), &[], &mut sink)?;
-    assert_eq!(rt; ended, (Status::WriteFault, 1));
+    let mut sink = sink_of(ROOM, &[1], rt.alloc(), &rt);
+    assert_eq!(rt;
+        adds_three(&[], &mut sink, rt.alloc(), &rt),
+        (Status::WriteFault, 1)
+    );
     assert_eq!(rt; (sink.as_slice().len(), sink.puts()), (0, 1));
 
     // There is room for four bytes: the put after them is the last.
-    let mut sink = MemSink::new(rt.alloc(), 4, 9, Vec::new(rt.alloc()))?;
-    let ended = adds_three(rt.alloc(), &[], &mut sink)?;
-    assert_eq!(rt; ended, (Status::WriteFault, 2));
+    let mut sink = sink_of(4, &[], rt.alloc(), &rt);
+    assert_eq!(rt;
+        adds_three(&[], &mut sink, rt.alloc(), &rt),
+        (Status::WriteFault, 2)
+    );
     assert_eq!(rt; sink.as_slice(), b"ok\no".as_slice());
     assert_eq!(rt; sink.puts(), 3);
-    Ok(())
 }
 
 #[test]
-fn nothing_is_read_after_a_failed_read(rt: HostRuntime) -> Result<(), Fail> {
+fn nothing_is_read_after_a_failed_read(rt: HostRuntime) {
     let mut source = StdSource::new(FailsOnce { reads: 0 });
-    let mut sink = MemSink::new(rt.alloc(), ROOM, 9, Vec::new(rt.alloc()))?;
+    let mut sink = sink_of(ROOM, &[], rt.alloc(), &rt);
     let status = run(rt.alloc(), &[], &mut source, &mut sink);
     assert_eq!(rt; status, Status::ReadFault);
     assert_eq!(rt; (source.takes(), source.faults()), (2, 1));
     assert_eq!(rt; source.into_inner().reads, 2);
     assert_eq!(rt; sink.as_slice(), b"ok\n".as_slice());
-    Ok(())
 }
 
 #[test]
@@ -149,12 +166,11 @@ fn without_memory_the_output_is_cut_off(rt: HostRuntime) {
 }
 
 #[test]
-fn a_line_is_read(rt: HostRuntime) -> Result<(), Fail> {
-    let line = read_line(rt.alloc(), b"ls-add -sw0")?;
+fn a_line_is_read(rt: HostRuntime) {
+    let line = read_line(rt.alloc(), b"ls-add -sw0").expect(&rt, "memory");
     assert_eq!(rt; line, Line::Refused(Refusal::BadName(2)));
     let mut told = Vec::new(rt.alloc());
-    Refusal::BadMac(3).put_line(&mut told)?;
+    Refusal::BadMac(3).put_line(&mut told).expect(&rt, "memory");
     assert_eq!(rt; told.as_slice(), b"refused E06 BadMac 3\n".as_slice());
     assert_eq!(rt; Status::OutOfMemory.code(), 6);
-    Ok(())
 }

@@ -1,8 +1,10 @@
+ghost use Rattle.std.specs.Prelude.{◌<◌, ◌^◌};
+
 use crate::fixture::{
     ADDRESS, MULTICAST, NO_HINT, OTHER_PORT, PORT, SWITCH, UNKNOWN, network, packet,
 };
 use nd_full::full_build;
-use nv_base::{Field, Kept, ObjId};
+use nv_base::{Field, Kept, ObjId, OutOfMemory};
 use pkt_core::Packet;
 use sb_model::Stage;
 use std::alloc::Global;
@@ -18,17 +20,17 @@ fn run(
     pipeline: Pipeline,
     packet: &Packet,
     hits: &mut Vec<Hit>,
-) -> Result<Outcome, Fail> {
+) -> Result<Outcome, OutOfMemory> {
     let network = network(alloc)?;
     let rows = full_build(alloc, &network)?;
-    Ok(run_pipeline(&rows, &network, SWITCH, pipeline, 0, packet, hits)?)
+    run_pipeline(&rows, &network, SWITCH, pipeline, 0, packet, hits)
 }
 
 // Runs a packet through ingress of the switch, from its last table on.
-fn run_last(alloc: Global, packet: &Packet, hits: &mut Vec<Hit>) -> Result<Outcome, Fail> {
+fn run_last(alloc: Global, packet: &Packet, hits: &mut Vec<Hit>) -> Result<Outcome, OutOfMemory> {
     let network = network(alloc)?;
     let rows = full_build(alloc, &network)?;
-    Ok(run_pipeline(&rows, &network, SWITCH, Pipeline::Ingress, 8, packet, hits)?)
+    run_pipeline(&rows, &network, SWITCH, Pipeline::Ingress, 8, packet, hits)
 }
 
 fn hit(stage: Stage, priority: u16, hint: ObjId) -> Hit {
@@ -40,13 +42,31 @@ fn hit(stage: Stage, priority: u16, hint: ObjId) -> Hit {
     }
 }
 
+// A hit that is there before a run.
+fn before() -> Hit {
+    hit(Stage::LrOutDelivery, 1, OTHER_PORT)
+}
+
+// How the run of a packet through a pipeline ends, and its hits, after one that was there before.
+fn run_of(
+    alloc: Global,
+    pipeline: Pipeline,
+    source: u64,
+    destination: u64,
+) -> Result<(Outcome, Vec<Hit>), OutOfMemory>
+    requires source { source < 2 ^ 48 }
+    requires destination { destination < 2 ^ 48 }
+{
+    let mut hits = Vec::new(alloc);
+    hits.push(before())?;
+    let outcome = run(alloc, pipeline, &packet(source, destination), &mut hits)?;
+    Ok((outcome, hits))
+}
+
 #[test]
 fn a_known_destination_goes_to_its_port(rt: HostRuntime) -> Result<(), Fail> {
-    let mut hits = Vec::new(rt.alloc());
-    let before = hit(Stage::LrOutDelivery, 1, OTHER_PORT);
-    hits.push(before)?;
-    let start = packet(UNKNOWN, ADDRESS);
-    match run(rt.alloc(), Pipeline::Ingress, &start, &mut hits)? {
+    let (outcome, hits) = run_of(rt.alloc(), Pipeline::Ingress, UNKNOWN, ADDRESS)?;
+    match outcome {
         Outcome::Leave(sent, table) => {
             assert_eq!(rt; table, 0);
             assert_eq!(rt; sent.get(Field::Outport), u128::from(PORT.0));
@@ -55,7 +75,7 @@ fn a_known_destination_goes_to_its_port(rt: HostRuntime) -> Result<(), Fail> {
         _ => panic!(rt; "it ends otherwise"),
     }
     let expected = [
-        before,
+        before(),
         hit(Stage::LsInCheckPortSec, 0, NO_HINT),
         hit(Stage::LsInPreAcl, 0, NO_HINT),
         hit(Stage::LsInPreStateful, 0, NO_HINT),
@@ -70,37 +90,29 @@ fn a_known_destination_goes_to_its_port(rt: HostRuntime) -> Result<(), Fail> {
 }
 
 #[test]
-fn others_are_flooded_or_dropped(rt: HostRuntime) -> Result<(), Fail> {
-    let mut hits = Vec::new(rt.alloc());
-    let start = packet(ADDRESS, MULTICAST);
-    match run(rt.alloc(), Pipeline::Ingress, &start, &mut hits)? {
+fn a_multicast_is_flooded(rt: HostRuntime) -> Result<(), Fail> {
+    let (outcome, hits) = run_of(rt.alloc(), Pipeline::Ingress, ADDRESS, MULTICAST)?;
+    match outcome {
         Outcome::Leave(sent, table) => {
             assert_eq!(rt; table, 0);
             assert_eq!(rt; sent.get(Field::Outport), FLOOD);
         }
         _ => panic!(rt; "it ends otherwise"),
     }
-    assert_eq!(rt; hits.len(), 8);
+    assert_eq!(rt; hits.len(), 9);
     assert!(rt; hits.last() == Some(&hit(Stage::LsInL2Lkup, 100, NO_HINT)));
+    Ok(())
+}
+
+#[test]
+fn others_are_dropped(rt: HostRuntime) -> Result<(), Fail> {
+    let security = hit(Stage::LsInCheckPortSec, 100, NO_HINT);
+    let unknown = hit(Stage::LsInL2Unknown, 0, NO_HINT);
     for (source, destination, cause, count, last) in [
-        (
-            MULTICAST,
-            ADDRESS,
-            Cause::PortSec,
-            1,
-            hit(Stage::LsInCheckPortSec, 100, NO_HINT),
-        ),
-        (
-            ADDRESS,
-            UNKNOWN,
-            Cause::Unknown,
-            9,
-            hit(Stage::LsInL2Unknown, 0, NO_HINT),
-        ),
+        (MULTICAST, ADDRESS, Cause::PortSec, 2, security),
+        (ADDRESS, UNKNOWN, Cause::Unknown, 10, unknown),
     ] {
-        let mut hits = Vec::new(rt.alloc());
-        let start = packet(source, destination);
-        let outcome = run(rt.alloc(), Pipeline::Ingress, &start, &mut hits)?;
+        let (outcome, hits) = run_of(rt.alloc(), Pipeline::Ingress, source, destination)?;
         assert!(rt; outcome == Outcome::Drop(cause));
         assert_eq!(rt; hits.len(), count);
         assert!(rt; hits.last() == Some(&last));
@@ -123,11 +135,10 @@ fn a_run_begins_at_the_table_that_is_given(rt: HostRuntime) -> Result<(), Fail> 
 #[test]
 fn egress_delivers(rt: HostRuntime) -> Result<(), Fail> {
     for (destination, priority) in [(ADDRESS, 0), (UNKNOWN, 0), (MULTICAST, 100)] {
-        let mut hits = Vec::new(rt.alloc());
-        let start = packet(ADDRESS, destination);
-        let outcome = run(rt.alloc(), Pipeline::Egress, &start, &mut hits)?;
-        assert!(rt; outcome == Outcome::Deliver(start));
+        let (outcome, hits) = run_of(rt.alloc(), Pipeline::Egress, ADDRESS, destination)?;
+        assert!(rt; outcome == Outcome::Deliver(packet(ADDRESS, destination)));
         let expected = [
+            before(),
             hit(Stage::LsOutPreAcl, 0, NO_HINT),
             hit(Stage::LsOutPreStateful, 0, NO_HINT),
             hit(Stage::LsOutAclEval, 0, NO_HINT),

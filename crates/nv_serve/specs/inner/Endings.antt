@@ -73,15 +73,15 @@ StopCalls take_gives put_gives start end stops.WriteFault = LastPutFails take_gi
 StopCalls take_gives put_gives start end stops.InputTooLong = Calls take_gives put_gives start end
 StopCalls take_gives put_gives start end stops.OutOfMemory = Calls take_gives put_gives start end
 
--- a run with this many arguments, the program's name among them, by its status
-abbrev pub Ends : ℕ → States → States → List ℕ × List ℕ → Status → Type 0
-Ends count old new moved Done = (count ≤ 1) × Finished old new moved.0 moved.1 false
-Ends count old new moved SomeRefused = (count ≤ 1) × Finished old new moved.0 moved.1 true
-Ends count old new moved Usage = (1 < count) × (new.0 ≡ old.0) × (moved.0 ≡ []) × (moved.1 ≡ usage_line)
-Ends count old new moved ReadFault = (count ≤ 1) × ReadFaulted old new moved.0 moved.1
-Ends count old new moved WriteFault = WriteFaulted (output_for count) old new moved.0 moved.1
-Ends count old new moved InputTooLong = (count ≤ 1) × TooLong old new moved.0 moved.1
-Ends count old new moved OutOfMemory = (count ≤ 1) × NoMemory old new moved.0 moved.1
+-- a run whose arguments are accepted, or are not, by its status
+abbrev pub Ends : Bool → States → States → List ℕ × List ℕ → Status → Type 0
+Ends accepted old new moved Done = (accepted ≡ true) × Finished old new moved.0 moved.1 false
+Ends accepted old new moved SomeRefused = (accepted ≡ true) × Finished old new moved.0 moved.1 true
+Ends accepted old new moved Usage = (accepted ≡ false) × (new.0 ≡ old.0) × (moved.0 ≡ []) × (moved.1 ≡ usage_line)
+Ends accepted old new moved ReadFault = (accepted ≡ true) × ReadFaulted old new moved.0 moved.1
+Ends accepted old new moved WriteFault = WriteFaulted (output_for accepted) old new moved.0 moved.1
+Ends accepted old new moved InputTooLong = (accepted ≡ true) × TooLong old new moved.0 moved.1
+Ends accepted old new moved OutOfMemory = NoMemory old new moved.0 moved.1
 
 -- the refusal of arguments, by its status: what it is to write a text, and to fail after one
 abbrev pub Refuses : (List ℕ → Type 0) → (List ℕ → Type 0) → Status → Type 0

@@ -1,0 +1,86 @@
+//! The program's arguments, read by `clap`.
+ghost use Rattle.std.specs.Prelude.{◌≡◌, ◌≢◌, true, false, Err, map, OnOk, IfOk, IfSome};
+ghost use Rattle.std.specs.String.{string_bytes};
+ghost use Rattle.clap.specs.Words.{app_of, kind_of};
+ghost use Rattle.nv_options.specs.Options.{program, faults, accepts, AskForText};
+
+use clap::error::ErrorKind;
+use clap::{Arg, ArgAction, Command, Error};
+use std::alloc::{AllocError, Global};
+
+/// Why arguments are not accepted.
+#[derive(Clone, Copy, Debug, PartialEq, Eq)]
+pub enum ArgumentFault {
+    /// They are not of the form, or ask for help or the version.
+    Refused,
+    /// Memory ran out.
+    Memory,
+}
+
+impl From<AllocError> for ArgumentFault {
+    ghost use Rattle.std.specs.Prelude.{◌≡◌};
+    ghost use Rattle.nv_options.specs.declared.options.ArgumentFault.TheVariants.{Memory};
+
+    ghost from_gives = { λ error fault. fault ≡ Memory };
+
+    fn from(_error: AllocError) -> ArgumentFault {
+        ArgumentFault::Memory
+    }
+}
+
+/// Accepts the arguments, of which the first is the program's name, exactly where `clap` finds no fault in them.
+pub fn accept_arguments(alloc: Global, arguments: &[String]) -> Result<(), ArgumentFault>
+    ensures accepted { OnOk result (accepts (map string_bytes arguments.now) ≡ true) }
+    ensures refused { result ≡ Err ArgumentFault.Refused → accepts (map string_bytes arguments.now) ≡ false }
+{
+    let command = command(alloc)?;
+    match command.try_get_matches_from(arguments) {
+        Ok(_) => Ok(()),
+        Err(error) => Err(fault_of(&error)),
+    }
+}
+
+// The fault that an error of `clap` is.
+fn fault_of(error: &Error) -> ArgumentFault
+    ensures { (result ≡ ArgumentFault.Refused) → (kind_of error.now ≢ ErrorKind.OutOfMemory) }
+{
+    match error.kind() {
+        ErrorKind::OutOfMemory => ArgumentFault::Memory,
+        _ => ArgumentFault::Refused,
+    }
+}
+
+/// The help or the version, where the arguments ask for one of them. The text is `clap`'s, and no clause speaks of it.
+pub fn requested_text(alloc: Global, arguments: &[String]) -> Result<Option<String>, AllocError>
+    ensures { IfOk result (λ text. IfSome text (λ _. AskForText (faults (map string_bytes arguments.now)))) }
+{
+    let command = command(alloc)?;
+    match command.try_get_matches_from(arguments) {
+        Ok(_) => Ok(None),
+        Err(error) => match error.kind() {
+            ErrorKind::DisplayHelp => Ok(Some(text_of(alloc, &error)?)),
+            ErrorKind::DisplayVersion => Ok(Some(text_of(alloc, &error)?)),
+            _ => Ok(None),
+        },
+    }
+}
+
+fn text_of(alloc: Global, error: &Error) -> Result<String, AllocError> {
+    format!(in alloc; "{error}")
+}
+
+// The command: `--hops N`, and the flags `--help` and `--version`.
+fn command<'a>(alloc: Global) -> Result<Command<'a>, AllocError>
+    ensures { IfOk result (λ command. app_of command ≡ program) }
+{
+    let hops = Arg::new(alloc, "hops")
+        .long("hops")
+        .action(ArgAction::Set)
+        .value_parser(clap::value_parser!(u8).range(1..=64))
+        .value_name("N")
+        .help("How many hops a traced packet may take, from 1 to 64 [default: 16]");
+    Command::new(alloc, "ovn_nd")
+        .version("0.1.0")
+        .about("Compiles an OVN northbound database to logical flows")
+        .arg(hops)
+}

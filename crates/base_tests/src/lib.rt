@@ -6,4 +6,6 @@ mod base;
 #[cfg(test)]
 mod io;
 #[cfg(test)]
+mod maps;
+#[cfg(test)]
 mod packets;

@@ -1,0 +1,5 @@
+pub mod Commands
+pub mod Fault
+pub mod Quoting
+pub mod Words
+pub mod inner

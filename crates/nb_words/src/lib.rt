@@ -1,0 +1,12 @@
+//! The words of a line of the script, and the commands that they make.
+#![tactic(auto)]
+
+mod command;
+mod fault;
+mod laws;
+mod word;
+
+pub use command::{Command, read_commands};
+pub use fault::LineFault;
+pub use laws::quoted_words_are_read;
+pub use word::{Word, words_of};

@@ -9,3 +9,6 @@ mod io;
 mod maps;
 #[cfg(test)]
 mod packets;
+mod ports;
+#[cfg(test)]
+mod tables;

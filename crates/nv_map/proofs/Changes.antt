@@ -9,7 +9,8 @@ use Rattle.std.specs.BTreeMap.{is_at}
 use Rattle.std.specs.Ordering.{is_gt, match_ordering}
 use Rattle.std.specs.declared.cmp.Ordering.{Ordering}
 use Rattle.std.specs.declared.cmp.Ordering.TheVariants.{Less, Equal, Greater}
-use Rattle.nv_map.specs.Map.{KeysRise, with_entry, without_key, with_value}
+use Rattle.nv_map.specs.Map.{KeysRise, with_entry, without_key, with_value, without_by}
+use Rattle.nv_map.specs.inner.Keys.{keys_part}
 use Rattle.nv_map.proofs.Rising.{turned_back, short}
 
 module _ {K V : Type 0} where
@@ -33,6 +34,9 @@ module _ {K V : Type 0} where
     rise_without test [] r = tt
     rise_without test (x ∷ l) r = rise_gone (test x.0) x l (remove_entry test l) r.1 (all_without _ test l r.0) (rise_without test l r.1)
 
+    pub rise_without_by : (order : K → Ordering) (l : List (K × V)) → KeysRise cmp l → KeysRise cmp (without_by order l)
+    rise_without_by order l r = rise_without (is_at order) l r
+
     pub rise_without_key : (k : K) (l : List (K × V)) → KeysRise cmp l → KeysRise cmp (without_key cmp k l)
     rise_without_key k l r = rise_without (is_at (cmp k)) l r
 
@@ -52,7 +56,7 @@ module _ {K V : Type 0} where
   module _ {cmp : K → K → Ordering} (o : IsTotalOrder cmp) where
     rise_put : (q : Ordering) (e x : K × V) (l : List (K × V)) → cmp e.0 x.0 ≡ q → KeysRise cmp (x ∷ l) → KeysRise cmp (with_entry cmp e l) → KeysRise cmp (match_ordering q (e ∷ x ∷ l) ((x.0, e.1) ∷ l) (x ∷ with_entry cmp e l))
     unfolding IsStrictlySortedBy
-    rise_put Less e x l c r n = ((c, short o e.0 [] x l r (ap is_gt c)), r)
+    rise_put Less e x l c r n = ((c, short (keys_part o e.0) [] x l r (ap is_gt c)), r)
     rise_put Equal e x l c r n = r
     rise_put Greater e x l c r n = (all_with cmp _ e l (turned_back o e.0 x.0 c) r.0, n)
 

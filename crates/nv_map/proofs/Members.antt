@@ -30,7 +30,7 @@ here x l = (0, omega arith, refl)
 pub there : {X : Type 0} (x : X) (l : List X) (y : X) → Contains l y → Contains (x ∷ l) y
 there x l y c = Contains-append_right (x ∷ []) l y c
 
-none_in : {X : Type 0} (y : X) → Contains [] y → ⊥
+pub none_in : {X : Type 0} (y : X) → Contains [] y → ⊥
 none_in y c = omega (arith, c.1)
 
 alone : {X : Type 0} (x y : X) (k : ℕ) → k < 1 → slice_index_or (x ∷ []) k y ≡ y → x ≡ y
@@ -122,7 +122,7 @@ module _ {K V : Type 0} {cmp : K → K → Ordering} (o : IsTotalOrder cmp) wher
         back (inr d) = member_by (with_value cmp k v l) x (value_with_value o x.0 k v l some ∙ kept (is_eq (cmp k x.0)) refl (member_value l x r d.0) d.1)
 
 -- The entry found is there and passes; no key in front of it passes, and where none is found no key passes at all.
-found : {K V : Type 0} (test : K → Bool) (l : List (K × V)) (e : K × V) → lookup_entry test l ≡ Some e → Contains l e × (test e.0 ≡ true)
+pub found : {K V : Type 0} (test : K → Bool) (l : List (K × V)) (e : K × V) → lookup_entry test l ≡ Some e → Contains l e × (test e.0 ≡ true)
 found test [] e f = absurd (cc)
 found {K} {V} test (x ∷ l) e f = by (test x.0) refl f (found test l e)
   where
@@ -130,7 +130,7 @@ found {K} {V} test (x ∷ l) e f = by (test x.0) refl f (found test l e)
     by true t g rest = let same = some_is g in (rw (sym same) (here x l), rw (sym same) t)
     by false t g rest = let later = rest g in (there x l e later.0, later.1)
 
-none_found : {K V : Type 0} (test : K → Bool) (l : List (K × V)) (y : K × V) → lookup_entry test l ≡ None → Contains l y → test y.0 ≡ false
+pub none_found : {K V : Type 0} (test : K → Bool) (l : List (K × V)) (y : K × V) → lookup_entry test l ≡ None → Contains l y → test y.0 ≡ false
 none_found test [] y f c = absurd (none_in y c)
 none_found {K} {V} test (x ∷ l) y f c = by (test x.0) refl f (here_or_there x l y c) (none_found test l y)
   where
@@ -140,7 +140,7 @@ none_found {K} {V} test (x ∷ l) y f c = by (test x.0) refl f (here_or_there x 
     by false t g (inr d) rest = rest g d
 
 module _ {K V : Type 0} {cmp : K → K → Ordering} (o : IsTotalOrder cmp) where
-  least_by : (test : K → Bool) (l : List (K × V)) (e y : K × V) → KeysRise cmp l → lookup_entry test l ≡ Some e → Contains l y → test y.0 ≡ true → is_gt (cmp e.0 y.0) ≡ false
+  pub least_by : (test : K → Bool) (l : List (K × V)) (e y : K × V) → KeysRise cmp l → lookup_entry test l ≡ Some e → Contains l y → test y.0 ≡ true → is_gt (cmp e.0 y.0) ≡ false
   least_by test [] e y r f c t = absurd (none_in y c)
   least_by test (x ∷ l) e y r f c t = by (test x.0) refl f (here_or_there x l y c) (least_by test l e y (rise_tail cmp x l r))
     where

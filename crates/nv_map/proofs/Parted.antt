@@ -8,7 +8,7 @@ use Rattle.nv_map.specs.Map.{KeysRise}
 use Rattle.nv_map.specs.Node.{Around, entries_of, tree_entries}
 use Rattle.nv_map.proofs.Rising.{rise_front, rise_high}
 
-pub compared : {K : Type 0} (cmp : K → K → Ordering) {r s : Ordering} {k l x y : K} → r ≡ cmp k x → r ≡ s → k ≡ l → x ≡ y → cmp l y ≡ s
+pub compared : {P K : Type 0} (cmp : P → K → Ordering) {r s : Ordering} {k l : P} {x y : K} → r ≡ cmp k x → r ≡ s → k ≡ l → x ≡ y → cmp l y ≡ s
 compared cmp {r} {s} {k} {l} {x} {y} answer is left right = sym (answer ∙ ap (λ n. cmp n x) left ∙ ap (cmp l) right) ∙ is
 
 pub none_is_some : {A : Type 0} {a : Option A} {x : A} → a ≡ None → a ≡ Some x → ⊥

@@ -1,5 +1,5 @@
 -- Keys that rise: the parts of such a list, what is below and above a key in it, and two such lists joined.
-use Rattle.std.proofs.Common.{◌≡◌, false, List, [], ◌∷◌, ◌++◌, refl, ap, ◌∙◌}
+use Rattle.std.proofs.Common.{◌≡◌, false, List, [], ◌∷◌, ◌++◌, refl, sym, ap, ◌∙◌}
 use Rattle.std.proofs.lemmas.Bool.{true≢false}
 use Rattle.std.specs.Cmp.{IsTotalOrder}
 use Rattle.std.specs.List.{AllByRecursion}
@@ -8,7 +8,7 @@ use Rattle.std.specs.Map.{keys_of}
 use Rattle.std.specs.Ordering.{is_lt, is_gt, ordering_reverse}
 use Rattle.std.specs.declared.cmp.Ordering.{Ordering}
 use Rattle.std.specs.declared.cmp.Ordering.TheVariants.{Less, Equal, Greater}
-use Rattle.nv_map.specs.Map.{KeysRise}
+use Rattle.nv_map.specs.Map.{KeysRise, PartsKeys}
 
 module _ {K : Type 0} {cmp : K → K → Ordering} (o : IsTotalOrder cmp) where
   pub turned : (x y : K) → cmp x y ≡ Less → cmp y x ≡ Greater
@@ -17,15 +17,17 @@ module _ {K : Type 0} {cmp : K → K → Ordering} (o : IsTotalOrder cmp) where
   pub turned_back : (x y : K) → cmp x y ≡ Greater → cmp y x ≡ Less
   turned_back x y e = o.antisymm y x ∙ ap ordering_reverse e
 
-  past_by : (k x : K) (r : Ordering) → cmp k x ≡ r → is_lt r ≡ false → (y : K) → cmp y x ≡ Less → cmp k y ≡ Greater
-  past_by k x Less e h y below = absurd (true≢false h)
-  past_by k x Equal e h y below = o.congr k x y e ∙ turned y x below
-  past_by k x Greater e h y below = turned y k (o.trans y x k below (turned_back k x e))
+module _ {K : Type 0} {cmp : K → K → Ordering} {order : K → Ordering} (p : PartsKeys cmp order) where
+  past_by : (x : K) → is_lt (order x) ≡ false → (y : K) → cmp y x ≡ Less → order y ≡ Greater
+  past_by x h y below = by (order y) refl
+    where
+      by : (r : Ordering) → order y ≡ r → r ≡ Greater
+      by Less e = absurd (true≢false (sym (ap is_lt (p.below y x below (ap is_gt e))) ∙ h))
+      by Equal e = absurd (true≢false (sym (ap is_lt (p.below y x below (ap is_gt e))) ∙ h))
+      by Greater e = refl
 
-  short_by : (k x : K) (r : Ordering) → cmp k x ≡ r → is_gt r ≡ false → (y : K) → cmp x y ≡ Less → cmp k y ≡ Less
-  short_by k x Less e h y above = o.trans k x y e above
-  short_by k x Equal e h y above = o.congr k x y e ∙ above
-  short_by k x Greater e h y above = absurd (true≢false h)
+  short_by : (x : K) → is_gt (order x) ≡ false → (y : K) → cmp x y ≡ Less → order y ≡ Less
+  short_by x h y above = p.below x y above h
 
 pub rise_none : {K : Type 0} (V : Type 0) (cmp : K → K → Ordering) → KeysRise {V = V} cmp []
 unfolding IsStrictlySortedBy
@@ -49,16 +51,20 @@ module _ {K V : Type 0} where
   all_turned P Q turn [] a = tt
   all_turned P Q turn (x ∷ l) a = (turn x.0 a.0, all_turned P Q turn l a.1)
 
+  -- a probe is below each key; it is above each key
+  abbrev pub Under : (K → Ordering) → List (K × V) → Type 0
+  Under order l = AllByRecursion (λ x. order x ≡ Less) (keys_of l)
+
+  abbrev pub Over : (K → Ordering) → List (K × V) → Type 0
+  Over order l = AllByRecursion (λ x. order x ≡ Greater) (keys_of l)
+
   module _ (cmp : K → K → Ordering) where
-    -- each key is below this one; this one is below each key; this one is above each key
+    -- each key is below this one; this one is below each key
     abbrev pub AllBelow : K → List (K × V) → Type 0
     AllBelow k l = AllByRecursion (λ x. cmp x k ≡ Less) (keys_of l)
 
     abbrev pub Below : K → List (K × V) → Type 0
-    Below k l = AllByRecursion (λ x. cmp k x ≡ Less) (keys_of l)
-
-    abbrev pub Above : K → List (K × V) → Type 0
-    Above k l = AllByRecursion (λ x. cmp k x ≡ Greater) (keys_of l)
+    Below k l = Under (cmp k) l
 
     pub rise_front : (l r : List (K × V)) → KeysRise cmp (l ++ r) → KeysRise cmp l
     unfolding IsStrictlySortedBy
@@ -86,10 +92,10 @@ module _ {K V : Type 0} where
     pub rise_high : (l : List (K × V)) (e : K × V) (r : List (K × V)) → KeysRise cmp (l ++ e ∷ r) → KeysRise cmp r
     rise_high l e r s = rise_tail e r (rise_back l (e ∷ r) s)
 
-  module _ {cmp : K → K → Ordering} (o : IsTotalOrder cmp) where
-    -- a key that is not below one is above those below it, and one that is not above one is below those above it
-    pub past : (k : K) (l : List (K × V)) (e : K × V) (r : List (K × V)) → KeysRise cmp (l ++ e ∷ r) → is_lt (cmp k e.0) ≡ false → Above cmp k l
-    past k l e r s h = all_turned _ _ (past_by o k e.0 (cmp k e.0) refl h) l (rise_below cmp l e r s)
+  module _ {cmp : K → K → Ordering} {order : K → Ordering} (p : PartsKeys cmp order) where
+    -- a probe that is not below a key is above those below it, and one that is not above a key is below those above it
+    pub past : (l : List (K × V)) (e : K × V) (r : List (K × V)) → KeysRise cmp (l ++ e ∷ r) → is_lt (order e.0) ≡ false → Over order l
+    past l e r s h = all_turned _ _ (past_by p e.0 h) l (rise_below cmp l e r s)
 
-    pub short : (k : K) (l : List (K × V)) (e : K × V) (r : List (K × V)) → KeysRise cmp (l ++ e ∷ r) → is_gt (cmp k e.0) ≡ false → Below cmp k r
-    short k l e r s h = all_turned _ _ (short_by o k e.0 (cmp k e.0) refl h) r (rise_head cmp e r (rise_back cmp l (e ∷ r) s))
+    pub short : (l : List (K × V)) (e : K × V) (r : List (K × V)) → KeysRise cmp (l ++ e ∷ r) → is_gt (order e.0) ≡ false → Under order r
+    short l e r s h = all_turned _ _ (short_by p e.0 h) r (rise_head cmp e r (rise_back cmp l (e ∷ r) s))

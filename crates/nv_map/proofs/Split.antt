@@ -8,8 +8,9 @@ use Rattle.std.specs.BTreeMap.{is_at}
 use Rattle.std.specs.Ordering.{is_lt, is_gt, is_eq, match_ordering}
 use Rattle.std.specs.declared.cmp.Ordering.{Ordering}
 use Rattle.std.specs.declared.cmp.Ordering.TheVariants.{Less, Equal, Greater}
-use Rattle.nv_map.specs.Map.{KeysRise, value_at, entry_at, with_entry, without_key, with_value, first_entry, entry_after}
-use Rattle.nv_map.proofs.Rising.{Above, Below, all_turned, past, short}
+use Rattle.nv_map.specs.Map.{KeysRise, PartsKeys, with_entry, value_by, entry_by, without_by, first_entry, entry_above}
+use Rattle.nv_map.specs.inner.Keys.{keys_part}
+use Rattle.nv_map.proofs.Rising.{Under, Over, all_turned, past, short}
 
 by_cond : {A : Type 0} (b : Bool) (x : A) (f g : Option A) → cond b (Some x) (option_or f g) ≡ option_or (cond b (Some x) f) g
 by_cond true x f g = refl
@@ -90,79 +91,84 @@ module _ {K V : Type 0} (test : K → Bool) where
   set_front v [] r n = none_set v r n
   set_front v (x ∷ l) r n = ap (λ m. cond (test x.0) ((x.0, v) ∷ (l ++ r)) (x ∷ m)) (set_front v l r n) ∙ over_set (test x.0) (x.0, v) x l (set_value test l v) r
 
-module _ {K V : Type 0} {cmp : K → K → Ordering} (o : IsTotalOrder cmp) where
+module _ {K V : Type 0} {cmp : K → K → Ordering} {order : K → Ordering} (p : PartsKeys cmp order) where
+  -- with another value at the key that the probe is equal to
+  abbrev pub set_by : V → List (K × V) → List (K × V)
+  set_by v l = set_value (is_at order) l v
+
   -- no key of a part is equal to one that is above, or below, all of it
-  none_above : (k : K) (l : List (K × V)) → Above cmp k l → NoneOf (is_at (cmp k)) l
-  none_above k l a = all_turned _ _ (λ x e. ap is_eq e) l a
+  none_above : (l : List (K × V)) → Over order l → NoneOf (is_at order) l
+  none_above l a = all_turned _ _ (λ x e. ap is_eq e) l a
 
-  none_below : (k : K) (l : List (K × V)) → Below cmp k l → NoneOf (is_at (cmp k)) l
-  none_below k l a = all_turned _ _ (λ x e. ap is_eq e) l a
+  none_below : (l : List (K × V)) → Under order l → NoneOf (is_at order) l
+  none_below l a = all_turned _ _ (λ x e. ap is_eq e) l a
 
-  none_after : (k : K) (l : List (K × V)) → Above cmp k l → NoneOf (λ x. is_lt (cmp k x)) l
-  none_after k l a = all_turned _ _ (λ x e. ap is_lt e) l a
+  none_after : (l : List (K × V)) → Over order l → NoneOf (λ x. is_lt (order x)) l
+  none_after l a = all_turned _ _ (λ x e. ap is_lt e) l a
 
-  module _ (k : K) (l : List (K × V)) (m : K × V) (r : List (K × V)) (s : KeysRise cmp (l ++ m ∷ r)) where
+  module _ (l : List (K × V)) (m : K × V) (r : List (K × V)) (s : KeysRise cmp (l ++ m ∷ r)) where
     abbrev all : List (K × V)
     all = l ++ m ∷ r
 
-    -- where the key is below that of the entry
-    module _ (less : cmp k m.0 ≡ Less) where
-      none_high : NoneOf (is_at (cmp k)) (m ∷ r)
-      none_high = (ap is_eq less, none_below k r (short o k l m r s (ap is_gt less)))
+    -- where the probe is below the key of the entry
+    module _ (less : order m.0 ≡ Less) where
+      none_high : NoneOf (is_at order) (m ∷ r)
+      none_high = (ap is_eq less, none_below r (short p l m r s (ap is_gt less)))
 
-      pub value_low : value_at cmp k all ≡ value_at cmp k l
-      value_low = value_front (is_at (cmp k)) l (m ∷ r) none_high
+      pub value_low : value_by order all ≡ value_by order l
+      value_low = value_front (is_at order) l (m ∷ r) none_high
 
-      pub entry_low : entry_at cmp k all ≡ entry_at cmp k l
-      entry_low = entry_front (is_at (cmp k)) l (m ∷ r) none_high
+      pub entry_low : entry_by order all ≡ entry_by order l
+      entry_low = entry_front (is_at order) l (m ∷ r) none_high
 
-      pub without_low : without_key cmp k all ≡ without_key cmp k l ++ m ∷ r
-      without_low = gone_front (is_at (cmp k)) l (m ∷ r) none_high
+      pub without_low : without_by order all ≡ without_by order l ++ m ∷ r
+      without_low = gone_front (is_at order) l (m ∷ r) none_high
 
-      pub with_value_low : (v : V) → with_value cmp k v all ≡ with_value cmp k v l ++ m ∷ r
-      with_value_low v = set_front (is_at (cmp k)) v l (m ∷ r) none_high
+      pub with_value_low : (v : V) → set_by v all ≡ set_by v l ++ m ∷ r
+      with_value_low v = set_front (is_at order) v l (m ∷ r) none_high
 
-    -- where it is that of the entry
-    module _ (equal : cmp k m.0 ≡ Equal) where
-      none_front : NoneOf (is_at (cmp k)) l
-      none_front = none_above k l (past o k l m r s (ap is_lt equal))
+    -- where it is equal to it
+    module _ (equal : order m.0 ≡ Equal) where
+      none_front : NoneOf (is_at order) l
+      none_front = none_above l (past p l m r s (ap is_lt equal))
 
-      pub value_own : value_at cmp k all ≡ Some m.1
-      value_own = value_back (is_at (cmp k)) l (m ∷ r) none_front ∙ ap (λ q. cond (is_eq q) (Some m.1) (value_at cmp k r)) equal
+      pub value_own : value_by order all ≡ Some m.1
+      value_own = value_back (is_at order) l (m ∷ r) none_front ∙ ap (λ q. cond (is_eq q) (Some m.1) (value_by order r)) equal
 
-      pub entry_own : entry_at cmp k all ≡ Some m
-      entry_own = entry_back (is_at (cmp k)) l (m ∷ r) none_front ∙ ap (λ q. cond (is_eq q) (Some m) (entry_at cmp k r)) equal
+      pub entry_own : entry_by order all ≡ Some m
+      entry_own = entry_back (is_at order) l (m ∷ r) none_front ∙ ap (λ q. cond (is_eq q) (Some m) (entry_by order r)) equal
 
-      pub without_own : without_key cmp k all ≡ l ++ r
-      without_own = gone_back (is_at (cmp k)) l (m ∷ r) none_front ∙ ap (λ q. l ++ cond (is_eq q) r (m ∷ without_key cmp k r)) equal
+      pub without_own : without_by order all ≡ l ++ r
+      without_own = gone_back (is_at order) l (m ∷ r) none_front ∙ ap (λ q. l ++ cond (is_eq q) r (m ∷ without_by order r)) equal
 
-      pub with_value_own : (v : V) → with_value cmp k v all ≡ l ++ (m.0, v) ∷ r
-      with_value_own v = set_back (is_at (cmp k)) v l (m ∷ r) none_front ∙ ap (λ q. l ++ cond (is_eq q) ((m.0, v) ∷ r) (m ∷ with_value cmp k v r)) equal
+      pub with_value_own : (v : V) → set_by v all ≡ l ++ (m.0, v) ∷ r
+      with_value_own v = set_back (is_at order) v l (m ∷ r) none_front ∙ ap (λ q. l ++ cond (is_eq q) ((m.0, v) ∷ r) (m ∷ set_by v r)) equal
 
     -- where it is above
-    module _ (greater : cmp k m.0 ≡ Greater) where
-      none_low : NoneOf (is_at (cmp k)) l
-      none_low = none_above k l (past o k l m r s (ap is_lt greater))
+    module _ (greater : order m.0 ≡ Greater) where
+      none_low : NoneOf (is_at order) l
+      none_low = none_above l (past p l m r s (ap is_lt greater))
 
-      pub value_high : value_at cmp k all ≡ value_at cmp k r
-      value_high = value_back (is_at (cmp k)) l (m ∷ r) none_low ∙ ap (λ q. cond (is_eq q) (Some m.1) (value_at cmp k r)) greater
+      pub value_high : value_by order all ≡ value_by order r
+      value_high = value_back (is_at order) l (m ∷ r) none_low ∙ ap (λ q. cond (is_eq q) (Some m.1) (value_by order r)) greater
 
-      pub entry_high : entry_at cmp k all ≡ entry_at cmp k r
-      entry_high = entry_back (is_at (cmp k)) l (m ∷ r) none_low ∙ ap (λ q. cond (is_eq q) (Some m) (entry_at cmp k r)) greater
+      pub entry_high : entry_by order all ≡ entry_by order r
+      entry_high = entry_back (is_at order) l (m ∷ r) none_low ∙ ap (λ q. cond (is_eq q) (Some m) (entry_by order r)) greater
 
-      pub without_high : without_key cmp k all ≡ l ++ m ∷ without_key cmp k r
-      without_high = gone_back (is_at (cmp k)) l (m ∷ r) none_low ∙ ap (λ q. l ++ cond (is_eq q) r (m ∷ without_key cmp k r)) greater
+      pub without_high : without_by order all ≡ l ++ m ∷ without_by order r
+      without_high = gone_back (is_at order) l (m ∷ r) none_low ∙ ap (λ q. l ++ cond (is_eq q) r (m ∷ without_by order r)) greater
 
-      pub with_value_high : (v : V) → with_value cmp k v all ≡ l ++ m ∷ with_value cmp k v r
-      with_value_high v = set_back (is_at (cmp k)) v l (m ∷ r) none_low ∙ ap (λ q. l ++ cond (is_eq q) ((m.0, v) ∷ r) (m ∷ with_value cmp k v r)) greater
+      pub with_value_high : (v : V) → set_by v all ≡ l ++ m ∷ set_by v r
+      with_value_high v = set_back (is_at order) v l (m ∷ r) none_low ∙ ap (λ q. l ++ cond (is_eq q) ((m.0, v) ∷ r) (m ∷ set_by v r)) greater
 
     -- where it is below, what comes after it is below the entry or the entry, and else above it
-    pub after_low : is_lt (cmp k m.0) ≡ true → entry_after cmp (Some k) all ≡ option_or (entry_after cmp (Some k) l) (Some m)
-    after_low h = first_of_both (λ x. is_lt (cmp k x)) l (m ∷ r) ∙ ap (λ b. option_or (entry_after cmp (Some k) l) (cond b (Some m) (entry_after cmp (Some k) r))) h
+    pub after_low : is_lt (order m.0) ≡ true → entry_above order all ≡ option_or (entry_above order l) (Some m)
+    after_low h = first_of_both (λ x. is_lt (order x)) l (m ∷ r) ∙ ap (λ b. option_or (entry_above order l) (cond b (Some m) (entry_above order r))) h
 
-    pub after_high : is_lt (cmp k m.0) ≡ false → entry_after cmp (Some k) all ≡ entry_after cmp (Some k) r
-    after_high h = entry_back (λ x. is_lt (cmp k x)) l (m ∷ r) (none_after k l (past o k l m r s h)) ∙ ap (λ b. cond b (Some m) (entry_after cmp (Some k) r)) h
+    pub after_high : is_lt (order m.0) ≡ false → entry_above order all ≡ entry_above order r
+    after_high h = entry_back (λ x. is_lt (order x)) l (m ∷ r) (none_after l (past p l m r s h)) ∙ ap (λ b. cond b (Some m) (entry_above order r)) h
 
+module _ {K V : Type 0} {cmp : K → K → Ordering} (o : IsTotalOrder cmp) where
   -- an entry put in
   module _ (e : K × V) where
     over : (q : Ordering) (a b c r : List (K × V)) → match_ordering q (a ++ r) (b ++ r) (c ++ r) ≡ match_ordering q a b c ++ r
@@ -176,12 +182,12 @@ module _ {K V : Type 0} {cmp : K → K → Ordering} (o : IsTotalOrder cmp) wher
         ap (λ t. match_ordering (cmp e.0 x.0) (e ∷ x ∷ (l ++ m ∷ r)) ((x.0, e.1) ∷ (l ++ m ∷ r)) (x ∷ t)) (with_low l m r less)
         ∙ over (cmp e.0 x.0) (e ∷ x ∷ l) ((x.0, e.1) ∷ l) (x ∷ with_entry cmp e l) (m ∷ r)
 
-    with_back : (l r : List (K × V)) → Above cmp e.0 l → with_entry cmp e (l ++ r) ≡ l ++ with_entry cmp e r
+    with_back : (l r : List (K × V)) → Over (cmp e.0) l → with_entry cmp e (l ++ r) ≡ l ++ with_entry cmp e r
     with_back [] r a = refl
     with_back (x ∷ l) r a =
         ap (λ q. match_ordering q (e ∷ x ∷ (l ++ r)) ((x.0, e.1) ∷ (l ++ r)) (x ∷ with_entry cmp e (l ++ r))) a.0 ∙ ap (λ t. x ∷ t) (with_back l r a.1)
 
     pub with_high : (l : List (K × V)) (m : K × V) (r : List (K × V)) → KeysRise cmp (l ++ m ∷ r) → cmp e.0 m.0 ≡ Greater → with_entry cmp e (l ++ m ∷ r) ≡ l ++ m ∷ with_entry cmp e r
     with_high l m r s greater =
-        with_back l (m ∷ r) (past o e.0 l m r s (ap is_lt greater))
+        with_back l (m ∷ r) (past (keys_part o e.0) l m r s (ap is_lt greater))
         ∙ ap (λ q. l ++ match_ordering q (e ∷ m ∷ r) ((m.0, e.1) ∷ r) (m ∷ with_entry cmp e r)) greater

@@ -1,12 +1,12 @@
 //! Entries are put into a tree and taken out of it. No node is made or freed.
 
 ghost use Rattle.std.specs.Prelude.{◌≡◌, ◌∷◌, ◌++◌, None, IsSome};
-ghost use Rattle.nv_map.specs.Map.{KeysRise, value_at, entry_at, with_entry, without_key, with_value};
+ghost use Rattle.nv_map.specs.Map.{KeysRise, value_at, with_entry, with_value, entry_by, without_by};
 ghost use Rattle.nv_map.specs.Node.{entries_of, tree_entries};
 
-use crate::Entry;
 use crate::balance::{with_high, with_low};
 use crate::node::{Node, Tree};
+use crate::{Entry, Probe};
 use std::cmp::Ordering;
 use std::mem;
 
@@ -32,22 +32,25 @@ pub(crate) fn put_into<K: Ord, V>(tree: Tree<K, V>, entry: Entry<K, V>) -> Box<N
     }
 }
 
-/// The entry of a key, where there is one, and the tree without it.
-pub(crate) fn take_from<K: Ord, V>(tree: Tree<K, V>, key: &K) -> (Option<Entry<K, V>>, Tree<K, V>)
+/// The entry of the key that the probe is equal to, where there is one, and the tree without it.
+pub(crate) fn take_from<K: Ord, V, P: Probe<K>>(
+    tree: Tree<K, V>,
+    probe: &P,
+) -> (Option<Entry<K, V>>, Tree<K, V>)
     requires { KeysRise K.cmp (tree_entries tree) }
-    ensures taken { result.0 ≡ entry_at K.cmp key.now (tree_entries tree) }
-    ensures rest { tree_entries result.1 ≡ without_key K.cmp key.now (tree_entries tree) }
+    ensures taken { result.0 ≡ entry_by (P.order probe.now) (tree_entries tree) }
+    ensures rest { tree_entries result.1 ≡ without_by (P.order probe.now) (tree_entries tree) }
 {
     let Some(mut root) = tree else {
         return (None, None);
     };
-    match key.cmp(root.key()) {
+    match probe.compare(root.key()) {
         Ordering::Less => {
-            let (taken, low) = take_from(root.take_low(), key);
+            let (taken, low) = take_from(root.take_low(), probe);
             (taken, Some(with_low(root, low)))
         }
         Ordering::Greater => {
-            let (taken, high) = take_from(root.take_high(), key);
+            let (taken, high) = take_from(root.take_high(), probe);
             (taken, Some(with_high(root, high)))
         }
         Ordering::Equal => {

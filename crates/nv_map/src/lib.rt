@@ -7,6 +7,7 @@ mod entry;
 mod laws;
 mod map;
 mod node;
+mod probe;
 mod search;
 
 pub use entry::Entry;
@@ -16,3 +17,4 @@ pub use laws::{
     the_entry_after_a_key_is_the_least_above,
 };
 pub use map::Map;
+pub use probe::Probe;

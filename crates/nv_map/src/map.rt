@@ -1,10 +1,10 @@
 ghost use Rattle.std.specs.Prelude.{◌≡◌, [], None, IsSome, ◌↔◌, IsTrue, Some};
 ghost use Rattle.std.specs.Option.{option_copied, option_map};
 
-use crate::Entry;
 use crate::change::{exchange_in, put_into, take_from};
 use crate::node::Tree;
 use crate::search::{first, first_above, levels, value_at};
+use crate::{Entry, Probe};
 use nv_base::Kept;
 use std::marker::Model;
 use std::mem;
@@ -28,7 +28,7 @@ impl<K: Ord, V> Model for Map<K, V> {
 }
 
 impl<K: Ord + Kept, V> Map<K, V> {
-    ghost use Rattle.nv_map.specs.Map.{KeysRise, value_at, entry_at, with_entry, without_key, with_value, entry_after};
+    ghost use Rattle.nv_map.specs.Map.{KeysRise, value_at, entry_at, with_entry, without_key, with_value, entry_after, value_by, entry_by, without_by, entry_above};
 
     /// The empty map. It takes no memory.
     pub fn new() -> Self
@@ -69,6 +69,22 @@ impl<K: Ord + Kept, V> Map<K, V> {
         }
     }
 
+    /// The value at the key that the probe is equal to.
+    pub fn get_by<P: Probe<K>>(&self, probe: &P) -> Option<&V>
+        ensures value { option_copied result ≡ value_by (P.order probe.now) self.now }
+        ensures rise { KeysRise K.cmp self.now }
+    {
+        value_at(&self.root, probe)
+    }
+
+    /// The entry of the least key that the probe is below.
+    pub fn first_above<P: Probe<K>>(&self, probe: &P) -> Option<(&K, &V)>
+        ensures entry { option_map (λ e. (e.0.now, e.1.now)) result ≡ entry_above (P.order probe.now) self.now }
+        ensures rise { KeysRise K.cmp self.now }
+    {
+        first_above(&self.root, probe)
+    }
+
     /// Puts an entry in at its place. No entry has its key.
     pub fn put(&mut self, entry: Entry<K, V>)
         requires { value_at K.cmp entry.0 self.old ≡ None }
@@ -88,7 +104,16 @@ impl<K: Ord + Kept, V> Map<K, V> {
         ensures entries { self.new ≡ without_key K.cmp key.now self.old }
         ensures rise { KeysRise K.cmp self.old }
     {
-        let (taken, rest) = take_from(self.root.take(), key);
+        self.take_by(key)
+    }
+
+    /// Takes the entry of the key that the probe is equal to out, with its room. Where there is none, nothing changes.
+    pub fn take_by<P: Probe<K>>(&mut self, probe: &P) -> Option<Entry<K, V>>
+        ensures entry { result ≡ entry_by (P.order probe.now) self.old }
+        ensures entries { self.new ≡ without_by (P.order probe.now) self.old }
+        ensures rise { KeysRise K.cmp self.old }
+    {
+        let (taken, rest) = take_from(self.root.take(), probe);
         match mem::replace(&mut self.root, rest) {
             None => {}
             Some(_) => unreachable!(),

@@ -2,6 +2,7 @@ use Rattle.std.proofs.Common.{◌≡◌, ◌++◌, ◌∷◌, None, Less, Equal,
 use Rattle.nv_map.specs.Map.{KeysRise, value_at, with_entry}
 use Rattle.nv_map.specs.Node.{entries_of, tree_entries}
 use Rattle.nv_map.proofs.Parted.{compared, key_of, low_of, high_of, none_is_some, part_low, part_high, left_alone_low, left_alone_high}
+use Rattle.nv_map.specs.inner.Keys.{keys_part}
 use Rattle.nv_map.proofs.Split.{value_low, value_high, value_own, with_low, with_high}
 use Rattle.nv_map.proofs.change.+put_into.Goals as goal
 
@@ -14,7 +15,7 @@ put_into-low-requires g t c =
     let part = part_low g.K.Ord.cmp node is c.requires.rise low in
     let rise : KeysRise g.K.Ord.cmp (entries_of node) = rw c.in-Some.is at c.requires.rise in
     let new : value_at g.K.Ord.cmp c.args.entry.0 (entries_of node) ≡ None = rw c.in-Some.is at c.requires.new in
-    λ κs lives. (omega (arith, part.0, c.decreases), (lives.0, (lives.1, (part.1, rw low (sym (value_low g.met.K.Ord.total _ node.0 node.1 node.2 rise less) ∙ new)))))
+    λ κs lives. (omega (arith, part.0, c.decreases), (lives.0, (lives.1, (part.1, rw low (sym (value_low (keys_part g.met.K.Ord.total _) node.0 node.1 node.2 rise less) ∙ new)))))
 
 pub put_into-high-requires : goal.put_into-high-requires
 put_into-high-requires g t c =
@@ -25,7 +26,7 @@ put_into-high-requires g t c =
     let part = part_high g.K.Ord.cmp node is c.requires.rise high in
     let rise : KeysRise g.K.Ord.cmp (entries_of node) = rw c.in-Some.is at c.requires.rise in
     let new : value_at g.K.Ord.cmp c.args.entry.0 (entries_of node) ≡ None = rw c.in-Some.is at c.requires.new in
-    λ κs lives. (omega (arith, part.0, c.decreases), (lives.0, (lives.1, (part.1, rw high (sym (value_high g.met.K.Ord.total _ node.0 node.1 node.2 rise greater) ∙ new)))))
+    λ κs lives. (omega (arith, part.0, c.decreases), (lives.0, (lives.1, (part.1, rw high (sym (value_high (keys_part g.met.K.Ord.total _) node.0 node.1 node.2 rise greater) ∙ new)))))
 
 pub unreachable-requires : goal.unreachable-requires
 unreachable-requires g t c =
@@ -33,7 +34,7 @@ unreachable-requires g t c =
     let equal : g.K.Ord.cmp c.args.entry.0 node.1.0 ≡ Equal = compared g.K.Ord.cmp c.cmp.ensures c.in-Equal.is c.key.ensures (c.key-2.ensures ∙ key_of c.deref.ensures) in
     let rise : KeysRise g.K.Ord.cmp (entries_of node) = rw c.in-Some.is at c.requires.rise in
     let new : value_at g.K.Ord.cmp c.args.entry.0 (entries_of node) ≡ None = rw c.in-Some.is at c.requires.new in
-    none_is_some new (value_own g.met.K.Ord.total _ node.0 node.1 node.2 rise equal)
+    none_is_some new (value_own (keys_part g.met.K.Ord.total _) node.0 node.1 node.2 rise equal)
 
 pub returns-in-Less : goal.returns-in-Less
 returns-in-Less g t c =

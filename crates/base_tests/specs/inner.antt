@@ -1,0 +1,2 @@
+-- What ghost members cite.
+pub mod Tags

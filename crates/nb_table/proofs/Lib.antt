@@ -1,0 +1,7 @@
+pub mod Edited
+pub mod Found
+pub mod Keyed
+pub mod Members
+pub mod Moves
+pub mod Tagged
+pub mod Undone

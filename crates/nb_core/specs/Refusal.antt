@@ -1,5 +1,5 @@
 -- The line of a refusal.
-use Rattle.std.specs.Prelude.{ℕ, List, [], ◌∷◌, ◌++◌, codes, decimal}
+use Rattle.std.specs.Prelude.{ℕ, List, [], ◌++◌, codes, decimal}
 use Rattle.nv_base.specs.Field.{field_name}
 use Rattle.nb_core.specs.declared.refusal.Kind.{Kind}
 use Rattle.nb_core.specs.declared.refusal.Kind.TheVariants as kind

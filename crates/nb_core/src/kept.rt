@@ -3,7 +3,7 @@ ghost use Rattle.nb_core.specs.inner.Exact as tells;
 
 use crate::{
     Acl, Addr, AddrSet, Backend, Binding, Frontend, Group, Guard, Lb, Member, Nat, NatKind, Port,
-    PortKind, Proto, Route, RouteBy, Router, RouterPort, Switch, Verdict, Vip, Way,
+    PortKind, Proto, Route, RouteBy, Router, RouterPort, Rule, Switch, Tag, Verdict, Vip, Way,
 };
 use nv_base::{Kept, OutOfMemory};
 use std::alloc::Global;
@@ -263,6 +263,28 @@ impl Kept for Group {
             id: self.id,
             name: self.name.copy(alloc)?,
             ports: self.ports.copy(alloc)?,
+        })
+    }
+}
+
+impl Kept for Rule {
+    ghost exact = { tells.rule };
+
+    fn copy(&self, _alloc: Global) -> Result<Self, OutOfMemory> {
+        Ok(*self)
+    }
+}
+
+impl Kept for Tag {
+    ghost exact = { tells.tag };
+
+    fn copy(&self, alloc: Global) -> Result<Self, OutOfMemory> {
+        Ok(match self {
+            Tag::Named(name) => Tag::Named(name.copy(alloc)?),
+            Tag::Of(owner) => Tag::Of(*owner),
+            Tag::Names(name) => Tag::Names(name.copy(alloc)?),
+            Tag::Lists(object) => Tag::Lists(*object),
+            Tag::Says(owner, rule) => Tag::Says(*owner, *rule),
         })
     }
 }

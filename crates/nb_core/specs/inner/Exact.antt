@@ -34,8 +34,12 @@ use Rattle.nb_core.specs.contracts.balancer.LbPartialEq.TheImpl as lb_eq
 use Rattle.nb_core.specs.contracts.acl.AclPartialEq.TheImpl as acl_eq
 use Rattle.nb_core.specs.contracts.sets.AddrSetPartialEq.TheImpl as addr_set_eq
 use Rattle.nb_core.specs.contracts.sets.GroupPartialEq.TheImpl as group_eq
+use Rattle.nb_core.specs.contracts.tag.RulePartialEq.TheImpl as rule_eq
+use Rattle.nb_core.specs.contracts.tag.TagPartialEq.TheImpl as tag_eq
 use Rattle.nb_core.specs.declared.switch.Addr.TheVariants as addr_of
 use Rattle.nb_core.specs.declared.sets.Member.TheVariants as member_of
+use Rattle.nb_core.specs.declared.tag.Rule.TheVariants as rule_of
+use Rattle.nb_core.specs.declared.tag.Tag.TheVariants as tag_of
 
 pub port_kind : (a b : PortKind) → sameb port_kinds.the_type a b ≡ true → a ≡ b
 port_kind = same_true port_kinds.the_type tt
@@ -233,3 +237,36 @@ group a b e =
     let same_name : a.name ≡ b.name = tells.list _ tells.number _ _ at1.0 in
     let same_ports : a.ports ≡ b.ports = tells.list _ tells.object _ _ at1.1 in
     λ i. record { id = same_id i; name = same_name i; ports = same_ports i }
+
+pub rule : Tells ((rule_eq.ghosts).eq)
+rule (rule_of.Route a0 a1 a2) (rule_of.Route b0 b1 b2) e =
+    let at0 = and_parts _ _ e in
+    let at1 = and_parts _ _ at0.1 in
+    ap (λ x. rule_of.Route x a1 a2) (route_by _ _ at0.0) ∙ ap (λ x. rule_of.Route b0 x a2) (tells.address _ _ at1.0) ∙ ap (λ x. rule_of.Route b0 b1 x) (tells.number _ _ at1.1)
+rule (rule_of.Route a0 a1 a2) _ e = absurd (false≢true e)
+rule (rule_of.Snat a0 a1) (rule_of.Snat b0 b1) e =
+    let at0 = and_parts _ _ e in
+    ap (λ x. rule_of.Snat x a1) (tells.address _ _ at0.0) ∙ ap (λ x. rule_of.Snat b0 x) (tells.number _ _ at0.1)
+rule (rule_of.Snat a0 a1) _ e = absurd (false≢true e)
+rule (rule_of.Dnat a) (rule_of.Dnat b) e = ap rule_of.Dnat (tells.address _ _ e)
+rule (rule_of.Dnat a) _ e = absurd (false≢true e)
+rule (rule_of.Acl a0 a1) (rule_of.Acl b0 b1) e =
+    let at0 = and_parts _ _ e in
+    ap (λ x. rule_of.Acl x a1) (way _ _ at0.0) ∙ ap (λ x. rule_of.Acl b0 x) (tells.number _ _ at0.1)
+rule (rule_of.Acl a0 a1) _ e = absurd (false≢true e)
+rule (rule_of.Binding a) (rule_of.Binding b) e = ap rule_of.Binding (tells.address _ _ e)
+rule (rule_of.Binding a) _ e = absurd (false≢true e)
+
+pub tag : Tells ((tag_eq.ghosts).eq)
+tag (tag_of.Named a) (tag_of.Named b) e = ap tag_of.Named (tells.list _ tells.number _ _ e)
+tag (tag_of.Named a) _ e = absurd (false≢true e)
+tag (tag_of.Of a) (tag_of.Of b) e = ap tag_of.Of (tells.object _ _ e)
+tag (tag_of.Of a) _ e = absurd (false≢true e)
+tag (tag_of.Names a) (tag_of.Names b) e = ap tag_of.Names (tells.list _ tells.number _ _ e)
+tag (tag_of.Names a) _ e = absurd (false≢true e)
+tag (tag_of.Lists a) (tag_of.Lists b) e = ap tag_of.Lists (tells.object _ _ e)
+tag (tag_of.Lists a) _ e = absurd (false≢true e)
+tag (tag_of.Says a0 a1) (tag_of.Says b0 b1) e =
+    let at0 = and_parts _ _ e in
+    ap (λ x. tag_of.Says x a1) (tells.object _ _ at0.0) ∙ ap (λ x. tag_of.Says b0 x) (rule _ _ at0.1)
+tag (tag_of.Says a0 a1) _ e = absurd (false≢true e)

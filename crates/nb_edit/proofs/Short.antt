@@ -4,8 +4,7 @@ use Rattle.std.specs.List.{slice_get, list_all}
 use borrow.Author.Tests.{ltb-true}
 use Rattle.nb_words.specs.declared.word.Word.{Word}
 use Rattle.nb_words.specs.declared.command.Command.{Command}
-use Rattle.nb_edit.specs.Call.{is_short}
-use Rattle.nb_edit.specs.Commands.{is_small}
+use Rattle.nb_words.specs.Commands.{is_short, is_small}
 
 both : (a b : Bool) → (a && b) ≡ true → (a ≡ true) × (b ≡ true)
 both true b e = (refl, e)

@@ -1,5 +1,5 @@
 -- A command's words, by their places.
-use Rattle.std.specs.Prelude.{ℕ, ◌+◌, ◌^◌, Bool, List, [], length, drop, nat_lt, codes, Option, Some, None, Result, Ok, Err, if◌then◌else◌}
+use Rattle.std.specs.Prelude.{ℕ, ◌+◌, Bool, List, [], length, drop, nat_lt, codes, Option, Some, None, Result, Ok, Err, if◌then◌else◌}
 use Rattle.std.specs.List.{list_any, slice_get}
 use Rattle.std.specs.Str.{bytes_eq}
 use Rattle.nb_core.specs.declared.refusal.Refusal.{Refusal}
@@ -14,10 +14,6 @@ pub record Call : Type 0 where
 -- the command of these
 abbrev pub call : List Word → ℕ → List Word → Call
 call options first words = record { options = options; first = first; words = words }
-
--- a word whose bytes a place of 32 bits can tell
-abbrev pub is_short : Word → Bool
-is_short word = nat_lt (length word.text) (2 ^ 32)
 
 -- the number in the line of the word at this place, from 0
 abbrev pub number : Call → ℕ → ℕ

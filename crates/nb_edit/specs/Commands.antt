@@ -1,5 +1,5 @@
 -- What a command says: the edit that it asks for, or why it is refused whatever the network is.
-use Rattle.std.specs.Prelude.{ℕ, ◌+◌, ◌^◌, Bool, true, false, not, ◌&&◌, List, [], ◌∷◌, length, take, drop, count_by, position, nat_le, nat_lt, Option, Some, None, option_map, unwrap_or, Result, Err, if◌then◌else◌}
+use Rattle.std.specs.Prelude.{ℕ, ◌+◌, Bool, true, false, not, ◌&&◌, List, [], ◌∷◌, length, take, drop, count_by, position, nat_le, Option, Some, None, option_map, unwrap_or, Result, Err, if◌then◌else◌}
 use Rattle.std.specs.List.{list_all, list_any}
 use Rattle.nb_core.specs.declared.edit.Edit.{Edit}
 use Rattle.nb_core.specs.declared.refusal.Refusal.{Refusal}
@@ -11,7 +11,7 @@ use Rattle.nb_edit.specs.declared.form.Place.{Place}
 use Rattle.nb_edit.specs.declared.form.Tail.{Tail}
 use Rattle.nb_edit.specs.declared.form.Tail.TheVariants.{Ends, May, MayThen, MayThenBoth, Repeats}
 use Rattle.nb_edit.specs.declared.verb.Verb.{Verb}
-use Rattle.nb_edit.specs.Call.{Call, call, is_short}
+use Rattle.nb_edit.specs.Call.{Call, call}
 use Rattle.nb_edit.specs.Edits.{edit_of}
 use Rattle.nb_edit.specs.Forms.{form, verb_of}
 use Rattle.nb_edit.specs.Keywords.{may_stand, is_option, is_flag, is_whole}
@@ -84,7 +84,3 @@ option_count words = unwrap_or (position (λ word. not (is_option word.text)) wo
 abbrev pub read_command : Command → Result Edit Refusal
 read_command command =
     said command.first (take (option_count command.words) command.words) (drop (option_count command.words) command.words)
-
--- a command whose words have numbers, and bytes have places, of 32 bits
-abbrev pub is_small : Command → Bool
-is_small command = nat_lt (command.first + length command.words) (2 ^ 32) && list_all is_short command.words

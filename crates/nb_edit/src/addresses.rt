@@ -5,7 +5,7 @@ ghost use Rattle.std.specs.Prelude.{map};
 ghost use Rattle.std.specs.List.{list_any};
 ghost use Rattle.nb_edit.specs.Lists.{addresses, has_mac, has_ip, is_ip, new_mac, new_ips, host, next_address};
 
-use crate::parts::parts;
+use crate::split::parts;
 use crate::words::{ip, mac};
 use nb_core::{Addr, Refusal};
 use nb_words::{LineFault, Word};

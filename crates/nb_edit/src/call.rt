@@ -1,7 +1,8 @@
 //! A command's words, by their places.
 ghost use Rattle.std.specs.Prelude.{◌≡◌, ◌<◌, ◌≤◌, ◌+◌, ◌^◌, true, length, drop};
 ghost use Rattle.std.specs.List.{list_all};
-ghost use Rattle.nb_edit.specs.Call.{call, number, text, is_short, is_there, stands, may_exist, if_exists};
+ghost use Rattle.nb_words.specs.Commands.{is_short};
+ghost use Rattle.nb_edit.specs.Call.{call, number, text, is_there, stands, may_exist, if_exists};
 ghost use Rattle.nb_edit.specs.Edits.{policy, owner_kind};
 
 use nb_core::{OwnerKind, RouteBy};
@@ -19,13 +20,14 @@ pub(crate) struct Call<'c> {
 impl<'c> Model for Call<'c> {
     ghost use Rattle.std.specs.Prelude.{◌≡◌, ◌<◌, ◌+◌, ◌^◌, true, length};
     ghost use Rattle.std.specs.List.{list_all};
+    ghost use Rattle.nb_words.specs.Commands.{is_short};
     ghost use Rattle.nb_edit.specs.Call as said;
 
     ghost Value = { said.Call };
 
     ghost view = { λ c. record { options = c.options.now; first = c.first; words = c.words.now } };
 
-    ghost invariant = { λ c. (c.first + length c.words.now < 2 ^ 32) × (list_all said.is_short c.words.now ≡ true) };
+    ghost invariant = { λ c. (c.first + length c.words.now < 2 ^ 32) × (list_all is_short c.words.now ≡ true) };
 }
 
 impl<'c> Call<'c> {

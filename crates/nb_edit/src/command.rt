@@ -1,11 +1,11 @@
 //! What a command says: the edit that it asks for, or why it is refused whatever the network is.
 ghost use Rattle.std.specs.Prelude.{◌≡◌, ◌<◌, ◌≤◌, ◌+◌, ◌^◌, Ok, IfOk, IfErr, IfSome, Some, true, length, position, not};
 ghost use Rattle.std.specs.List.{list_all};
+ghost use Rattle.nb_words.specs.Commands.{command, is_short, is_small};
 ghost use Rattle.nb_words.specs.Fault.{IsFaultOf};
 ghost use Rattle.nb_edit.specs.Forms.{form};
 ghost use Rattle.nb_edit.specs.Keywords as keyword;
-ghost use Rattle.nb_edit.specs.Call.{is_short};
-ghost use Rattle.nb_edit.specs.Commands.{suits, ends, fits, is_taken, other_option, is_once, is_well_formed, formed, tested, named, said, option_count, is_small, read_command};
+ghost use Rattle.nb_edit.specs.Commands.{suits, ends, fits, is_taken, other_option, is_once, is_well_formed, formed, tested, named, said, option_count, read_command};
 
 use crate::call::Call;
 use crate::edit::edit_of;
@@ -125,8 +125,8 @@ fn first_no_option(words: &[Word]) -> Option<usize>
         .position(|word| !is_option(word.text.as_slice()))
 }
 
-// How many options a command begins with.
-fn option_count(words: &[Word]) -> usize
+/// How many options a command begins with: options stand before its name (ovn-nbctl(8)).
+pub fn option_count(words: &[Word]) -> usize
     ensures count { result ≡ option_count words.now }
     ensures within { result ≤ length words.now }
 {
@@ -202,32 +202,23 @@ fn said(alloc: Global, first: u32, options: &[Word], words: &[Word]) -> Result<E
     }
 }
 
-// Whether no word has 4 GiB.
-fn all_short(words: &[Word]) -> bool
-    ensures { result ≡ list_all is_short words.now }
-{
-    words
-        .iter()
-        .all(|word| word.text.as_slice().len() <= u32::MAX as usize)
-}
-
-/// Whether the numbers of the command's words, and the places of their bytes, have 32 bits.
-pub fn is_small(command: &Command) -> bool
-    ensures { result ≡ is_small command.now }
-{
-    let words = command.words.as_slice();
-    words.len() <= (u32::MAX - command.first) as usize && all_short(words)
-}
-
 /// Reads a command: the edit that it asks for. It is refused first where it has no name or the name is none, then for an
 /// option that it doesn't take, then for a wrong number of words or a keyword that is none, then for each word from the left.
-#[tactic(auto, using(crate::proofs::Short::drop_is_short, crate::proofs::Short::is_numbered, crate::proofs::Short::all_are_short))]
 pub fn read_command(alloc: Global, command: &Command) -> Result<Edit, LineFault>
     requires { is_small command.now ≡ true }
     ensures read { IfOk result (λ edit. read_command command.now ≡ Ok edit) }
     ensures refused { IfErr result (λ fault. IsFaultOf (read_command command.now) fault) }
 {
-    let words = command.words.as_slice();
+    read_words(alloc, command.first, command.words.as_slice())
+}
+
+/// Reads the command of these words, of which the first has this number in the line, as `read_command` does.
+#[tactic(auto, using(crate::proofs::Short::drop_is_short, crate::proofs::Short::is_numbered, crate::proofs::Short::all_are_short))]
+pub fn read_words(alloc: Global, first: u32, words: &[Word]) -> Result<Edit, LineFault>
+    requires { is_small (command first words.now) ≡ true }
+    ensures read { IfOk result (λ edit. read_command (command first words.now) ≡ Ok edit) }
+    ensures refused { IfErr result (λ fault. IsFaultOf (read_command (command first words.now)) fault) }
+{
     let (options, others) = words.split_at(option_count(words));
-    said(alloc, command.first, options, others)
+    said(alloc, first, options, others)
 }

@@ -5,7 +5,7 @@ ghost use Rattle.std.specs.Prelude.{map};
 ghost use Rattle.std.specs.List.{list_any};
 ghost use Rattle.nb_edit.specs.Lists.{guards, is_base, has_net, guards_mac, guard_mac, new_nets, guarded, next_guard};
 
-use crate::parts::parts;
+use crate::split::parts;
 use crate::words::{mac, prefix};
 use nb_core::{Guard, Refusal};
 use nb_words::{LineFault, Word};

@@ -99,8 +99,8 @@ fn unicast_of(text: &[u8]) -> Option<Mac>
     }
 }
 
-/// A MAC that is neither zero nor multicast.
-pub(crate) fn mac(number: u32, text: &[u8]) -> Result<Mac, LineFault>
+/// A MAC that is neither zero nor multicast, or `BadMac` with the word's number.
+pub fn mac(number: u32, text: &[u8]) -> Result<Mac, LineFault>
     ensures read { IfOk result (λ value. mac number text.now ≡ Ok value) }
     ensures refused { IfErr result (λ fault. IsFaultOf (mac number text.now) fault) }
 {

@@ -1,4 +1,5 @@
 pub mod Counts
 pub mod Quoting
+pub mod Small
 pub mod Splits
 pub mod Utf8

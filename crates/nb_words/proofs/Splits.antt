@@ -3,7 +3,7 @@ use Rattle.std.proofs.Common.{◌≡◌, ◌++◌, ◌+◌, ◌∙◌, Bool, tru
 use Rattle.std.specs.List.{slice_split, onto_first}
 use Rattle.nb_words.specs.declared.word.Word.{Word}
 use Rattle.nb_words.specs.declared.command.Command.{Command}
-use Rattle.nb_words.specs.Commands.{is_between, numbered}
+use Rattle.nb_words.specs.Commands.{command, is_between, numbered}
 
 -- the parts of a list that has one element more: it ends the last part, or it is in it
 abbrev pub grown : {X : Type 0} → Bool → X → List (List X) → List (List X)
@@ -36,10 +36,6 @@ slice_split-snoc p (y ∷ xs) x = first (p y) p xs x y (slice_split-snoc p xs x)
       → (if b then [] ∷ slice_split p (xs ++ x ∷ []) else onto_first y (slice_split p (xs ++ x ∷ []))) ≡ grown (p x) x (if b then [] ∷ slice_split p xs else onto_first y (slice_split p xs))
   first true p xs x y e = ap (λ parts. [] ∷ parts) e ∙ sym (after_end (p x) x p xs)
   first false p xs x y e = ap (onto_first y) e ∙ sym (onto_grown (p x) x y (slice_split p xs))
-
--- a command, by its first word's number
-abbrev pub command : ℕ → List Word → Command
-command first words = record { first = first; words = words }
 
 no_command : (commands : List Command) (c : Command) (A : Type 0) → [] ≡ commands ++ c ∷ [] → A
 no_command [] c A e = cc

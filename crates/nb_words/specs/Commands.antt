@@ -1,6 +1,6 @@
 -- The commands of a line.
-use Rattle.std.specs.Prelude.{ℕ, ◌+◌, Bool, true, not, ◌&&◌, ◌==◌, if◌then◌else◌, List, [], ◌∷◌, length, Option, Some, None, Result, Ok, Err, codes, nat_lt}
-use Rattle.std.specs.List.{slice_split}
+use Rattle.std.specs.Prelude.{ℕ, ◌+◌, ◌^◌, Bool, true, not, ◌&&◌, ◌==◌, if◌then◌else◌, List, [], ◌∷◌, length, Option, Some, None, Result, Ok, Err, codes, nat_lt}
+use Rattle.std.specs.List.{list_all, slice_split}
 use Rattle.std.specs.Str.{bytes_eq, is_utf8}
 use Rattle.nb_core.specs.declared.refusal.Refusal.{Refusal}
 use Rattle.nb_core.specs.declared.refusal.Refusal.TheVariants.{NotUtf8, LineTooLong, WrongWords}
@@ -21,10 +21,22 @@ says_nothing (byte ∷ more) = if is_separator byte then says_nothing more else 
 abbrev pub is_between : Word → Bool
 is_between word = word.is_bare && bytes_eq word.text (codes "--")
 
+-- the command of these words, of which the first has this number
+abbrev pub command : ℕ → List Word → Command
+command first words = record { first = first; words = words }
+
+-- a word whose bytes a place of 32 bits can tell
+abbrev pub is_short : Word → Bool
+is_short word = nat_lt (length word.text) (2 ^ 32)
+
+-- a command whose words have numbers, and bytes have places, of 32 bits
+abbrev pub is_small : Command → Bool
+is_small command = nat_lt (command.first + length command.words) (2 ^ 32) && list_all is_short command.words
+
 -- commands, of which the first begins at the word of that number: a separator counts as a word
 abbrev pub numbered : ℕ → List (List Word) → List Command
 numbered first [] = []
-numbered first (words ∷ more) = record { first = first; words = words } ∷ numbered (first + length words + 1) more
+numbered first (words ∷ more) = command first words ∷ numbered (first + length words + 1) more
 
 -- the commands of these words
 abbrev pub commands_of : Option (List Word) → Result (List Command) Refusal

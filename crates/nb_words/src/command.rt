@@ -1,8 +1,8 @@
 //! Commands: the words of a line between the words `--`.
-ghost use Rattle.std.specs.Prelude.{◌≡◌, ◌≤◌, Ok, length, IsTrue, ◌↔◌, IfOk, IfErr};
-ghost use Rattle.std.specs.List.{slice_split};
+ghost use Rattle.std.specs.Prelude.{◌≡◌, ◌≤◌, Ok, length, true, IsTrue, ◌↔◌, IfOk, IfErr};
+ghost use Rattle.std.specs.List.{list_all, slice_split};
 ghost use Rattle.std.specs.Str.{is_utf8};
-ghost use Rattle.nb_words.specs.Commands.{is_between, says_nothing, numbered, read_commands};
+ghost use Rattle.nb_words.specs.Commands.{is_between, is_small, says_nothing, numbered, read_commands};
 ghost use Rattle.nb_words.specs.Fault.{IsFaultOf};
 
 use crate::LineFault;
@@ -22,10 +22,11 @@ pub struct Command {
 
 /// The commands of a line, without its newline: none where it is blank or a comment. Each `--` without quotes separates two
 /// commands. A line of more than 65,536 bytes is refused as too long, then one that is not UTF-8, then one with an open
-/// quote.
-#[tactic(auto, using(crate::proofs::Counts::no_more_words))]
+/// quote. The numbers of the words, and the places of their bytes, have 32 bits.
+#[tactic(auto, using(crate::proofs::Counts::no_more_words, crate::proofs::Small::commands_are_small))]
 pub fn read_commands(alloc: Global, line: &[u8]) -> Result<Items<Command>, LineFault>
     ensures read { IfOk result (λ commands. read_commands line.now ≡ Ok commands) }
+    ensures small { IfOk result (λ commands. list_all is_small commands ≡ true) }
     ensures refused { IfErr result (λ fault. IsFaultOf (read_commands line.now) fault) }
 {
     if line.len() > 65_536 {

@@ -1,25 +1,29 @@
+ghost use Rattle.std.specs.Prelude.{◌≡◌, true};
+ghost use Rattle.std.specs.List.{list_all};
+ghost use Rattle.nb_words.specs.Commands.{is_small};
+
 use crate::edit::put_edit;
-use nb_core::{Edit, Refusal};
-use nb_edit::{is_small, read_command};
+use nb_core::Edit;
+use nb_edit::read_command;
 use nb_words::{Command, LineFault, read_commands};
 use nv_base::{Items, OutOfMemory};
 use std::alloc::Global;
 
-fn read_one(alloc: Global, command: &Command) -> Result<Edit, LineFault> {
-    if !is_small(command) {
-        return Err(LineFault::Refused(Refusal::LineTooLong));
+/// The edits that the commands ask for.
+fn read_each(alloc: Global, commands: &[Command]) -> Result<Items<Edit>, LineFault>
+    requires { list_all is_small commands.now ≡ true }
+{
+    let mut edits = Items::new(alloc);
+    for command in commands {
+        edits.push(read_command(alloc, command)?)?;
     }
-    read_command(alloc, command)
+    Ok(edits)
 }
 
 /// The edits that the line asks for.
 fn read_line(alloc: Global, line: &[u8]) -> Result<Items<Edit>, LineFault> {
     let commands = read_commands(alloc, line)?;
-    let mut edits = Items::new(alloc);
-    for command in commands.as_slice() {
-        edits.push(read_one(alloc, command)?)?;
-    }
-    Ok(edits)
+    read_each(alloc, commands.as_slice())
 }
 
 /// Appends the answer to a line: its edits, a line each, or its refusal.

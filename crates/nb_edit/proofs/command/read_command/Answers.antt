@@ -1,10 +1,5 @@
-use Rattle.std.proofs.Common.{◌≡◌, take, drop}
-use Rattle.nb_edit.specs.Commands.{option_count}
 use Rattle.nb_edit.proofs.command.read_command.Goals as goal
 
--- the options, and the words from the name on, are those of the command
+-- the words are those of the command
 pub returns-clause-refused : goal.returns-clause-refused
-returns-clause-refused c =
-    let options : c.split_at.result.0.now ≡ take (option_count c.args.command.now.words) c.args.command.now.words = cc in
-    let others : c.split_at.result.1.now ≡ drop (option_count c.args.command.now.words) c.args.command.now.words = cc in
-    rw (← options, ← others) c.said.ensures.refused
+returns-clause-refused c = let refused = c.read_words.ensures.refused in rw c.as_slice.ensures at refused

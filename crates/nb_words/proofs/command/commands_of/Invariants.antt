@@ -1,7 +1,6 @@
 use Rattle.std.proofs.Common.{◌≡◌, ◌+◌, ◌++◌, [], ◌∷◌, length}
 use Rattle.std.specs.List.{slice_split}
-use Rattle.nb_words.specs.Commands.{is_between, numbered}
-use Rattle.nb_words.proofs.Splits.{command}
+use Rattle.nb_words.specs.Commands.{command, is_between, numbered}
 use Rattle.nb_words.proofs.command.commands_of.Given as goal
 
 -- the commands of the words so far: those that are ended, and the one that is begun

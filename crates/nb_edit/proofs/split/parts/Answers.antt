@@ -4,7 +4,7 @@ use Rattle.std.proofs.lemmas.Iterator.Consumers.{map_from_collect, YieldsList-fr
 use Rattle.std.proofs.lemmas.Iterator.Splits.{YieldsList-from_slice_split}
 use Rattle.nb_words.specs.Words.{is_separator}
 use Rattle.nb_edit.specs.Lists.{parts}
-use Rattle.nb_edit.proofs.parts.parts.Goals as goal
+use Rattle.nb_edit.proofs.split.parts.Goals as goal
 
 pub returns : goal.returns
 returns c =

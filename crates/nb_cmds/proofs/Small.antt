@@ -1,0 +1,40 @@
+-- Small commands.
+use Rattle.std.proofs.Common.{◌≡◌, ◌≤◌, ◌<◌, ◌^◌, ◌+◌, ◌&&◌, Bool, true, false, ℕ, zero, suc, List, [], ◌∷◌, length, take, nat_lt, arith, refl}
+use Rattle.std.specs.List.{list_all}
+use Rattle.std.proofs.lemmas.Bool.{lt-ltb, ltb-true}
+use Rattle.nb_words.specs.declared.word.Word.{Word}
+use Rattle.nb_words.specs.declared.command.Command.{Command}
+use Rattle.nb_words.specs.Commands.{command, is_short, is_small}
+
+both : (a b : Bool) → (a && b) ≡ true → (a ≡ true) × (b ≡ true)
+both true b e = (refl, e)
+both false b e = absurd cc
+
+all : (a b : Bool) → a ≡ true → b ≡ true → (a && b) ≡ true
+all true b e f = f
+all false b e f = absurd cc
+
+pub has_small_numbers : (c : Command) → is_small c ≡ true → c.first + length c.words < 2 ^ 32
+has_small_numbers c small = ltb-true (c.first + length c.words) (2 ^ 32) ((both (nat_lt (c.first + length c.words) (2 ^ 32)) (list_all is_short c.words) small).0)
+
+front_short : (n : ℕ) (words : List Word) → list_all is_short words ≡ true → list_all is_short (take n words) ≡ true
+front_short zero words short = refl
+front_short (suc n) [] short = refl
+front_short (suc n) (word ∷ words) short =
+    let parts = both (is_short word) (list_all is_short words) short in
+    all (is_short word) (list_all is_short (take n words)) parts.0 (front_short n words parts.1)
+
+front_fewer : (n : ℕ) (words : List Word) → length (take n words) ≤ length words
+front_fewer zero words = omega arith
+front_fewer (suc n) [] = omega arith
+front_fewer (suc n) (word ∷ words) = let rest = front_fewer n words in omega arith
+
+less : (first n m limit : ℕ) → n ≤ m → first + m < limit → first + n < limit
+less first n m limit few small = omega arith
+
+-- the first words of a small command are a small one
+pub front_is_small : (n : ℕ) (c : Command) → is_small c ≡ true → is_small (command c.first (take n c.words)) ≡ true
+front_is_small n c small =
+    all (nat_lt (c.first + length (take n c.words)) (2 ^ 32)) (list_all is_short (take n c.words))
+    (lt-ltb (c.first + length (take n c.words)) (2 ^ 32) (less c.first (length (take n c.words)) (length c.words) (2 ^ 32) (front_fewer n c.words) (has_small_numbers c small)))
+    (front_short n c.words ((both (nat_lt (c.first + length c.words) (2 ^ 32)) (list_all is_short c.words) small).1))

@@ -1,0 +1,73 @@
+//! The one table of the names that are built.
+ghost use Rattle.std.specs.Prelude.{◌≡◌};
+ghost use Rattle.nb_cmds.specs.Tasks.{tasks, task_name, is_named, task_of};
+
+use nb_edit::Verb;
+
+/// What a query is about.
+#[derive(Clone, Copy, Debug, PartialEq, Eq)]
+pub enum Question {
+    /// `lflow-list`, of ovn-sbctl(8).
+    FlowList,
+    /// `dump`, which is not from OVN.
+    Dump,
+    /// `frame`, which is not from OVN.
+    Frame,
+}
+
+/// What a name asks for.
+#[derive(Clone, Copy, Debug, PartialEq, Eq)]
+pub enum Task {
+    /// A command that edits.
+    Edit(Verb),
+    /// A query.
+    Query(Question),
+}
+
+// The table.
+static TASKS: [Task; 8] = [
+    Task::Edit(Verb::LsAdd),
+    Task::Edit(Verb::LsDel),
+    Task::Edit(Verb::LspAdd),
+    Task::Edit(Verb::LspDel),
+    Task::Edit(Verb::LspSetAddresses),
+    Task::Query(Question::FlowList),
+    Task::Query(Question::Dump),
+    Task::Query(Question::Frame),
+];
+
+impl Task {
+    /// All that is built.
+    #[tactic(auto, unfolding(crate::specs::Tasks::tasks))]
+    pub fn all() -> &'static [Task; 8]
+        ensures { result.now ≡ tasks }
+    {
+        &TASKS
+    }
+
+    /// Its name.
+    pub fn name(self) -> &'static str
+        ensures { result.now ≡ task_name self }
+    {
+        match self {
+            Task::Edit(verb) => verb.form().name,
+            Task::Query(Question::FlowList) => "lflow-list",
+            Task::Query(Question::Dump) => "dump",
+            Task::Query(Question::Frame) => "frame",
+        }
+    }
+
+    // Whether this is its name.
+    fn is_named(self, name: &[u8]) -> bool
+        ensures { result ≡ is_named self name.now }
+    {
+        self.name().as_bytes() == name
+    }
+}
+
+/// What the name asks for (ovn-nbctl(8), ovn-sbctl(8)), where it is built.
+pub fn task_of(name: &[u8]) -> Option<Task>
+    ensures { result ≡ task_of name.now }
+{
+    Task::all().iter().find(|task| task.is_named(name)).copied()
+}

@@ -1,0 +1,51 @@
+use nb_cmds::{Line, Query, read_line};
+use nb_words::LineFault;
+use nv_base::{Name, OutOfMemory, put_dec, put_mac};
+use std::alloc::Global;
+
+// The name, after a space.
+fn put_name(out: &mut Vec<u8>, name: &Name) -> Result<(), OutOfMemory> {
+    out.push(b' ')?;
+    out.extend_from_slice(name.as_slice())?;
+    Ok(())
+}
+
+// The query, by its words.
+fn put_query(out: &mut Vec<u8>, query: &Query) -> Result<(), OutOfMemory> {
+    match query {
+        Query::FlowList(datapath) => {
+            out.extend_from_slice(b"lflow-list")?;
+            if let Some(name) = datapath {
+                put_name(out, name)?;
+            }
+        }
+        Query::Dump => out.extend_from_slice(b"dump")?,
+        Query::Frame { port, mac } => {
+            out.extend_from_slice(b"frame")?;
+            put_name(out, port)?;
+            out.push(b' ')?;
+            put_mac(out, *mac)?;
+        }
+    }
+    out.push(b'\n')?;
+    Ok(())
+}
+
+// How many edits there are.
+fn put_count(out: &mut Vec<u8>, count: usize) -> Result<(), OutOfMemory> {
+    out.extend_from_slice(b"edits ")?;
+    put_dec(out, count as u128)?;
+    out.push(b'\n')?;
+    Ok(())
+}
+
+/// Appends the answer to a line: the number of its edits, its query, or its refusal.
+pub(crate) fn put_answer(alloc: Global, out: &mut Vec<u8>, line: &[u8]) -> Result<(), OutOfMemory> {
+    match read_line(alloc, line) {
+        Ok(Line::Nothing) => Ok(()),
+        Ok(Line::Edits(edits)) => put_count(out, edits.as_slice().len()),
+        Ok(Line::Query(query)) => put_query(out, &query),
+        Err(LineFault::Refused(refusal)) => refusal.put_line(out),
+        Err(LineFault::Memory) => Err(OutOfMemory),
+    }
+}

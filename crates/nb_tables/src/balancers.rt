@@ -1,0 +1,245 @@
+//! Edits of load balancers, and of the switches and routers that have them.
+ghost use Rattle.std.specs.Prelude.{◌≡◌, ◌+◌, ◌<◌, ◌^◌, [], ◌∷◌, ◌++◌, unwrap_or, IfOk, OnOk};
+ghost use Rattle.nb_core.specs.declared.balancer.Proto.TheVariants.{Tcp};
+ghost use Rattle.nb_core.specs.declared.edit.Edit.TheVariants as edit;
+ghost use Rattle.nb_net.specs.Belongs.{is_number};
+ghost use Rattle.nb_net.specs.Network.{lb_id, next_number};
+ghost use Rattle.nb_net.specs.Effect.{effect, is_detached, with_number, without};
+ghost use Rattle.nb_net.specs.Sound.{IsSound};
+ghost use Rattle.nb_table.specs.Table.{with_exchanged};
+ghost use Rattle.nb_tables.specs.Undo.{back_steps};
+
+use crate::records::Records;
+use crate::removals::others;
+use crate::tests_balancers::is_among;
+use crate::work::Work;
+use nb_core::{Backend, Frontend, Lb, Proto, Router, Switch, Vip};
+use nv_base::{Items, Kept, Name, ObjId, OutOfMemory};
+use std::alloc::Global;
+
+impl Work {
+    /// `ls-lb-add`
+    pub(crate) fn ls_lb_add(
+        &mut self,
+        alloc: Global,
+        switch: Name,
+        lb: &Name,
+        may_exist: bool,
+    ) -> Result<(), OutOfMemory>
+        requires sound { IsSound self.old.records }
+        ensures ok { OnOk result (self.new.records ≡ effect self.old.records (edit.LsLbAdd switch lb.now may_exist)) }
+        ensures back { back_steps self.new.steps.items self.new.records ≡ back_steps self.old.steps.items self.old.records }
+    {
+        let Some(number) = self.records.lb_id(lb) else {
+            return Ok(());
+        };
+        let Some(old) = self.records.switch_named(&switch) else {
+            return Ok(());
+        };
+        let changed = Switch {
+            id: old.id,
+            name: switch,
+            lbs: with_number(alloc, &old.lbs, number)?,
+        };
+        self.store_switch(alloc, changed)
+    }
+
+    /// `lr-lb-add`
+    pub(crate) fn lr_lb_add(
+        &mut self,
+        alloc: Global,
+        router: Name,
+        lb: &Name,
+        may_exist: bool,
+    ) -> Result<(), OutOfMemory>
+        requires sound { IsSound self.old.records }
+        ensures ok { OnOk result (self.new.records ≡ effect self.old.records (edit.LrLbAdd router lb.now may_exist)) }
+        ensures back { back_steps self.new.steps.items self.new.records ≡ back_steps self.old.steps.items self.old.records }
+    {
+        let Some(number) = self.records.lb_id(lb) else {
+            return Ok(());
+        };
+        let Some(old) = self.records.router_named(&router) else {
+            return Ok(());
+        };
+        let changed = Router {
+            id: old.id,
+            name: router,
+            lbs: with_number(alloc, &old.lbs, number)?,
+        };
+        self.store_router(alloc, changed)
+    }
+
+    /// `ls-lb-del`
+    pub(crate) fn ls_lb_del(
+        &mut self,
+        alloc: Global,
+        switch: Name,
+        lb: &Option<Name>,
+        if_exists: bool,
+    ) -> Result<(), OutOfMemory>
+        requires sound { IsSound self.old.records }
+        ensures ok { OnOk result (self.new.records ≡ effect self.old.records (edit.LsLbDel switch lb.now if_exists)) }
+        ensures back { back_steps self.new.steps.items self.new.records ≡ back_steps self.old.steps.items self.old.records }
+    {
+        let Some(old) = self.records.switch_named(&switch) else {
+            return Ok(());
+        };
+        let changed = Switch {
+            id: old.id,
+            name: switch,
+            lbs: self.records.still_attached(alloc, &old.lbs, lb)?,
+        };
+        self.store_switch(alloc, changed)
+    }
+
+    /// `lr-lb-del`
+    pub(crate) fn lr_lb_del(
+        &mut self,
+        alloc: Global,
+        router: Name,
+        lb: &Option<Name>,
+        if_exists: bool,
+    ) -> Result<(), OutOfMemory>
+        requires sound { IsSound self.old.records }
+        ensures ok { OnOk result (self.new.records ≡ effect self.old.records (edit.LrLbDel router lb.now if_exists)) }
+        ensures back { back_steps self.new.steps.items self.new.records ≡ back_steps self.old.steps.items self.old.records }
+    {
+        let Some(old) = self.records.router_named(&router) else {
+            return Ok(());
+        };
+        let changed = Router {
+            id: old.id,
+            name: router,
+            lbs: self.records.still_attached(alloc, &old.lbs, lb)?,
+        };
+        self.store_router(alloc, changed)
+    }
+
+    /// `lb-add`
+    pub(crate) fn lb_add(
+        &mut self,
+        alloc: Global,
+        name: Name,
+        at: Frontend,
+        backends: Items<Backend>,
+        proto: Option<Proto>,
+    ) -> Result<(), OutOfMemory>
+        requires sound { IsSound self.old.records }
+        ensures ok { OnOk result (self.new.records ≡ effect self.old.records (edit.LbAdd name at backends proto)) }
+        ensures back { back_steps self.new.steps.items self.new.records ≡ back_steps self.old.steps.items self.old.records }
+    {
+        let vip = Vip { at, backends };
+        let Some(old) = self.records.lb_named(&name) else {
+            return self.add_lb(alloc, name, vip, proto);
+        };
+        let changed = Lb {
+            id: old.id,
+            name,
+            proto: old.proto,
+            vips: with_vip(alloc, &old.vips, vip)?,
+        };
+        self.store_lb(alloc, changed)
+    }
+
+    /// `lb-del`
+    pub(crate) fn lb_del(
+        &mut self,
+        alloc: Global,
+        name: &Name,
+        at: Option<Frontend>,
+        if_exists: bool,
+    ) -> Result<(), OutOfMemory>
+        requires sound { IsSound self.old.records }
+        ensures ok { OnOk result (self.new.records ≡ effect self.old.records (edit.LbDel name.now at if_exists)) }
+        ensures back { back_steps self.new.steps.items self.new.records ≡ back_steps self.old.steps.items self.old.records }
+    {
+        match at {
+            Some(at) => self.remove_vip(alloc, name, at),
+            None => self.remove_lb_named(alloc, name),
+        }
+    }
+
+    // Adds a load balancer with one VIP, which takes TCP where no protocol is given.
+    fn add_lb(
+        &mut self,
+        alloc: Global,
+        name: Name,
+        vip: Vip,
+        proto: Option<Proto>,
+    ) -> Result<(), OutOfMemory>
+        requires room { self.old.records.next + 1 < 2 ^ 32 }
+        ensures ok { OnOk result (self.new.records ≡ record self.old.records { lbs = with_exchanged (λ x. x.id) (record { id = next_number self.old.records; name = name; proto = unwrap_or proto Tcp; vips = vip ∷ [] }) self.old.records.lbs; next = self.old.records.next + 1 }) }
+        ensures back { back_steps self.new.steps.items self.new.records ≡ back_steps self.old.steps.items self.old.records }
+    {
+        let mut vips = Items::new(alloc);
+        vips.push(vip)?;
+        let id = self.take_number()?;
+        let proto = proto.unwrap_or(Proto::Tcp);
+        self.store_lb(
+            alloc,
+            Lb {
+                id,
+                name,
+                proto,
+                vips,
+            },
+        )
+    }
+}
+
+impl Records {
+    // The load balancers of a list that stay where the one that is named, or each, is detached.
+    fn still_attached(
+        &self,
+        alloc: Global,
+        lbs: &Items<ObjId>,
+        lb: &Option<Name>,
+    ) -> Result<Items<ObjId>, OutOfMemory>
+        ensures { IfOk result (λ left. left ≡ without (is_detached self.now lb.now) lbs.now) }
+    {
+        match lb {
+            Some(name) => self.without_named(alloc, lbs, name),
+            None => Ok(Items::new(alloc)),
+        }
+    }
+
+    // The load balancers of a list but the one of this name.
+    fn without_named(
+        &self,
+        alloc: Global,
+        lbs: &Items<ObjId>,
+        lb: &Name,
+    ) -> Result<Items<ObjId>, OutOfMemory>
+        ensures { IfOk result (λ left. left ≡ without (is_number (lb_id self.now lb.now)) lbs.now) }
+    {
+        match self.lb_id(lb) {
+            Some(number) => others(alloc, lbs.as_slice(), number),
+            None => lbs.copy(alloc),
+        }
+    }
+}
+
+// The numbers with one more, last, where it is not there.
+fn with_number(
+    alloc: Global,
+    numbers: &Items<ObjId>,
+    number: ObjId,
+) -> Result<Items<ObjId>, OutOfMemory>
+    ensures { IfOk result (λ longer. longer ≡ with_number number numbers.now) }
+{
+    let mut longer = numbers.copy(alloc)?;
+    if !is_among(number, numbers.as_slice()) {
+        longer.push(number)?;
+    }
+    Ok(longer)
+}
+
+// The VIPs with one more, last.
+fn with_vip(alloc: Global, vips: &Items<Vip>, vip: Vip) -> Result<Items<Vip>, OutOfMemory>
+    ensures { IfOk result (λ longer. longer ≡ vips.now ++ vip ∷ []) }
+{
+    let mut longer = vips.copy(alloc)?;
+    longer.push(vip)?;
+    Ok(longer)
+}

@@ -1,0 +1,199 @@
+//! Edits of the ports of switches.
+ghost use Rattle.std.specs.Prelude.{◌≡◌, OnOk};
+ghost use Rattle.nb_core.specs.declared.edit.Edit.TheVariants as edit;
+ghost use Rattle.nb_net.specs.Effect.{effect};
+ghost use Rattle.nb_net.specs.Sound.{IsSound};
+ghost use Rattle.nb_tables.specs.Undo.{back_steps};
+
+use crate::work::Work;
+use nb_core::{Addr, Guard, Port, PortKind};
+use nv_base::{Items, Kept, Name, OutOfMemory};
+use std::alloc::Global;
+
+impl Work {
+    /// `lsp-add`
+    pub(crate) fn lsp_add(
+        &mut self,
+        alloc: Global,
+        switch: &Name,
+        port: Name,
+        may_exist: bool,
+    ) -> Result<(), OutOfMemory>
+        requires sound { IsSound self.old.records }
+        ensures ok { OnOk result (self.new.records ≡ effect self.old.records (edit.LspAdd switch.now port may_exist)) }
+        ensures back { back_steps self.new.steps.items self.new.records ≡ back_steps self.old.steps.items self.old.records }
+    {
+        if self.records.port_named(&port).is_some() {
+            return Ok(());
+        }
+        let Some(switch) = self.records.switch_id(switch) else {
+            return Ok(());
+        };
+        let id = self.take_number()?;
+        self.store_port(
+            alloc,
+            Port {
+                id,
+                switch,
+                name: port,
+                kind: PortKind::Host,
+                router_port: None,
+                addresses: Items::new(alloc),
+                security: Items::new(alloc),
+                enabled: true,
+            },
+        )
+    }
+
+    /// `lsp-set-addresses`
+    pub(crate) fn lsp_set_addresses(
+        &mut self,
+        alloc: Global,
+        port: Name,
+        addresses: Items<Addr>,
+    ) -> Result<(), OutOfMemory>
+        requires sound { IsSound self.old.records }
+        ensures ok { OnOk result (self.new.records ≡ effect self.old.records (edit.LspSetAddresses port addresses)) }
+        ensures back { back_steps self.new.steps.items self.new.records ≡ back_steps self.old.steps.items self.old.records }
+    {
+        let Some(old) = self.records.port_named(&port) else {
+            return Ok(());
+        };
+        let changed = Port {
+            id: old.id,
+            switch: old.switch,
+            name: port,
+            kind: old.kind,
+            router_port: old.router_port.copy(alloc)?,
+            addresses,
+            security: old.security.copy(alloc)?,
+            enabled: old.enabled,
+        };
+        self.store_port(alloc, changed)
+    }
+
+    /// `lsp-set-port-security`
+    pub(crate) fn lsp_set_port_security(
+        &mut self,
+        alloc: Global,
+        port: Name,
+        guards: Items<Guard>,
+    ) -> Result<(), OutOfMemory>
+        requires sound { IsSound self.old.records }
+        ensures ok { OnOk result (self.new.records ≡ effect self.old.records (edit.LspSetPortSecurity port guards)) }
+        ensures back { back_steps self.new.steps.items self.new.records ≡ back_steps self.old.steps.items self.old.records }
+    {
+        let Some(old) = self.records.port_named(&port) else {
+            return Ok(());
+        };
+        let changed = Port {
+            id: old.id,
+            switch: old.switch,
+            name: port,
+            kind: old.kind,
+            router_port: old.router_port.copy(alloc)?,
+            addresses: old.addresses.copy(alloc)?,
+            security: guards,
+            enabled: old.enabled,
+        };
+        self.store_port(alloc, changed)
+    }
+
+    /// `lsp-set-type`
+    pub(crate) fn lsp_set_type(
+        &mut self,
+        alloc: Global,
+        port: Name,
+        kind: PortKind,
+    ) -> Result<(), OutOfMemory>
+        requires sound { IsSound self.old.records }
+        ensures ok { OnOk result (self.new.records ≡ effect self.old.records (edit.LspSetType port kind)) }
+        ensures back { back_steps self.new.steps.items self.new.records ≡ back_steps self.old.steps.items self.old.records }
+    {
+        let Some(old) = self.records.port_named(&port) else {
+            return Ok(());
+        };
+        let changed = Port {
+            id: old.id,
+            switch: old.switch,
+            name: port,
+            kind,
+            router_port: old.router_port.copy(alloc)?,
+            addresses: old.addresses.copy(alloc)?,
+            security: old.security.copy(alloc)?,
+            enabled: old.enabled,
+        };
+        self.store_port(alloc, changed)
+    }
+
+    /// `lsp-set-options`
+    pub(crate) fn lsp_set_options(
+        &mut self,
+        alloc: Global,
+        port: Name,
+        router_port: Option<Name>,
+    ) -> Result<(), OutOfMemory>
+        requires sound { IsSound self.old.records }
+        ensures ok { OnOk result (self.new.records ≡ effect self.old.records (edit.LspSetOptions port router_port)) }
+        ensures back { back_steps self.new.steps.items self.new.records ≡ back_steps self.old.steps.items self.old.records }
+    {
+        let Some(old) = self.records.port_named(&port) else {
+            return Ok(());
+        };
+        let changed = Port {
+            id: old.id,
+            switch: old.switch,
+            name: port,
+            kind: old.kind,
+            router_port,
+            addresses: old.addresses.copy(alloc)?,
+            security: old.security.copy(alloc)?,
+            enabled: old.enabled,
+        };
+        self.store_port(alloc, changed)
+    }
+
+    /// `lsp-set-enabled`
+    pub(crate) fn lsp_set_enabled(
+        &mut self,
+        alloc: Global,
+        port: Name,
+        enabled: bool,
+    ) -> Result<(), OutOfMemory>
+        requires sound { IsSound self.old.records }
+        ensures ok { OnOk result (self.new.records ≡ effect self.old.records (edit.LspSetEnabled port enabled)) }
+        ensures back { back_steps self.new.steps.items self.new.records ≡ back_steps self.old.steps.items self.old.records }
+    {
+        let Some(old) = self.records.port_named(&port) else {
+            return Ok(());
+        };
+        let changed = Port {
+            id: old.id,
+            switch: old.switch,
+            name: port,
+            kind: old.kind,
+            router_port: old.router_port.copy(alloc)?,
+            addresses: old.addresses.copy(alloc)?,
+            security: old.security.copy(alloc)?,
+            enabled,
+        };
+        self.store_port(alloc, changed)
+    }
+
+    /// `lsp-del`
+    pub(crate) fn lsp_del(
+        &mut self,
+        alloc: Global,
+        port: &Name,
+        if_exists: bool,
+    ) -> Result<(), OutOfMemory>
+        requires sound { IsSound self.old.records }
+        ensures ok { OnOk result (self.new.records ≡ effect self.old.records (edit.LspDel port.now if_exists)) }
+        ensures back { back_steps self.new.steps.items self.new.records ≡ back_steps self.old.steps.items self.old.records }
+    {
+        match self.records.port_id(port) {
+            Some(number) => self.remove_port(alloc, number),
+            None => Ok(()),
+        }
+    }
+}

@@ -1,0 +1,4 @@
+pub mod Appends
+pub mod Gaps
+pub mod Quoted
+pub mod Scripts

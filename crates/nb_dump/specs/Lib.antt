@@ -1,0 +1,5 @@
+pub mod Commands
+pub mod Dump
+pub mod Edits
+pub mod Words
+pub mod inner

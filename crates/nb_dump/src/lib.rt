@@ -1,0 +1,16 @@
+//! A network as the script of editing commands that makes it (not from OVN).
+#![tactic(auto)]
+
+mod commands;
+mod dump;
+mod ends;
+mod names;
+mod next;
+mod objects;
+mod parts;
+mod records;
+mod rules;
+mod words;
+
+pub use dump::put_dump;
+pub use objects::Objects;

@@ -11,13 +11,14 @@ use Rattle.nv_serve.specs.declared.stop.Stop.{Stop}
 use Rattle.nv_serve.specs.declared.stop.Stop.TheVariants as stops
 use Rattle.nb_model.specs.Network.{Tables}
 use Rattle.nv_serve.specs.Reply.{reply}
-use Rattle.nv_serve.specs.Output.{output, complete_output, input_limit}
+use Rattle.nv_serve.specs.Output.{output, complete_output, is_refused, input_limit}
 use Rattle.nv_serve.specs.Calls.{IsPrefix, BeginsDue, Gave, Took, Moved, told_left, Point, start_at, IsReady, piece_limit, Calls, no_call, and_take, and_puts, LastTakeGivesNothing}
 use Rattle.nv_serve.specs.inner.Pieces.{IsDue, BeginsOutput}
-use Rattle.nv_serve.specs.inner.StateAfter.{IsStateAfter}
+use Rattle.nv_serve.specs.inner.StateAfter.{IsKeptAfter}
 use Rattle.nv_serve.specs.inner.Writing.{Wrote, PutFailed, StopsWithin}
 use Rattle.nv_serve.specs.inner.Endings.{Finished, StopEnds, StopCalls}
 use Rattle.nv_serve.proofs.Writing.{gave_nothing, gave_more, gave_still, took_nothing, took_more}
+use Rattle.nv_serve.proofs.Kept.{reply_kept}
 use Rattle.nv_serve.proofs.StateAfter.{written_end, refused_end}
 
 -- at the end none is left
@@ -49,11 +50,11 @@ module _ {S K : Type 0} (takes : S → List ℕ → Result ℕ SourceFailed → 
     pub took : Took (sink_state k) (sink_state l) (complete_output given)
     pub source_quiet : (source_state t).faults ≡ (source_state s).faults
     pub sink_quiet : (sink_state l).faults ≡ (sink_state k).faults
-    pub stands : IsStateAfter network line refused given
+    pub stands : IsKeptAfter network line refused given
     pub limited : length given + room ≡ input_limit
     pub numbered : network.next ≤ 1 + length given
 
-  pub conversed_first : (s : S) (k : K) (network : Tables) (line : List ℕ) (refused : Bool) → IsStateAfter network line refused [] → network.next ≡ 1 → Conversed s k s k network line refused input_limit
+  pub conversed_first : (s : S) (k : K) (network : Tables) (line : List ℕ) (refused : Bool) → IsKeptAfter network line refused [] → network.next ≡ 1 → Conversed s k s k network line refused input_limit
   conversed_first s k network line refused stands first = record {
     given = [];
     calls = no_call;
@@ -85,7 +86,7 @@ module _ {S K : Type 0} (takes : S → List ℕ → Result ℕ SourceFailed → 
 
     -- a piece was run, and its replies were put
     abbrev Fed : K → K → List ℕ → Tables → List ℕ → Bool → Type 0
-    Fed before after bytes network' line' refused' = IsStateAfter network' line' refused' (so_far.given ++ bytes) × ((text : List ℕ) × IsDue so_far.given bytes text × Wrote puts sink_state before after text)
+    Fed before after bytes network' line' refused' = IsKeptAfter network' line' refused' (so_far.given ++ bytes) × ((text : List ℕ) × IsDue so_far.given bytes text × Wrote puts sink_state before after text)
 
     -- the program stopped within it
     abbrev Stopped : K → K → List ℕ → Stop → Type 0
@@ -202,6 +203,17 @@ module _ {S K : Type 0} (takes : S → List ℕ → Result ℕ SourceFailed → 
       calls_none : n ≡ 0 → Calls takes puts (start_at s k) (at_point u l so_far.given (complete_output so_far.given))
       calls_none none = subst (λ g. Calls takes puts (start_at s k) (at_point u l g (complete_output so_far.given))) (none_more none) taken_calls
 
+      -- the reply to what is kept of the last line
+      last_written : output so_far.given ≡ complete_output so_far.given ++ (reply network line).text
+      last_written =
+          written_end network so_far.stands.line refused so_far.given so_far.stands.stands
+          ∙ ap (λ r. complete_output so_far.given ++ r.text) (sym (reply_kept network so_far.stands.line line so_far.stands.kept_is))
+
+      last_refused : is_refused so_far.given ≡ (refused || (reply network line).refused)
+      last_refused =
+          refused_end network so_far.stands.line refused so_far.given so_far.stands.stands
+          ∙ ap (λ r. refused || r.refused) (sym (reply_kept network so_far.stands.line line so_far.stands.kept_is))
+
       -- the source is at its end
       pub finished : (m : K) → n ≡ 0 → IsAtEnd (source_state u).left → Wrote puts sink_state l m (reply network line).text → FinishedAt s k u m (refused || (reply network line).refused)
       finished m none at_end wrote = (
@@ -214,8 +226,8 @@ module _ {S K : Type 0} (takes : S → List ℕ → Result ℕ SourceFailed → 
             quiet = record { source = quiet ∙ so_far.source_quiet; sink = wrote.quiet ∙ so_far.sink_quiet };
             at_end = at_end;
             within = omega (arith, so_far.limited);
-            whole = sym (written_end network line refused so_far.given so_far.stands);
-            refused_is = sym (refused_end network line refused so_far.given so_far.stands);
+            whole = sym last_written;
+            refused_is = sym last_refused;
           },
           record {
             last = at_point t l so_far.given (complete_output so_far.given);
@@ -235,7 +247,7 @@ module _ {S K : Type 0} (takes : S → List ℕ → Result ℕ SourceFailed → 
       begins_at_end : (part : List ℕ) → IsPrefix part (reply network line).text → IsPrefix (complete_output so_far.given ++ part) (output so_far.given)
       begins_at_end part (following, part_of) = (
         following,
-        written_end network line refused so_far.given so_far.stands ∙ ap (λ t. complete_output so_far.given ++ t) part_of ∙ sym (append_assoc (complete_output so_far.given) part following),
+        last_written ∙ ap (λ t. complete_output so_far.given ++ t) part_of ∙ sym (append_assoc (complete_output so_far.given) part following),
       )
 
       begins_due_at_end : IsAtEnd (source_state u).left → (part : List ℕ) → IsPrefix part (reply network line).text → BeginsDue output so_far.given (told_left (source_state u).left) (complete_output so_far.given ++ part)

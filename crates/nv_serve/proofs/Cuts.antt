@@ -6,7 +6,8 @@ use Rattle.std.proofs.lemmas.List.{take-append-drop, get_or-take, length-take-le
 use Rattle.std.proofs.lemmas.List.Elements.{All-from_get_or}
 use Rattle.std.proofs.lemmas.List.Splits.{slice_split_none}
 use Rattle.std.proofs.Math.Seq.{drop-cons}
-use Rattle.memchr.specs.Find.{Nowhere, NoneBefore, Passes, is_byte}
+use Rattle.std.specs.Prelude.{Some}
+use Rattle.memchr.specs.Find.{Nowhere, NoneBefore, Passes, IsFirstByte, is_byte}
 use Rattle.nv_serve.specs.Output.{is_newline}
 use Rattle.nv_serve.specs.inner.StateAfter.{EndsNoLine, CutsLine}
 
@@ -29,3 +30,7 @@ cuts bytes line after rest at none here line_is after_is rest_is =
           ∙ ap (λ x. line ++ x) (after_cons ∙ ap (λ x. 10 ∷ x) (sym (rest_is ∙ ap (drop 1) (after_is ∙ after_cons))));
       ends_no_line = rw line_is (ends_none (take at bytes) front_nowhere);
     }
+
+-- a newline at the front is the first
+pub at_front : (bytes : List ℕ) → 0 < length bytes → get_or bytes 0 0 ≡ 10 → IsFirstByte (is_byte 10) bytes (Some 0)
+at_front bytes inside here = (record { low = zero-le; high = inside; before = λ k low below. absurd (omega (arith, below)) }, ap (λ x. eqb x 10) here)

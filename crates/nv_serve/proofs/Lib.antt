@@ -11,3 +11,6 @@ pub mod Endings
 pub mod Outputs
 pub mod Refusals
 pub mod WellRead
+pub mod Utf8
+pub mod Kept
+pub mod Listings

@@ -7,6 +7,7 @@ use Rattle.nv_serve.specs.Output.{is_newline, lines_of, complete_lines, output, 
 use Rattle.nv_serve.specs.Calls.{IsPrefix}
 use Rattle.nv_serve.specs.inner.StateAfter.{IsStateAfter}
 use Rattle.nv_serve.proofs.Splits.{split_has_first, take-butlast}
+use Rattle.nv_serve.proofs.Kept.{reply_nothing}
 use Rattle.nv_serve.proofs.StateAfter.{written_prefix, stands_more, written_end}
 
 -- a list with a first element has a last
@@ -33,8 +34,7 @@ begins input more = written_prefix _ _ _ input (state_after input) more
 
 -- an empty line has no reply
 nothing_said : (tables : Tables) → (reply tables []).text ≡ []
-unfolding reply
-nothing_said tables = refl
+nothing_said tables = ap (λ r. r.text) (reply_nothing tables)
 
 -- at a line's end these are all replies
 at_line_end : (input : List ℕ) → output (input ++ 10 ∷ []) ≡ complete_output (input ++ 10 ∷ [])

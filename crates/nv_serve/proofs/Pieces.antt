@@ -1,5 +1,5 @@
 -- How a line more, or the rest of a piece, goes on with what was run of it.
-use Rattle.std.proofs.Common.{◌≡◌, ℕ, ◌+◌, ◌≤◌, Bool, ◌||◌, List, [], ◌∷◌, ◌++◌, Option, Some, None, Result, refl, sym, ap, ◌∙◌, append_assoc, arith}
+use Rattle.std.proofs.Common.{◌≡◌, ℕ, ◌+◌, ◌≤◌, Bool, ◌||◌, List, [], ◌∷◌, ◌++◌, Option, Some, None, Result, refl, sym, ap, ◌∙◌, subst, append_assoc, arith}
 use Rattle.std.proofs.lemmas.List.{append-nil}
 use Rattle.nv_io.specs.State.{SinkState}
 use Rattle.nv_io.specs.declared.sink.SinkFailed.{SinkFailed}
@@ -12,9 +12,10 @@ use Rattle.nb_model.specs.Network.{Tables, switch_named, port_named, with_switch
 use Rattle.nv_serve.specs.Reply.{Reply, where_named, where_new, reply, reply_to}
 use Rattle.nv_serve.specs.Output.{output, complete_output}
 use Rattle.nv_serve.specs.inner.Writing.{Wrote, PutFailed, StopsWithin}
-use Rattle.nv_serve.specs.inner.StateAfter.{IsStateAfter, EndsNoLine, CutsLine}
+use Rattle.nv_serve.specs.inner.StateAfter.{IsStateAfter, IsKeptAfter, and_kept, EndsNoLine, CutsLine}
 use Rattle.nv_serve.specs.inner.Pieces.{IsDue, BeginsOutput}
 use Rattle.nv_serve.proofs.Writing.{wrote_nothing, wrote_after, stops_after}
+use Rattle.nv_serve.proofs.Kept.{reply_kept, kept_more}
 use Rattle.nv_serve.proofs.StateAfter.{stands_same, written_same, stands_more, written_more, written_prefix}
 
 -- a line takes one number at most
@@ -42,10 +43,10 @@ reply_next tables line = reply_to_next tables (said line)
 
 module _ {K : Type 0} (gives : K → List ℕ → Result ℕ SinkFailed → K → Type 0) (state : K → SinkState) where
   -- Of these bytes, which come after others, all but the rest were run, and the replies due were put.
-  pub record Fed (old new : K) (before bytes rest : List ℕ) (network : Tables) (line : List ℕ) (refused : Bool) : Type 0 where
+  pub record Fed (old new : K) (before bytes rest : List ℕ) (network : Tables) (kept : List ℕ) (refused : Bool) : Type 0 where
     pub done : List ℕ
     pub whole : bytes ≡ done ++ rest
-    pub stands : IsStateAfter network line refused (before ++ done)
+    pub stands : IsKeptAfter network kept refused (before ++ done)
     pub text : List ℕ
     pub due : IsDue before done text
     pub wrote : Wrote gives state old new text
@@ -55,8 +56,8 @@ module _ {K : Type 0} (gives : K → List ℕ → Result ℕ SinkFailed → K �
   Stopped old new before bytes stop = (text : List ℕ) × BeginsOutput before bytes text × StopsWithin (Wrote gives state old new) (PutFailed gives state old new) text stop
 
   -- before the first byte
-  pub fed_nothing : (k : K) (before bytes : List ℕ) (network : Tables) (line : List ℕ) (refused : Bool) → IsStateAfter network line refused before → Fed k k before bytes bytes network line refused
-  fed_nothing k before bytes network line refused stands = record {
+  pub fed_nothing : (k : K) (before bytes : List ℕ) (network : Tables) (kept : List ℕ) (refused : Bool) → IsKeptAfter network kept refused before → Fed k k before bytes bytes network kept refused
+  fed_nothing k before bytes network kept refused stands = record {
     done = [];
     whole = refl;
     stands = rw (append-nil before) stands;
@@ -65,14 +66,27 @@ module _ {K : Type 0} (gives : K → List ℕ → Result ℕ SinkFailed → K �
     wrote = wrote_nothing gives state k;
   }
 
-  module _ (k l : K) (before bytes rest : List ℕ) (network : Tables) (line : List ℕ) (refused : Bool) (fed : Fed k l before bytes rest network line refused) where
+  module _ (k l : K) (before bytes rest : List ℕ) (network : Tables) (kept : List ℕ) (refused : Bool) (fed : Fed k l before bytes rest network kept refused) where
+    -- the line, of which as much is kept
+    abbrev line : List ℕ
+    line = fed.stands.line
+
+    stands : IsStateAfter network line refused (before ++ fed.done)
+    stands = fed.stands.stands
+
     -- the rest ends no line
-    pub fed_all : EndsNoLine rest → IsStateAfter network (line ++ rest) refused (before ++ bytes) × ((text : List ℕ) × IsDue before bytes text × Wrote gives state k l text)
+    pub fed_all : EndsNoLine rest → IsKeptAfter network (and_kept kept rest) refused (before ++ bytes) × ((text : List ℕ) × IsDue before bytes text × Wrote gives state k l text)
     fed_all ends_none = (
-      rw (fed.whole, ← (append_assoc before fed.done rest)) (stands_same network line refused (before ++ fed.done) fed.stands rest ends_none),
+      record {
+        line = line ++ rest;
+        stands =
+            subst (λ all. IsStateAfter network (line ++ rest) refused all) (sym (ap (λ b. before ++ b) fed.whole ∙ sym (append_assoc before fed.done rest)))
+            (stands_same network line refused (before ++ fed.done) stands rest ends_none);
+        kept_is = kept_more line kept rest fed.stands.kept_is;
+      },
       (
         fed.text,
-        ap (λ b. complete_output (before ++ b)) fed.whole ∙ ap complete_output (sym (append_assoc before fed.done rest)) ∙ written_same network line refused (before ++ fed.done) fed.stands rest ends_none ∙ fed.due,
+        ap (λ b. complete_output (before ++ b)) fed.whole ∙ ap complete_output (sym (append_assoc before fed.done rest)) ∙ written_same network line refused (before ++ fed.done) stands rest ends_none ∙ fed.due,
         fed.wrote,
       ),
     )
@@ -87,7 +101,7 @@ module _ {K : Type 0} (gives : K → List ℕ → Result ℕ SinkFailed → K �
     pub stopped_here : Stopped k l before bytes OutOfMemory
     stopped_here = (
       fed.text,
-      λ more. let written = written_prefix network line refused (before ++ fed.done) fed.stands (rest ++ more) in
+      λ more. let written = written_prefix network line refused (before ++ fed.done) stands (rest ++ more) in
           (written.0, ap output (goes_on rest more refl) ∙ written.1 ∙ ap (λ t. t ++ written.0) fed.due),
       (fed.text, ([], sym (append-nil fed.text)), fed.wrote),
     )
@@ -95,7 +109,7 @@ module _ {K : Type 0} (gives : K → List ℕ → Result ℕ SinkFailed → K �
     module _ (part after : List ℕ) (cut : CutsLine rest part after) where
       -- the state at the line's end
       at_line : IsStateAfter network (line ++ part) refused ((before ++ fed.done) ++ part)
-      at_line = stands_same network line refused (before ++ fed.done) fed.stands part cut.ends_no_line
+      at_line = stands_same network line refused (before ++ fed.done) stands part cut.ends_no_line
 
       -- with the line's newline
       line_end : List ℕ
@@ -107,26 +121,33 @@ module _ {K : Type 0} (gives : K → List ℕ → Result ℕ SinkFailed → K �
       line_due : complete_output (((before ++ fed.done) ++ part) ++ 10 ∷ []) ≡ complete_output before ++ (fed.text ++ (reply network (line ++ part)).text)
       line_due =
           written_more network (line ++ part) refused ((before ++ fed.done) ++ part) at_line
-          ∙ ap (λ t. t ++ (reply network (line ++ part)).text) (written_same network line refused (before ++ fed.done) fed.stands part cut.ends_no_line ∙ fed.due)
+          ∙ ap (λ t. t ++ (reply network (line ++ part)).text) (written_same network line refused (before ++ fed.done) stands part cut.ends_no_line ∙ fed.due)
           ∙ append_assoc (complete_output before) fed.text (reply network (line ++ part)).text
 
       at_end : IsStateAfter (reply network (line ++ part)).after [] (refused || (reply network (line ++ part)).refused) (((before ++ fed.done) ++ part) ++ 10 ∷ [])
       at_end = stands_more network (line ++ part) refused ((before ++ fed.done) ++ part) at_line
 
-      -- a line more
-      pub fed_line : (m : K) → Wrote gives state l m (reply network (line ++ part)).text → Fed k m before bytes after (reply network (line ++ part)).after [] (refused || (reply network (line ++ part)).refused)
-      fed_line m wrote = record {
+      -- what is kept of it has the same reply
+      same_reply : reply network (and_kept kept part) ≡ reply network (line ++ part)
+      same_reply = reply_kept network (line ++ part) (and_kept kept part) (kept_more line kept part fed.stands.kept_is)
+
+      fed_whole : (m : K) → Wrote gives state l m (reply network (line ++ part)).text → Fed k m before bytes after (reply network (line ++ part)).after [] (refused || (reply network (line ++ part)).refused)
+      fed_whole m wrote = record {
         done = fed.done ++ (part ++ 10 ∷ []);
         whole = fed.whole ∙ ap (λ r. fed.done ++ r) (cut.whole ∙ sym (append_assoc part (10 ∷ []) after)) ∙ sym (append_assoc fed.done (part ++ 10 ∷ []) after);
-        stands = rw fed_bytes at_end;
+        stands = record { line = []; stands = rw fed_bytes at_end; kept_is = refl };
         text = fed.text ++ (reply network (line ++ part)).text;
         due = ap complete_output fed_bytes ∙ line_due;
         wrote = wrote_after gives state k l m fed.text (reply network (line ++ part)).text fed.wrote wrote;
       }
 
-      -- the reply to the line could not all be put
-      pub stopped_line : (m : K) (stop : Stop) → StopsWithin (Wrote gives state l m) (PutFailed gives state l m) (reply network (line ++ part)).text stop → Stopped k m before bytes stop
-      stopped_line m stop stops = (
+      -- a line more
+      pub fed_line : (m : K) → Wrote gives state l m (reply network (and_kept kept part)).text
+          → Fed k m before bytes after (reply network (and_kept kept part)).after [] (refused || (reply network (and_kept kept part)).refused)
+      fed_line m = rw same_reply (fed_whole m)
+
+      stopped_whole : (m : K) (stop : Stop) → StopsWithin (Wrote gives state l m) (PutFailed gives state l m) (reply network (line ++ part)).text stop → Stopped k m before bytes stop
+      stopped_whole m stop stops = (
         fed.text ++ (reply network (line ++ part)).text,
         λ more.
             let written = written_prefix (reply network (line ++ part)).after [] (refused || (reply network (line ++ part)).refused) (((before ++ fed.done) ++ part) ++ 10 ∷ []) at_end (after ++ more) in (
@@ -136,3 +157,7 @@ module _ {K : Type 0} (gives : K → List ℕ → Result ℕ SinkFailed → K �
             ),
         stops_after gives state k l m fed.text (reply network (line ++ part)).text stop fed.wrote stops,
       )
+
+      -- the reply to the line could not all be put
+      pub stopped_line : (m : K) (stop : Stop) → StopsWithin (Wrote gives state l m) (PutFailed gives state l m) (reply network (and_kept kept part)).text stop → Stopped k m before bytes stop
+      stopped_line m stop = rw same_reply (stopped_whole m stop)

@@ -11,7 +11,7 @@ use Rattle.nv_serve.specs.declared.line.Line.{Line}
 use Rattle.nv_serve.specs.declared.line.Line.TheVariants.{Nothing, AddSwitch, AddPort, SetAddress, ListFlows, Frame, Refused}
 use Rattle.std.specs.Bool.{IsTrue}
 use Rattle.nv_base.specs.Name.{is_object_name}
-use Rattle.nv_serve.specs.Line.{words_of, said}
+use Rattle.nv_serve.specs.Line.{said}
 use Rattle.nv_serve.proofs.WellRead.{IsWellRead, for_said}
 use Rattle.nv_serve.specs.Reply.{reply, reply_to, where_named, where_new, accept, network_after}
 
@@ -42,7 +42,7 @@ said_holds tables (Refused refusal) read before = before
 
 reply_holds : (tables : Tables) (line : List ℕ) → IsSound tables → IsSound (reply tables line).after
 unfolding reply
-reply_holds tables line before = said_holds tables (said line) (for_said (words_of line)) before
+reply_holds tables line before = said_holds tables (said line) (for_said line) before
 
 lines_hold : (tables : Tables) (lines : List (List ℕ)) → IsSound tables → IsSound (network_after tables lines)
 lines_hold tables [] before = before

@@ -6,8 +6,9 @@ use Rattle.tr_walk.specs.declared.event.Event.{Event}
 use Rattle.tr_walk.specs.declared.event.Event.TheVariants as events
 use Rattle.nv_serve.specs.declared.line.Line.{Line}
 use Rattle.nv_serve.specs.declared.line.Line.TheVariants.{Nothing, AddSwitch, AddPort, SetAddress, ListFlows, Frame, Refused}
-use Rattle.nv_serve.specs.declared.refusal.Refusal.{Refusal}
-use Rattle.nv_serve.specs.declared.refusal.Refusal.TheVariants.{UnknownCommand, BadName, BadMac, NoSuchObject, Exists}
+use Rattle.nb_core.specs.declared.refusal.Refusal.{Refusal}
+use Rattle.nb_core.specs.declared.refusal.Refusal.TheVariants.{NoSuchObject, Exists}
+use Rattle.nb_core.specs.Refusal.{refusal_line}
 use Rattle.sb_model.specs.declared.row.Row.{Row}
 use Rattle.sb_rows.specs.Row.{rows_of}
 use Rattle.sb_rows.specs.Listing.{datapath_listing}
@@ -15,7 +16,7 @@ use Rattle.nv_serve.specs.Events.{event_line}
 use Rattle.nd_full.specs.FullBuild.{full_build}
 use Rattle.nv_serve.specs.Line.{said}
 use Rattle.nb_model.specs.Network.{Switch, Tables, switch_named, port_named, with_switch, with_port}
-use Rattle.nv_serve.specs.Reply.{flows, frame_for, Reply, ok_line, refusal_line, where_named, where_new, reply, reply_to}
+use Rattle.nv_serve.specs.Reply.{flows, frame_for, Reply, ok_line, where_named, where_new, reply, reply_to}
 use Rattle.tr_walk.specs.Walk.{flows_at, machine}
 
 -- a reply that says whether it is a refusal
@@ -24,11 +25,7 @@ Says r = r.refused ≡ starts_with nat_eq r.text (codes "refused ")
 
 -- each refusal begins so
 refusal_says : (refusal : Refusal) → true ≡ starts_with nat_eq (refusal_line refusal) (codes "refused ")
-refusal_says UnknownCommand = refl
-refusal_says (BadName word) = refl
-refusal_says (BadMac word) = refl
-refusal_says (NoSuchObject name) = refl
-refusal_says (Exists name) = refl
+refusal_says refusal = refl
 
 -- no line of an event does
 events_say : (tables : Tables) (all : List Event) → false ≡ starts_with nat_eq (flat_map (event_line tables) all ++ ok_line) (codes "refused ")

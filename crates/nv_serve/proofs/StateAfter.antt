@@ -29,7 +29,7 @@ some_refused-append tables (x ∷ xs) ys =
     ap (λ more. (reply tables x).refused || more) (some_refused-append (reply tables x).after xs ys)
     ∙ or_assoc (reply tables x).refused (some_refused (reply tables x).after xs) (some_refused (network_after (reply tables x).after xs) ys)
 
-or_false : (a : Bool) → (a || false) ≡ a
+pub or_false : (a : Bool) → (a || false) ≡ a
 or_false true = refl
 or_false false = refl
 

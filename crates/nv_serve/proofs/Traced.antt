@@ -8,7 +8,7 @@ use Rattle.std.proofs.lemmas.Option.{none-some, same_Some}
 use Rattle.nv_serve.specs.declared.line.Line.TheVariants.{Frame}
 use Rattle.nb_model.specs.declared.port.Port.{Port}
 use Rattle.nb_model.specs.Address.{is_multicast}
-use Rattle.nv_serve.specs.Line.{words_of, said}
+use Rattle.nv_serve.specs.Line.{said}
 use Rattle.nb_model.specs.Network.{Tables, empty_network, port_named}
 use Rattle.nv_serve.specs.Reply.{frame_for, reply, reply_to, network_after}
 use Rattle.nv_serve.specs.Traced.{TellsMeaning, FramesAreMeant}
@@ -34,7 +34,7 @@ not_false false e = refl
 tells : (tables : Tables) (line : List ℕ) (name : List ℕ) (mac : ℕ) (arrival : Port) → said line ≡ Frame name mac → port_named tables.ports name ≡ Some arrival
     → (is_multicast mac ≡ false → TellsMeaning tables arrival mac (reply_to tables (Frame name mac)).text) → TellsMeaning tables arrival mac (reply tables line).text
 unfolding reply
-tells tables line name mac arrival is there rest = rw is (rest (not_false (is_multicast mac) (and_parts (nat_lt mac (2 ^ 48)) (not (is_multicast mac)) (subst IsWellRead is (for_said (words_of line)))).1))
+tells tables line name mac arrival is there rest = rw is (rest (not_false (is_multicast mac) (and_parts (nat_lt mac (2 ^ 48)) (not (is_multicast mac)) (subst IsWellRead is (for_said line))).1))
 
 -- each frame is answered by what the switch does with it
 pub frames_meant : (lines : List (List ℕ)) → FramesAreMeant lines

@@ -4,7 +4,7 @@ use Rattle.std.specs.Prelude.{◌||◌, ◌&&◌, ◌==◌, not, is_some, unwrap
 use Rattle.std.specs.Bool.{IsTrue}
 use Rattle.std.specs.List.{list_all, slice_split}
 use Rattle.std.specs.Int.Digits.{AllBelowBase, number_from_digits}
-use Rattle.std.specs.Str.{bytes_eq}
+use Rattle.std.specs.Str.{bytes_eq, is_utf8}
 use Rattle.std.specs.Char.{digit_value, is_digit}
 use Rattle.std.specs.Str.Parse.{AllDigits, digits_value}
 use Rattle.std.proofs.lemmas.Bool.{and_from, and_parts, eqb-true, lt-ltb, ltb-true}
@@ -19,9 +19,9 @@ use Rattle.nb_model.specs.Address.{is_multicast}
 use Rattle.nb_model.specs.Sound.{is_unicast}
 use Rattle.nv_serve.specs.declared.line.Line.{Line}
 use Rattle.nv_serve.specs.declared.line.Line.TheVariants.{Nothing, AddSwitch, AddPort, SetAddress, ListFlows, Frame, Refused}
-use Rattle.nv_serve.specs.declared.refusal.Refusal.TheVariants.{UnknownCommand, BadName}
+use Rattle.nb_core.specs.declared.refusal.Refusal.TheVariants.{NotUtf8, LineTooLong, UnknownCommand, BadName}
 use Rattle.nv_serve.specs.Address.{unicast, unicast_of}
-use Rattle.nv_serve.specs.Line.{is_comment, are_unquoted, said_by, command_of, command_of_one, command_of_two, named, addressed}
+use Rattle.nv_serve.specs.Line.{words_of, is_comment, are_unquoted, said_by, line_limit, said, command_of, command_of_one, command_of_two, named, addressed}
 
 -- what a line says has names of objects for what it adds, and unicast MACs
 abbrev pub IsWellRead : Line → Type 0
@@ -104,16 +104,16 @@ unicast_read : (text : List ℕ) (mac : ℕ) → unicast_of text ≡ Some mac �
 unicast_read text mac is = unicast_one (mac_of text) (mac_fits text) mac is
 
 -- a command of two arguments that is no other
-for_frame : (command first second : List ℕ) → IsWellRead (cond (bytes_eq command (codes "frame")) (named 2 first (λ port. addressed 3 (unicast_of second) (Frame port))) (Refused UnknownCommand))
+for_frame : (command first second : List ℕ) → IsWellRead (cond (bytes_eq command (codes "frame")) (named 2 first (λ port. addressed 3 (unicast_of second) (Frame port))) (Refused (UnknownCommand 1)))
 for_frame command first second =
-    either (bytes_eq command (codes "frame")) (named 2 first (λ port. addressed 3 (unicast_of second) (Frame port))) (Refused UnknownCommand)
+    either (bytes_eq command (codes "frame")) (named 2 first (λ port. addressed 3 (unicast_of second) (Frame port))) (Refused (UnknownCommand 1))
     (for_named 2 first (λ port. addressed 3 (unicast_of second) (Frame port)) (λ port. for_addressed 3 (unicast_of second) (Frame first) (unicast_read second))) tt
 
 for_address : (command first second : List ℕ) → IsWellRead (cond (bytes_eq command (codes "lsp-set-addresses")) (named 2 first (λ port. addressed 3 (unicast_of second) (SetAddress port)))
-    (cond (bytes_eq command (codes "frame")) (named 2 first (λ port. addressed 3 (unicast_of second) (Frame port))) (Refused UnknownCommand)))
+    (cond (bytes_eq command (codes "frame")) (named 2 first (λ port. addressed 3 (unicast_of second) (Frame port))) (Refused (UnknownCommand 1))))
 for_address command first second =
     either (bytes_eq command (codes "lsp-set-addresses")) (named 2 first (λ port. addressed 3 (unicast_of second) (SetAddress port)))
-    (cond (bytes_eq command (codes "frame")) (named 2 first (λ port. addressed 3 (unicast_of second) (Frame port))) (Refused UnknownCommand))
+    (cond (bytes_eq command (codes "frame")) (named 2 first (λ port. addressed 3 (unicast_of second) (Frame port))) (Refused (UnknownCommand 1)))
     (for_named 2 first (λ port. addressed 3 (unicast_of second) (SetAddress port)) (λ port. for_addressed 3 (unicast_of second) (SetAddress first) (unicast_read second)))
     (for_frame command first second)
 
@@ -121,19 +121,24 @@ for_two : (command first second : List ℕ) → IsWellRead (command_of_two comma
 for_two command first second =
     either (bytes_eq command (codes "lsp-add")) (named 2 first (λ switch. named 3 second (AddPort switch)))
     (cond (bytes_eq command (codes "lsp-set-addresses")) (named 2 first (λ port. addressed 3 (unicast_of second) (SetAddress port)))
-    (cond (bytes_eq command (codes "frame")) (named 2 first (λ port. addressed 3 (unicast_of second) (Frame port))) (Refused UnknownCommand)))
+    (cond (bytes_eq command (codes "frame")) (named 2 first (λ port. addressed 3 (unicast_of second) (Frame port))) (Refused (UnknownCommand 1))))
     (for_named 2 first (λ switch. named 3 second (AddPort switch)) (λ switch. for_named 3 second (AddPort first) (λ name. name)))
     (for_address command first second)
 
 for_one : (command first : List ℕ) → IsWellRead (command_of_one command first)
-for_one command first = either (bytes_eq command (codes "ls-add")) (named 2 first AddSwitch) (Refused UnknownCommand) (for_named 2 first AddSwitch (λ name. name)) tt
+for_one command first = either (bytes_eq command (codes "ls-add")) (named 2 first AddSwitch) (Refused (UnknownCommand 1)) (for_named 2 first AddSwitch (λ name. name)) tt
 
 for_command : (command : List ℕ) (more : List (List ℕ)) → IsWellRead (command_of command more)
-for_command command [] = either (bytes_eq command (codes "lflow-list")) ListFlows (Refused UnknownCommand) tt tt
-for_command command (first ∷ []) = either (are_unquoted (first ∷ [])) (command_of_one command first) (Refused UnknownCommand) (for_one command first) tt
-for_command command (first ∷ second ∷ []) = either (are_unquoted (first ∷ second ∷ [])) (command_of_two command first second) (Refused UnknownCommand) (for_two command first second) tt
+for_command command [] = either (bytes_eq command (codes "lflow-list")) ListFlows (Refused (UnknownCommand 1)) tt tt
+for_command command (first ∷ []) = either (are_unquoted (first ∷ [])) (command_of_one command first) (Refused (UnknownCommand 1)) (for_one command first) tt
+for_command command (first ∷ second ∷ []) = either (are_unquoted (first ∷ second ∷ [])) (command_of_two command first second) (Refused (UnknownCommand 1)) (for_two command first second) tt
 for_command command (first ∷ second ∷ third ∷ more) = tt
 
-pub for_said : (words : List (List ℕ)) → IsWellRead (said_by words)
-for_said [] = tt
-for_said (word ∷ more) = either (is_comment word) Nothing (command_of word more) tt (for_command word more)
+for_words : (words : List (List ℕ)) → IsWellRead (said_by words)
+for_words [] = tt
+for_words (word ∷ more) = either (is_comment word) Nothing (command_of word more) tt (for_command word more)
+
+pub for_said : (line : List ℕ) → IsWellRead (said line)
+for_said line =
+    either (nat_lt line_limit (length line)) (Refused LineTooLong) (cond (not (is_utf8 line)) (Refused NotUtf8) (said_by (words_of line))) tt
+    (either (not (is_utf8 line)) (Refused NotUtf8) (said_by (words_of line)) tt (for_words (words_of line)))

@@ -1,12 +1,12 @@
 -- What a line of the script says.
-use Rattle.std.specs.Prelude.{ℕ, Bool, not, ◌||◌, ◌==◌, if◌then◌else◌, List, [], ◌∷◌, length, filter, nat_eq, Option, Some, None, codes}
+use Rattle.std.specs.Prelude.{ℕ, Bool, not, ◌||◌, ◌==◌, if◌then◌else◌, List, [], ◌∷◌, length, filter, nat_eq, nat_lt, Option, Some, None, codes}
 use Rattle.std.specs.List.{slice_split, starts_with, list_all, list_any}
-use Rattle.std.specs.Str.{bytes_eq}
+use Rattle.std.specs.Str.{bytes_eq, is_utf8}
 use Rattle.nv_base.specs.Name.{is_quote, is_object_name}
 use Rattle.nv_serve.specs.Address.{unicast_of}
 use Rattle.nv_serve.specs.declared.line.Line.{Line}
 use Rattle.nv_serve.specs.declared.line.Line.TheVariants.{Nothing, AddSwitch, AddPort, SetAddress, ListFlows, Frame, Refused}
-use Rattle.nv_serve.specs.declared.refusal.Refusal.TheVariants.{UnknownCommand, BadName, BadMac}
+use Rattle.nb_core.specs.declared.refusal.Refusal.TheVariants.{NotUtf8, LineTooLong, UnknownCommand, BadName, BadMac}
 
 -- a space, a tab or a carriage return
 abbrev pub is_separator : ℕ → Bool
@@ -35,7 +35,7 @@ are_unquoted words = list_all (λ word. not (list_any is_quote word)) words
 
 -- the commands of one argument
 abbrev pub command_of_one : List ℕ → List ℕ → Line
-command_of_one command first = if bytes_eq command (codes "ls-add") then named 2 first AddSwitch else Refused UnknownCommand
+command_of_one command first = if bytes_eq command (codes "ls-add") then named 2 first AddSwitch else Refused (UnknownCommand 1)
 
 -- the commands of two arguments
 abbrev pub command_of_two : List ℕ → List ℕ → List ℕ → Line
@@ -43,20 +43,27 @@ command_of_two command first second =
     if bytes_eq command (codes "lsp-add") then named 2 first (λ switch. named 3 second (AddPort switch))
     else (if bytes_eq command (codes "lsp-set-addresses") then named 2 first (λ port. addressed 3 (unicast_of second) (SetAddress port))
     else (if bytes_eq command (codes "frame") then named 2 first (λ port. addressed 3 (unicast_of second) (Frame port))
-    else Refused UnknownCommand))
+    else Refused (UnknownCommand 1)))
 
 -- The commands are `lflow-list`, `ls-add NAME`, `lsp-add SWITCH PORT`, `lsp-set-addresses PORT MAC` and `frame PORT MAC`.
 abbrev pub command_of : List ℕ → List (List ℕ) → Line
-command_of command [] = if bytes_eq command (codes "lflow-list") then ListFlows else Refused UnknownCommand
-command_of command (first ∷ []) = if are_unquoted (first ∷ []) then command_of_one command first else Refused UnknownCommand
-command_of command (first ∷ second ∷ []) = if are_unquoted (first ∷ second ∷ []) then command_of_two command first second else Refused UnknownCommand
-command_of command (first ∷ second ∷ third ∷ more) = Refused UnknownCommand
+command_of command [] = if bytes_eq command (codes "lflow-list") then ListFlows else Refused (UnknownCommand 1)
+command_of command (first ∷ []) = if are_unquoted (first ∷ []) then command_of_one command first else Refused (UnknownCommand 1)
+command_of command (first ∷ second ∷ []) = if are_unquoted (first ∷ second ∷ []) then command_of_two command first second else Refused (UnknownCommand 1)
+command_of command (first ∷ second ∷ third ∷ more) = Refused (UnknownCommand 1)
 
 -- a line without words, and a comment, says nothing
 abbrev pub said_by : List (List ℕ) → Line
 said_by [] = Nothing
 said_by (word ∷ more) = if is_comment word then Nothing else command_of word more
 
+-- the most bytes of a line
+abbrev pub line_limit : ℕ
+line_limit = 65536
+
 -- what a line says
 abbrev pub said : List ℕ → Line
-said line = said_by (words_of line)
+said line =
+    if nat_lt line_limit (length line) then Refused LineTooLong
+    else (if not (is_utf8 line) then Refused NotUtf8
+    else said_by (words_of line))

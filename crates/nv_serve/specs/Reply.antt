@@ -1,12 +1,13 @@
 -- What a line is answered, and the network that it leaves.
-use Rattle.std.specs.Prelude.{ℕ, Bool, true, false, ◌||◌, List, [], ◌∷◌, ◌++◌, Option, Some, None, codes, decimal}
+use Rattle.std.specs.Prelude.{ℕ, Bool, true, false, ◌||◌, List, [], ◌∷◌, ◌++◌, Option, Some, None, codes}
 use Rattle.std.specs.List.{flat_map}
 use Rattle.nv_base.specs.declared.field.Field.TheVariants.{EthDst}
 use Rattle.pkt_core.specs.Packet.{Values, with_value, zero_packet}
 use Rattle.nv_serve.specs.declared.line.Line.{Line}
 use Rattle.nv_serve.specs.declared.line.Line.TheVariants.{Nothing, AddSwitch, AddPort, SetAddress, ListFlows, Frame, Refused}
-use Rattle.nv_serve.specs.declared.refusal.Refusal.{Refusal}
-use Rattle.nv_serve.specs.declared.refusal.Refusal.TheVariants.{UnknownCommand, BadName, BadMac, NoSuchObject, Exists}
+use Rattle.nb_core.specs.declared.refusal.Refusal.{Refusal}
+use Rattle.nb_core.specs.declared.refusal.Refusal.TheVariants.{NoSuchObject, Exists}
+use Rattle.nb_core.specs.Refusal.{refusal_line}
 use Rattle.nb_model.specs.Network.{Tables, switch_named, port_named, with_switch, with_port, with_address}
 use Rattle.nv_serve.specs.Line.{said}
 use Rattle.sb_rows.specs.Listing.{listing}
@@ -27,14 +28,6 @@ pub record Reply : Type 0 where
 -- the line that ends the reply to each command that is not refused
 abbrev pub ok_line : List ℕ
 ok_line = codes "ok\n"
-
--- the line of a refusal: its code, its name, and the number of the word or the name that it is about
-abbrev pub refusal_line : Refusal → List ℕ
-refusal_line UnknownCommand = codes "refused E03 UnknownCommand 1\n"
-refusal_line (BadName word) = codes "refused E05 BadName " ++ decimal word ++ codes "\n"
-refusal_line (BadMac word) = codes "refused E06 BadMac " ++ decimal word ++ codes "\n"
-refusal_line (NoSuchObject name) = codes "refused E09 NoSuchObject " ++ name ++ codes "\n"
-refusal_line (Exists name) = codes "refused E10 Exists " ++ name ++ codes "\n"
 
 -- a refused line leaves the network as it was
 abbrev pub refuse : Tables → Refusal → Reply

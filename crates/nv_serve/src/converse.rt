@@ -1,7 +1,7 @@
 ghost use Rattle.std.specs.Prelude.{◌≡◌, ◌++◌, ◌+◌, ◌<◌, ◌≤◌, ℕ, List, [], OnOk, IfErr, length};
 ghost use Rattle.nv_serve.specs.Calls.{Moved, start_at, LastTakeGivesNothing};
 ghost use Rattle.nv_serve.specs.inner.Endings.{Finished, StopEnds, StopCalls};
-ghost use Rattle.nv_serve.specs.inner.StateAfter.{IsStateAfter};
+ghost use Rattle.nv_serve.specs.inner.StateAfter.{IsKeptAfter};
 
 use crate::server::Server;
 use crate::stop::Stop;
@@ -21,7 +21,7 @@ pub fn converse<S: Source, K: Sink>(
     source: &mut S,
     sink: &mut K,
 ) -> Result<(), Stop>
-    requires first { IsStateAfter server.old.session server.old.line.items server.old.some_refused [] }
+    requires first { IsKeptAfter server.old.session server.old.line.items server.old.some_refused [] }
     requires next { server.old.session.next ≡ 1 }
     ensures finished { OnOk result (Moved S.state K.state (source.old, sink.old) (source.new, sink.new) (λ given written.
         Finished (S.state source.old, K.state sink.old) (S.state source.new, K.state sink.new) given written server.new.some_refused

@@ -1,13 +1,14 @@
 //! The program's one call: a script of lines is read, each line is run, and each is answered before the next is run.
 #![tactic(auto)]
 
+mod answer;
 mod converse;
 mod cut;
 mod events;
 mod laws;
 mod line;
+mod listing;
 mod put_all;
-mod refusal;
 mod reply;
 mod serve;
 mod server;
@@ -17,6 +18,5 @@ mod stop;
 
 pub use laws::{lines_leave_sound_networks, output_goes_on, refusals_say_so};
 pub use line::{Line, read_line};
-pub use refusal::Refusal;
 pub use serve::run;
 pub use status::Status;

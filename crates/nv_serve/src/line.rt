@@ -1,10 +1,11 @@
 ghost use Rattle.std.specs.Prelude.{◌≡◌, List, ℕ, map, IfOk, IsTrue};
 ghost use Rattle.std.specs.List.{list_any};
+ghost use Rattle.std.specs.Str.{is_utf8};
 ghost use Rattle.nv_base.specs.Name.{is_quote};
 ghost use Rattle.nv_serve.specs.Address.{unicast_of};
 ghost use Rattle.nv_serve.specs.Line.{is_separator, words_of, named, addressed, command_of_one, command_of_two, command_of, said_by, said};
 
-use crate::Refusal;
+use nb_core::Refusal;
 use nv_base::{Mac, Name, OutOfMemory, is_object_name, read_mac};
 use std::alloc::Global;
 
@@ -27,10 +28,16 @@ pub enum Line {
     Refused(Refusal),
 }
 
-/// Reads a line, without its newline.
+/// Reads a line, without its newline. One of more than 65,536 bytes is refused as too long, then one that is not UTF-8.
 pub fn read_line(alloc: Global, line: &[u8]) -> Result<Line, OutOfMemory>
     ensures { IfOk result (λ read. read ≡ said line.now) }
 {
+    if line.len() > 65_536 {
+        return Ok(Line::Refused(Refusal::LineTooLong));
+    }
+    if !is_utf8(line) {
+        return Ok(Line::Refused(Refusal::NotUtf8));
+    }
     if says_nothing(line) {
         return Ok(Line::Nothing);
     }
@@ -38,9 +45,16 @@ pub fn read_line(alloc: Global, line: &[u8]) -> Result<Line, OutOfMemory>
     read_words(alloc, &words)
 }
 
+// Whether the bytes are UTF-8.
+fn is_utf8(line: &[u8]) -> bool
+    ensures { result ≡ is_utf8 line.now }
+{
+    simdutf8::is_utf8(line)
+}
+
 // Whether the line has no words or is a comment, by its first byte that is no separator.
 fn says_nothing(line: &[u8]) -> bool
-    ensures { IsTrue result → said line.now ≡ Line.Nothing }
+    ensures { IsTrue result → said_by (words_of line.now) ≡ Line.Nothing }
 {
     for byte in line {
         if !is_separator(*byte) {
@@ -67,21 +81,21 @@ fn read_command(alloc: Global, command: &[u8], words: &[&[u8]]) -> Result<Line, 
             if command == b"lflow-list".as_slice() {
                 return Ok(Line::ListFlows);
             }
-            Ok(Line::Refused(Refusal::UnknownCommand))
+            Ok(Line::Refused(Refusal::UnknownCommand(1)))
         }
         [first] => {
             if !has_quote(first) {
                 return command_of_one(alloc, command, first);
             }
-            Ok(Line::Refused(Refusal::UnknownCommand))
+            Ok(Line::Refused(Refusal::UnknownCommand(1)))
         }
         [first, second] => {
             if !has_quote(first) && !has_quote(second) {
                 return command_of_two(alloc, command, first, second);
             }
-            Ok(Line::Refused(Refusal::UnknownCommand))
+            Ok(Line::Refused(Refusal::UnknownCommand(1)))
         }
-        _ => Ok(Line::Refused(Refusal::UnknownCommand)),
+        _ => Ok(Line::Refused(Refusal::UnknownCommand(1))),
     }
 }
 
@@ -89,7 +103,7 @@ fn command_of_one(alloc: Global, command: &[u8], first: &[u8]) -> Result<Line, O
     ensures { IfOk result (λ read. read ≡ command_of_one command.now first.now) }
 {
     if command != b"ls-add".as_slice() {
-        return Ok(Line::Refused(Refusal::UnknownCommand));
+        return Ok(Line::Refused(Refusal::UnknownCommand(1)));
     }
     if !is_object_name(first) {
         return Ok(Line::Refused(Refusal::BadName(2)));
@@ -114,7 +128,7 @@ fn command_of_two(
     if command == b"frame".as_slice() {
         return read_frame(alloc, first, second);
     }
-    Ok(Line::Refused(Refusal::UnknownCommand))
+    Ok(Line::Refused(Refusal::UnknownCommand(1)))
 }
 
 fn read_lsp_add(alloc: Global, switch: &[u8], port: &[u8]) -> Result<Line, OutOfMemory>

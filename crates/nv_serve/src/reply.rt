@@ -1,37 +1,49 @@
 ghost use Rattle.std.specs.Prelude.{◌≡◌, ◌++◌, ◌+◌, ◌<◌, ◌≤◌, ◌^◌, ℕ, List, Some, IfOk, OnOk, IsTrue, true, false};
 ghost use Rattle.nv_base.specs.Name.{is_object_name};
 ghost use Rattle.nb_model.specs.Sound.{is_unicast};
-ghost use Rattle.nv_serve.specs.Reply.{flows, frame_for, ok_line, refusal_line, reply_to, reply};
+ghost use Rattle.nb_core.specs.Refusal.{refusal_line};
+ghost use Rattle.nv_serve.specs.Reply.{frame_for, ok_line, reply_to, reply};
+ghost use Rattle.nv_serve.specs.inner.Answer.{IsAnswered};
 
+use crate::answer::Answer;
 use crate::events::put_events;
 use crate::line::{Line, read_line};
-use crate::refusal::Refusal;
 use crate::session::Session;
+use nb_core::Refusal;
 use nv_base::{Field, Mac, Name, OutOfMemory};
 use pkt_core::Packet;
 use std::alloc::Global;
 
-// Runs a line on the network, writes its reply, and answers whether that is a refusal.
+// Runs a line on the network, and writes its reply, but not a listing.
 #[tactic(auto, unfolding(crate::specs::Reply::reply))]
 pub fn run_line(
     alloc: Global,
     session: &mut Session,
     line: &[u8],
     out: &mut Vec<u8>,
-) -> Result<bool, OutOfMemory>
+) -> Result<Answer, OutOfMemory>
     requires { session.old.next + 1 < 2 ^ 32 }
-    ensures text { OnOk result (out.new.items ≡ out.old.items ++ (reply session.old line.now).text) }
-    ensures refused { IfOk result (λ refused. refused ≡ (reply session.old line.now).refused) }
+    ensures answer { IfOk result (λ answer. IsAnswered (reply session.old line.now) out.old.items out.new.items answer) }
     ensures after { OnOk result (session.new ≡ (reply session.old line.now).after) }
 {
     match read_line(alloc, line)? {
-        Line::Nothing => Ok(false),
-        Line::AddSwitch(name) => run_ls_add(alloc, session, name, out),
-        Line::AddPort(switch, name) => run_lsp_add(alloc, session, switch, name, out),
-        Line::SetAddress(name, mac) => run_lsp_set_addresses(session, name, mac, out),
-        Line::ListFlows => run_lflow_list(alloc, session, out),
-        Line::Frame(name, mac) => run_frame(alloc, session, name, mac, out),
-        Line::Refused(refusal) => refuse(&refusal, out),
+        Line::Nothing => Ok(Answer::Text { refused: false }),
+        Line::AddSwitch(name) => Ok(Answer::Text {
+            refused: run_ls_add(alloc, session, name, out)?,
+        }),
+        Line::AddPort(switch, name) => Ok(Answer::Text {
+            refused: run_lsp_add(alloc, session, switch, name, out)?,
+        }),
+        Line::SetAddress(name, mac) => Ok(Answer::Text {
+            refused: run_lsp_set_addresses(session, name, mac, out)?,
+        }),
+        Line::ListFlows => Ok(Answer::Listing),
+        Line::Frame(name, mac) => Ok(Answer::Text {
+            refused: run_frame(alloc, session, name, mac, out)?,
+        }),
+        Line::Refused(refusal) => Ok(Answer::Text {
+            refused: refuse(&refusal, out)?,
+        }),
     }
 }
 
@@ -130,20 +142,6 @@ fn accept(out: &mut Vec<u8>) -> Result<bool, OutOfMemory>
     ensures text { OnOk result (out.new.items ≡ out.old.items ++ ok_line) }
     ensures refused { IfOk result (λ refused. refused ≡ false) }
 {
-    out.extend_from_slice(b"ok\n")?;
-    Ok(false)
-}
-
-fn run_lflow_list(
-    alloc: Global,
-    session: &mut Session,
-    out: &mut Vec<u8>,
-) -> Result<bool, OutOfMemory>
-    ensures text { OnOk result (out.new.items ≡ out.old.items ++ flows session.old ++ ok_line) }
-    ensures refused { IfOk result (λ refused. refused ≡ false) }
-    ensures after { OnOk result (session.new ≡ session.old) }
-{
-    session.put_flows(alloc, out)?;
     out.extend_from_slice(b"ok\n")?;
     Ok(false)
 }

@@ -1,19 +1,24 @@
-ghost use Rattle.std.specs.Prelude.{◌≡◌, ◌++◌, ◌+◌, ◌<◌, ◌≤◌, ◌^◌, ◌||◌, ℕ, List, [], ◌∷◌, OnOk, IfErr, length, false};
+ghost use Rattle.std.specs.Prelude.{◌≡◌, ◌++◌, ◌+◌, ◌<◌, ◌≤◌, ◌^◌, ◌||◌, ℕ, List, [], OnOk, IfErr, length, take, false};
 ghost use Rattle.nb_model.specs.Network.{empty_network};
-ghost use Rattle.nv_serve.specs.Reply.{reply};
+ghost use Rattle.nv_serve.specs.Reply.{flows, ok_line, reply};
 ghost use Rattle.nv_serve.specs.inner.Pieces.{IsDue, BeginsOutput};
-ghost use Rattle.nv_serve.specs.inner.StateAfter.{IsStateAfter};
+ghost use Rattle.nv_serve.specs.inner.StateAfter.{IsKeptAfter, and_kept};
 ghost use Rattle.nv_serve.specs.inner.Writing.{Wrote, PutFailed, StopsWithin};
 
+use crate::answer::Answer;
 use crate::cut::cut_line;
 use crate::put_all::put_all;
 use crate::reply::run_line;
 use crate::session::Session;
 use crate::stop::Stop;
+use nv_base::OutOfMemory;
 use nv_io::Sink;
 use std::alloc::Global;
 
-// The network, the line that has no end yet, and whether a line was refused.
+// No more bytes of a line are kept: its reply depends on no more.
+const KEPT: usize = 65_537;
+
+// The network, what is kept of the line that has no end yet, and whether a line was refused.
 #[derive(Drop)]
 pub struct Server {
     pub session: Session,
@@ -48,11 +53,51 @@ impl Server {
             (reply self.old.session self.old.line.items).text) }
     {
         let mut text = Vec::new(alloc);
-        let refused = run_line(alloc, &mut self.session, &self.line, &mut text)?;
-        put_all(sink, &text)?;
+        let answer = run_line(alloc, &mut self.session, &self.line, &mut text)?;
         self.line.clear();
-        self.some_refused = self.some_refused || refused;
+        match answer {
+            Answer::Text { refused } => {
+                self.some_refused = self.some_refused || refused;
+                put_all(sink, &text)?;
+                Ok(())
+            }
+            Answer::Listing => self.answer_flows(alloc, sink),
+        }
+    }
+
+    // Puts the listing of all flows, and that this is done.
+    fn answer_flows<K: Sink>(&mut self, alloc: Global, sink: &mut K) -> Result<(), Stop>
+        ensures same { OnOk result ((self.new.session ≡ self.old.session) × (self.new.line.items ≡ self.old.line.items)
+            × (self.new.some_refused ≡ self.old.some_refused)) }
+        ensures put { OnOk result (Wrote K.put_gives K.state sink.old sink.new (flows self.old.session ++ ok_line)) }
+        ensures stop { IfErr result (StopsWithin
+            (Wrote K.put_gives K.state sink.old sink.new) (PutFailed K.put_gives K.state sink.old sink.new)
+            (flows self.old.session ++ ok_line)) }
+    {
+        self.session.put_flows(alloc, sink)?;
+        put_all(sink, b"ok\n")?;
         Ok(())
+    }
+
+    // Runs the line that ends with these bytes, puts its reply, and begins the next.
+    fn end_line<K: Sink>(&mut self, alloc: Global, bytes: &[u8], sink: &mut K) -> Result<(), Stop>
+        requires { self.old.session.next + 1 < 2 ^ 32 }
+        ensures session { OnOk result (self.new.session
+            ≡ (reply self.old.session (and_kept self.old.line.items bytes.now)).after) }
+        ensures line { OnOk result (self.new.line.items ≡ []) }
+        ensures refused { OnOk result (self.new.some_refused
+            ≡ (self.old.some_refused || (reply self.old.session (and_kept self.old.line.items bytes.now)).refused)) }
+        ensures put { OnOk result (Wrote K.put_gives K.state sink.old sink.new
+            (reply self.old.session (and_kept self.old.line.items bytes.now)).text) }
+        ensures stop { IfErr result (StopsWithin
+            (Wrote K.put_gives K.state sink.old sink.new) (PutFailed K.put_gives K.state sink.old sink.new)
+            (reply self.old.session (and_kept self.old.line.items bytes.now)).text) }
+    {
+        if bytes.is_empty() && self.line.is_empty() {
+            return Ok(());
+        }
+        keep(&mut self.line, bytes)?;
+        self.answer(alloc, sink)
     }
 
     // Takes the next bytes of the input, and answers each line that they end.
@@ -60,21 +105,39 @@ impl Server {
         requires { self.old.session.next + length bytes.now + 1 < 2 ^ 32 }
         ensures next { OnOk result (self.new.session.next ≤ self.old.session.next + length bytes.now) }
         ensures fed { OnOk result ((before : List ℕ)
-            → IsStateAfter self.old.session self.old.line.items self.old.some_refused before
-            → IsStateAfter self.new.session self.new.line.items self.new.some_refused (before ++ bytes.now)
+            → IsKeptAfter self.old.session self.old.line.items self.old.some_refused before
+            → IsKeptAfter self.new.session self.new.line.items self.new.some_refused (before ++ bytes.now)
             × ((text : List ℕ) × IsDue before bytes.now text × Wrote K.put_gives K.state sink.old sink.new text)) }
         ensures stop { IfErr result (λ stop. (before : List ℕ)
-            → IsStateAfter self.old.session self.old.line.items self.old.some_refused before
+            → IsKeptAfter self.old.session self.old.line.items self.old.some_refused before
             → (text : List ℕ) × BeginsOutput before bytes.now text × StopsWithin
             (Wrote K.put_gives K.state sink.old sink.new) (PutFailed K.put_gives K.state sink.old sink.new) text stop) }
     {
         let mut rest = bytes;
         while let Some((line, after)) = cut_line(rest) {
-            self.line.extend_from_slice(line)?;
-            self.answer(alloc, sink)?;
+            self.end_line(alloc, line, sink)?;
             rest = after;
         }
-        self.line.extend_from_slice(rest)?;
+        keep(&mut self.line, rest)?;
         Ok(())
+    }
+}
+
+// Keeps more bytes of a line.
+fn keep(line: &mut Vec<u8>, bytes: &[u8]) -> Result<(), OutOfMemory>
+    ensures { OnOk result (line.new.items ≡ and_kept line.old.items bytes.now) }
+{
+    line.extend_from_slice(first(bytes, KEPT.saturating_sub(line.len())))?;
+    Ok(())
+}
+
+// So many of the bytes, or all.
+fn first(bytes: &[u8], count: usize) -> &[u8]
+    ensures { result.now ≡ take count bytes.now }
+{
+    if count < bytes.len() {
+        &bytes[..count]
+    } else {
+        bytes
     }
 }

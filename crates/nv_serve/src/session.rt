@@ -1,4 +1,4 @@
-ghost use Rattle.std.specs.Prelude.{◌≡◌, ◌++◌, ◌+◌, ◌<◌, ◌^◌, Some, None, OnOk, OnErr, IfOk, IsSome, IsTrue};
+ghost use Rattle.std.specs.Prelude.{◌≡◌, ◌+◌, ◌<◌, ◌^◌, Some, None, OnOk, OnErr, IfOk, IfErr, IsSome, IsTrue};
 ghost use Rattle.std.specs.List.{Contains};
 ghost use Rattle.nv_base.specs.Name.{is_object_name};
 ghost use Rattle.nb_model.specs.Network.{
@@ -13,12 +13,16 @@ ghost use Rattle.nb_model.specs.Sound.{is_unicast, switch_numbers};
 ghost use Rattle.nv_serve.specs.inner.KeptRows.{AreRowsOf};
 ghost use Rattle.tr_walk.specs.Walk.{flows_at, machine, IsRefined};
 ghost use Rattle.nv_serve.specs.Reply.{flows};
+ghost use Rattle.nv_serve.specs.inner.Writing.{Wrote, PutFailed, StopsWithin};
 
+use crate::listing::put_datapaths;
+use crate::stop::Stop;
 use nb_model::Network;
 use nd_full::full_build;
 use nv_base::{Mac, Name, ObjId, OutOfMemory};
+use nv_io::Sink;
 use pkt_core::Packet;
-use sb_rows::{Rows, put_listing};
+use sb_rows::Rows;
 use std::alloc::Global;
 use std::marker::Model;
 use tr_walk::{Event, trace};
@@ -110,14 +114,17 @@ impl Session {
         Ok(events)
     }
 
-    // Writes the listing of all flows. The rows are made where the network has changed, and kept.
-    #[tactic(auto, unfolding(crate::specs::Reply::flows))]
-    pub fn put_flows(&mut self, alloc: Global, out: &mut Vec<u8>) -> Result<(), OutOfMemory>
-        ensures text { OnOk result (out.new.items ≡ out.old.items ++ flows self.old) }
+    // Puts the listing of all flows. The rows are made where the network has changed, and kept.
+    #[tactic(auto, unfolding(crate::specs::Reply::flows), using(crate::proofs::Writing::stopped_first))]
+    pub fn put_flows<K: Sink>(&mut self, alloc: Global, sink: &mut K) -> Result<(), Stop>
+        ensures put { OnOk result (Wrote K.put_gives K.state sink.old sink.new (flows self.old)) }
+        ensures stop { IfErr result (StopsWithin
+            (Wrote K.put_gives K.state sink.old sink.new) (PutFailed K.put_gives K.state sink.old sink.new)
+            (flows self.old)) }
         ensures same { self.new ≡ self.old }
     {
         let rows = self.take_rows(alloc)?;
-        put_listing(out, &rows, self.network.switches(), None)?;
+        put_datapaths(alloc, &rows, self.network.switches(), sink)?;
         self.rows = Some(rows);
         Ok(())
     }

@@ -4,6 +4,8 @@
 #[cfg(test)]
 mod fixture;
 #[cfg(test)]
+mod lines;
+#[cfg(test)]
 mod networks;
 #[cfg(test)]
 mod rows;

@@ -1,5 +1,6 @@
+use nb_core::Refusal;
 use nv_io::{CleanSource, MemSink, MemSource, NullSink, Sink, StdSource};
-use nv_serve::{Line, Refusal, Status, read_line, run};
+use nv_serve::{Line, Status, read_line, run};
 use std::alloc::Global;
 use std::io::{self, ErrorKind, Read};
 use std::process::Abort;

@@ -1,7 +1,8 @@
 -- The state of the program after a part of its input.
-use Rattle.std.specs.Prelude.{◌≡◌, ℕ, Bool, List, [], ◌∷◌, ◌++◌}
+use Rattle.std.specs.Prelude.{◌≡◌, ℕ, ◌+◌, ◌-◌, Bool, List, [], ◌∷◌, ◌++◌, length, take}
 use Rattle.std.specs.List.{slice_split}
 use Rattle.nb_model.specs.Network.{Tables, empty_network}
+use Rattle.nv_serve.specs.Line.{line_limit}
 use Rattle.nv_serve.specs.Reply.{network_after, some_refused}
 use Rattle.nv_serve.specs.Output.{is_newline, lines_of, complete_lines}
 
@@ -10,6 +11,20 @@ pub record IsStateAfter (network : Tables) (line : List ℕ) (refused : Bool) (b
   pub line_is : lines_of before ≡ complete_lines before ++ line ∷ []
   pub network_is : network ≡ network_after empty_network (complete_lines before)
   pub refused_is : refused ≡ some_refused empty_network (complete_lines before)
+
+-- as many bytes of a line are kept: its reply depends on no more
+abbrev pub kept_limit : ℕ
+kept_limit = line_limit + 1
+
+-- what is kept of a line, and of more bytes of it
+abbrev pub and_kept : List ℕ → List ℕ → List ℕ
+and_kept kept bytes = kept ++ take (kept_limit - length kept) bytes
+
+-- the same state, where of that line only these bytes are kept
+pub record IsKeptAfter (network : Tables) (kept : List ℕ) (refused : Bool) (before : List ℕ) : Type 0 where
+  pub line : List ℕ
+  pub stands : IsStateAfter network line refused before
+  pub kept_is : kept ≡ take kept_limit line
 
 -- bytes that end no line
 abbrev pub EndsNoLine : List ℕ → Type 0

@@ -1,6 +1,7 @@
-use Rattle.std.proofs.Common.{arith, length, ◌++◌, ◌∷◌, ap}
+use Rattle.std.proofs.Common.{arith, length, ◌∷◌, ap}
 use Rattle.std.proofs.lemmas.List.{length-append}
 use Rattle.std.proofs.lemmas.Result.{err_from_is_err_and}
+use Rattle.nv_serve.specs.inner.StateAfter.{and_kept}
 use Rattle.nv_serve.proofs.Pieces.{fed_nothing, fed_line, fed_all, stopped_here, stopped_line, reply_next}
 use Rattle.nv_serve.proofs.server.Server.feed.Goals as goal
 
@@ -10,36 +11,31 @@ loop-line-init g c = record {
   fed = λ before stands. fed_nothing _ _ c.args.sink.now before c.args.bytes.now _ _ _ stands;
 }
 
-pub returns-in_err-extend_from_slice-clause-stop : goal.returns-in_err-extend_from_slice-clause-stop
-returns-in_err-extend_from_slice-clause-stop g c =
+pub returns-in_err-end_line-clause-stop : goal.returns-in_err-end_line-clause-stop
+returns-in_err-end_line-clause-stop g c =
     let p = err_from_is_err_and c.from_residual.result c.from_residual.ensures.1 in
-    rw (p.1, p.2) (λ before stands. stopped_here _ _ _ _ before _ _ _ _ _ (c.loop-line.invariant.fed before stands))
-
-pub returns-in_err-answer-clause-stop : goal.returns-in_err-answer-clause-stop
-returns-in_err-answer-clause-stop g c =
-    let p = err_from_is_err_and c.from_residual-in_err-answer.result c.from_residual-in_err-answer.ensures.1 in
     rw (p.1, p.2) (λ before stands.
-    stopped_line _ _ _ _ before _ _ _ _ _ (c.loop-line.invariant.fed before stands) c.in-Some.line.now c.in-Some.after.now c.in-Some.ensures.cut c.answer.new.sink c.in_err-answer.field-0.0
-    (rw c.in_ok-extend_from_slice.ensures.items at c.in_err-answer.ensures.stop))
+    stopped_line _ _ _ _ before _ _ _ _ _ (c.loop-line.invariant.fed before stands) c.in-Some.line.now c.in-Some.after.now c.in-Some.ensures.cut c.end_line.new.sink c.in_err-end_line.field-0.0
+    c.in_err-end_line.ensures.stop)
 
 pub loop-line-preserved : goal.loop-line-preserved
 loop-line-preserved g c =
-    let line = c.loop-line.self.line.items ++ c.in-Some.line.now in
-    let network = c.in_ok-answer.ensures.session in
-    let put = c.in_ok-answer.ensures.put in
+    let line = and_kept c.loop-line.self.line.items c.in-Some.line.now in
+    let network = c.in_ok-end_line.ensures.session in
+    let put = c.in_ok-end_line.ensures.put in
     let lengths = ap length c.in-Some.ensures.cut.whole in
     record {
-      next = rw (network, c.in_ok-extend_from_slice.ensures.items) (omega (arith, c.loop-line.invariant.next, reply_next c.loop-line.self.session line, lengths, length-append c.in-Some.line.now (10 ∷ c.in-Some.after.now)));
+      next = rw network (omega (arith, c.loop-line.invariant.next, reply_next c.loop-line.self.session line, lengths, length-append c.in-Some.line.now (10 ∷ c.in-Some.after.now)));
       fed = λ before stands.
-          rw (network, c.in_ok-answer.ensures.line, c.in_ok-answer.ensures.refused, c.in_ok-extend_from_slice.ensures.items)
-          (fed_line _ _ _ _ before _ _ _ _ _ (c.loop-line.invariant.fed before stands) c.in-Some.line.now c.in-Some.after.now c.in-Some.ensures.cut c.answer.new.sink (rw c.in_ok-extend_from_slice.ensures.items at put));
+          rw (network, c.in_ok-end_line.ensures.line, c.in_ok-end_line.ensures.refused)
+          (fed_line _ _ _ _ before _ _ _ _ _ (c.loop-line.invariant.fed before stands) c.in-Some.line.now c.in-Some.after.now c.in-Some.ensures.cut c.end_line.new.sink put);
     }
 
-pub returns-in_err-extend_from_slice-2-clause-stop : goal.returns-in_err-extend_from_slice-2-clause-stop
-returns-in_err-extend_from_slice-2-clause-stop g c =
-    let p = err_from_is_err_and c.from_residual-in_err-extend_from_slice-2.result c.from_residual-in_err-extend_from_slice-2.ensures.1 in
+pub returns-in_err-keep-clause-stop : goal.returns-in_err-keep-clause-stop
+returns-in_err-keep-clause-stop g c =
+    let p = err_from_is_err_and c.from_residual-in_err-keep.result c.from_residual-in_err-keep.ensures.1 in
     rw (p.1, p.2) (λ before stands. stopped_here _ _ _ _ before _ _ _ _ _ (c.loop-line.invariant.fed before stands))
 
 pub returns-clause-fed : goal.returns-clause-fed
 returns-clause-fed g c = λ before stands.
-    rw c.in_ok-extend_from_slice-2.ensures.items (fed_all _ _ _ _ before _ _ _ _ _ (c.loop-line.invariant.fed before stands) c.in_default.ensures.none)
+    rw c.in_ok-keep.ensures (fed_all _ _ _ _ before _ _ _ _ _ (c.loop-line.invariant.fed before stands) c.in_default.ensures.none)

@@ -1,0 +1,8 @@
+// What there is to put for a line.
+#[derive(Drop)]
+pub enum Answer {
+    // The text that was written. It is a refusal where so said.
+    Text { refused: bool },
+    // The listing of all flows, and `ok`.
+    Listing,
+}

@@ -1,5 +1,5 @@
 -- Which arguments the program takes.
-use Rattle.std.specs.Prelude.{◌⊎◌, Bool, true, List, Some, pos, codes}
+use Rattle.std.specs.Prelude.{◌≡◌, ◌⊎◌, Bool, true, List, [], ◌∷◌, Some, pos, codes}
 use Rattle.clap.specs.Words.{App, IsAmong, Kinds, Rule, Text, new_app, new_rule, with_rule, fault_of}
 use Rattle.clap.specs.Simple.{on_top}
 use Rattle.clap.specs.Walk.{is_empty}
@@ -30,3 +30,7 @@ accepts words = is_empty (faults words)
 -- the first fault is that help or the version is asked for
 abbrev pub AskForText : Kinds → Type 0
 AskForText kinds = IsAmong DisplayHelp kinds ⊎ IsAmong DisplayVersion kinds
+
+-- the first fault can only be that help is asked for, or only that the version is
+abbrev pub AskOnlyForText : Kinds → Type 0
+AskOnlyForText kinds = (kinds ≡ DisplayHelp ∷ []) ⊎ (kinds ≡ DisplayVersion ∷ [])

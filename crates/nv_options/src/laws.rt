@@ -1,5 +1,6 @@
 ghost use Rattle.std.specs.Prelude.{◌≡◌, ◌≤◌, ◌++◌, ℕ, List, [], ◌∷◌, true, false, codes, decimal};
-ghost use Rattle.nv_options.specs.Options.{accepts};
+ghost use Rattle.clap.specs.declared.error.kind.ErrorKind.TheVariants.{DisplayHelp, DisplayVersion};
+ghost use Rattle.nv_options.specs.Options.{accepts, faults};
 
 /// No argument is accepted, and so is `--hops N` or `--hops=N` for each decimal from 1 to 64. Other numbers are not.
 pub fn arguments_of_the_manual_are_accepted()
@@ -8,4 +9,12 @@ pub fn arguments_of_the_manual_are_accepted()
     ensures joined { (name : List ℕ) (n : ℕ) → 1 ≤ n → n ≤ 64 → accepts (name ∷ (codes "--hops=" ++ decimal n) ∷ []) ≡ true }
     ensures zero { (name : List ℕ) → accepts (name ∷ codes "--hops" ∷ codes "0" ∷ []) ≡ false }
     ensures above { (name : List ℕ) → accepts (name ∷ codes "--hops" ∷ codes "65" ∷ []) ≡ false }
+{}
+
+/// `--help` and `-h` ask only for the help, and `--version` and `-V` only for the version.
+pub fn help_and_version_are_asked_for()
+    ensures help { (name : List ℕ) → faults (name ∷ codes "--help" ∷ []) ≡ DisplayHelp ∷ [] }
+    ensures short_help { (name : List ℕ) → faults (name ∷ codes "-h" ∷ []) ≡ DisplayHelp ∷ [] }
+    ensures version { (name : List ℕ) → faults (name ∷ codes "--version" ∷ []) ≡ DisplayVersion ∷ [] }
+    ensures short_version { (name : List ℕ) → faults (name ∷ codes "-V" ∷ []) ≡ DisplayVersion ∷ [] }
 {}

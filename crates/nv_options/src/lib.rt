@@ -4,5 +4,5 @@
 mod laws;
 mod options;
 
-pub use laws::arguments_of_the_manual_are_accepted;
+pub use laws::{arguments_of_the_manual_are_accepted, help_and_version_are_asked_for};
 pub use options::{ArgumentFault, accept_arguments, requested_text};

@@ -1,8 +1,8 @@
 //! The program's arguments, read by `clap`.
-ghost use Rattle.std.specs.Prelude.{◌≡◌, ◌≢◌, true, false, Err, map, OnOk, IfOk, IfSome};
+ghost use Rattle.std.specs.Prelude.{◌≡◌, ◌≢◌, true, false, Err, map, OnOk, IfOk, IfSome, IfNone};
 ghost use Rattle.std.specs.String.{string_bytes};
 ghost use Rattle.clap.specs.Words.{app_of, kind_of};
-ghost use Rattle.nv_options.specs.Options.{program, faults, accepts, AskForText};
+ghost use Rattle.nv_options.specs.Options.{program, faults, accepts, AskForText, AskOnlyForText};
 
 use clap::error::ErrorKind;
 use clap::{Arg, ArgAction, Command, Error};
@@ -52,7 +52,8 @@ fn fault_of(error: &Error) -> ArgumentFault
 
 /// The help or the version, where the arguments ask for one of them. The text is `clap`'s, and no clause speaks of it.
 pub fn requested_text(alloc: Global, arguments: &[String]) -> Result<Option<String>, AllocError>
-    ensures { IfOk result (λ text. IfSome text (λ _. AskForText (faults (map string_bytes arguments.now)))) }
+    ensures asked { IfOk result (λ text. IfSome text (λ _. AskForText (faults (map string_bytes arguments.now)))) }
+    ensures given { IfOk result (λ text. IfNone text (¬ AskOnlyForText (faults (map string_bytes arguments.now)))) }
 {
     let command = command(alloc)?;
     match command.try_get_matches_from(arguments) {
@@ -60,6 +61,7 @@ pub fn requested_text(alloc: Global, arguments: &[String]) -> Result<Option<Stri
         Err(error) => match error.kind() {
             ErrorKind::DisplayHelp => Ok(Some(text_of(alloc, &error)?)),
             ErrorKind::DisplayVersion => Ok(Some(text_of(alloc, &error)?)),
+            ErrorKind::OutOfMemory => Err(AllocError),
             _ => Ok(None),
         },
     }

@@ -1,2 +1,5 @@
+pub mod QueryWords
 pub mod Quoted
+pub mod ReadableLines
+pub mod ShortLines
 pub mod Small

@@ -7,7 +7,10 @@ mod line;
 mod query;
 mod task;
 
-pub use laws::quoted_switches_are_read;
+pub use laws::{
+    lines_ask_for_readable_edits, lines_have_no_more_edits_than_bytes,
+    queries_have_well_read_words, quoted_switches_are_read,
+};
 pub use line::{Line, read_line};
 pub use query::Query;
 pub use task::{Question, Task, task_of};

@@ -22,7 +22,7 @@ use Rattle.nb_net.specs.Effect.{effect, without, add_port, add_router_port, new_
 use Rattle.nb_net.specs.Network.{Network, next_number, same, switch_named, router_named, port_named, router_port_named, lb_named, router_id, router_port_id, port_id, lb_id}
 use Rattle.nb_net.specs.Readable.{are_apart}
 use Rattle.nb_net.specs.Sound.{AreNamed, AreApart}
-use Rattle.nb_net.specs.Tests.{refusal, wants_router, wants_router_port, may_name_router_port, wants_protocol, duplicate, duplicate_if, has_vip}
+use Rattle.nb_net.specs.Tests.{first_refusal, tests, wants_router, wants_router_port, may_name_router_port, wants_protocol, duplicate, duplicate_if, has_vip}
 use Rattle.nb_net.proofs.Alike.{names_sym, same_names, frontend_sym, route_sym, nat_sym, acl_sym, binding_sym}
 use Rattle.nb_net.proofs.Apart
 use Rattle.nb_net.proofs.Apart.{same_vip}
@@ -91,7 +91,7 @@ acl_apart net acl before =
     (four_tests (same acl.owner other.owner) (same_way acl.way other.way) (acl.priority == other.priority) (bytes_eq (typed_text acl.matching) (typed_text other.matching))))
     (none_found like net.acls missing))))
 
-pub apart : (net : Network) (edit : Edit) → AreNamed net → AreApart net → refusal net edit ≡ None → AreApart (effect net edit)
+pub apart : (net : Network) (edit : Edit) → AreNamed net → AreApart net → first_refusal (tests net edit) ≡ None → AreApart (effect net edit)
 apart net (edit.LsAdd name may) named before accepted =
     if_missing AreApart (switch_named net name) net _ (λ there is. before) (λ missing. Apart.add_switch_apart net before name)
 apart net (edit.LrAdd name may) named before accepted =

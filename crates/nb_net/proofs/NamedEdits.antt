@@ -15,7 +15,7 @@ use Rattle.nb_net.specs.Belongs.{is_number, owner_id, same_frontend}
 use Rattle.nb_net.specs.Effect.{effect, without, add_port, add_router_port, new_vip, add_vip, delete_vip, is_last_vip, with_number, is_detached, acl_like, named_port_ids}
 use Rattle.nb_net.specs.Network.{Network, next_number, same, switch_named, router_named, port_named, router_port_named, lb_named, set_named, group_named, switch_id, router_id, router_port_id, lb_id}
 use Rattle.nb_net.specs.Sound.{AreNamed}
-use Rattle.nb_net.specs.Tests.{refusal, wants_switch, wants_router, wants_port}
+use Rattle.nb_net.specs.Tests.{first_refusal, tests, wants_switch, wants_router, wants_port}
 use Rattle.nb_net.proofs.Named
 use Rattle.nb_net.proofs.Passed.{first_passes, rest_passes, free_first, free_second, free, last_passes}
 use Rattle.nb_net.proofs.RecordLists.{if_missing, if_there}
@@ -34,7 +34,7 @@ no_vip_named net at lb before =
     (λ last. Named.without_lb_named net before (Some lb.id))
     (λ more. Named.set_lb_named net before (λ other. same lb.id other.id) (λ other. record other { vips = without (λ vip. same_frontend at vip.at) other.vips }) (λ other. refl))
 
-pub named : (net : Network) (edit : Edit) → AreNamed net → refusal net edit ≡ None → AreNamed (effect net edit)
+pub named : (net : Network) (edit : Edit) → AreNamed net → first_refusal (tests net edit) ≡ None → AreNamed (effect net edit)
 named net (edit.LsAdd name may) before accepted =
     if_missing AreNamed (switch_named net name) net _ (λ there is. before) (λ missing.
     Named.add_switch_named net before name missing (free_second name may (λ s. true) (switch_named net name) (router_named net name) missing (first_passes _ _ accepted)))
@@ -83,7 +83,7 @@ named net (edit.AclAdd name way priority matching verdict may of) before accepte
 named net (edit.AclDel name way rule of) before accepted = assumption
 named net (edit.PgAdd name ports) before accepted =
     Named.add_group_named net before (record { id = next_number net; name = name; ports = named_port_ids net ports })
-    (free name (group_named net name) (last_passes (map (wants_port net) ports) _ _ accepted))
+    (free name (group_named net name) (last_passes (map (wants_port net) ports) _ accepted))
 named net (edit.PgSetPorts name ports) before accepted =
     Named.set_group_named net before (λ group. bytes_eq group.name name) (λ group. record group { ports = named_port_ids net ports }) (λ group. refl)
 named net (edit.PgDel name given) before accepted = Named.delete_group_named net before name

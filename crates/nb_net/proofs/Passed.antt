@@ -21,10 +21,16 @@ pub rest_passes : (test : Option Refusal) (tests : List (Option Refusal)) → fi
 rest_passes None tests none = none
 rest_passes (Some refusal) tests none = absurd (cc)
 
--- nor does the last of some
-pub last_passes : (tests : List (Option Refusal)) (test : Option Refusal) (more : List (Option Refusal)) → first_refusal ((tests ++ test ∷ []) ++ more) ≡ None → test ≡ None
-last_passes [] test more none = first_passes test more none
-last_passes (other ∷ tests) test more none = last_passes tests test more (rest_passes other ((tests ++ test ∷ []) ++ more) none)
+-- nor does the last
+pub last_passes : (earlier : List (Option Refusal)) (last : Option Refusal) → first_refusal (earlier ++ last ∷ []) ≡ None → last ≡ None
+last_passes [] last passes = first_passes last [] passes
+last_passes (test ∷ earlier) last passes = last_passes earlier last (rest_passes test (earlier ++ last ∷ []) passes)
+
+-- nor do those before the last
+pub earlier_pass : (earlier : List (Option Refusal)) (last : Option Refusal) → first_refusal (earlier ++ last ∷ []) ≡ None → first_refusal earlier ≡ None
+earlier_pass [] last passes = refl
+earlier_pass (None ∷ earlier) last passes = earlier_pass earlier last passes
+earlier_pass (Some refusal ∷ earlier) last passes = absurd (cc)
 
 -- where the object is not there, its name is free in both kinds
 pub free_second : {X Y : Type 0} (name : List ℕ) (may : Bool) (there : X → Bool) (found : Option X) (other : Option Y) → found ≡ None

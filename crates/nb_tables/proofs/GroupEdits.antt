@@ -1,5 +1,5 @@
 -- What edits of port groups make of a sound network.
-use Rattle.std.proofs.Common.{◌≡◌, ◌+◌, ℕ, Bool, false, List, [], ◌∷◌, ◌++◌, map, Option, Some, None, refl, sym, ap, ◌∙◌}
+use Rattle.std.proofs.Common.{◌≡◌, ◌+◌, ℕ, Bool, false, List, [], ◌∷◌, ◌++◌, Option, Some, None, refl, sym, ap, ◌∙◌}
 use Rattle.std.specs.Prelude.{option_map}
 use Rattle.std.specs.Str.{bytes_eq}
 use Rattle.nv_base.specs.declared.object.ObjId.{ObjId}
@@ -7,7 +7,7 @@ use Rattle.nb_core.specs.declared.acl.Acl.{Acl}
 use Rattle.nb_core.specs.declared.edit.Edit.TheVariants as edit
 use Rattle.nb_core.specs.declared.sets.Group.{Group}
 use Rattle.nb_net.specs.Belongs.{is_number}
-use Rattle.nb_net.specs.Effect.{effect, named_port_ids, without, each_where}
+use Rattle.nb_net.specs.Effect.{effect, named_port_ids, without}
 use Rattle.nb_net.specs.Network.{Network, next_number, same, group_named, group_id}
 use Rattle.nb_net.specs.Sound.{IsSound}
 use Rattle.nb_net.proofs.Alike.{same_names}

@@ -1,12 +1,10 @@
 pub mod AclEdits
 pub mod AclLikes
 pub mod Added
-pub mod Alike
 pub mod Back
 pub mod BalancerEdits
 pub mod BalancerRemovals
 pub mod Deleted
-pub mod Edited
 pub mod Found
 pub mod GenericE1
 pub mod GenericE2

@@ -4,4 +4,3 @@ pub mod Held
 pub mod Leaving
 pub mod Peers
 pub mod Routers
-pub mod Tested

@@ -9,9 +9,9 @@ ghost use Rattle.nb_net.specs.Sound.{IsSound};
 ghost use Rattle.nb_table.specs.Table.{with_exchanged};
 ghost use Rattle.nb_tables.specs.Undo.{back_steps};
 
+use crate::groups::is_among;
 use crate::records::Records;
 use crate::removals::others;
-use crate::tests_balancers::is_among;
 use crate::work::Work;
 use nb_core::{Backend, Frontend, Lb, Proto, Router, Switch, Vip};
 use nv_base::{Items, Kept, Name, ObjId, OutOfMemory};

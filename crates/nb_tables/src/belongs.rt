@@ -16,70 +16,70 @@ use nv_base::{Ip4, ObjId, Prefix};
 
 impl Records {
     /// The first port of a switch, above a number where one is given.
-    pub(crate) fn port_on(&self, switch: ObjId, after: Option<ObjId>) -> Option<&Port>
+    pub fn port_on(&self, switch: ObjId, after: Option<ObjId>) -> Option<&Port>
         ensures { option_copied result ≡ find (λ port. is_after after port.id && same switch port.switch) self.now.ports }
     {
         self.ports.tagged(&Tag::Of(switch), after)
     }
 
     /// The first port of a router, above a number where one is given.
-    pub(crate) fn router_port_on(&self, router: ObjId, after: Option<ObjId>) -> Option<&RouterPort>
+    pub fn router_port_on(&self, router: ObjId, after: Option<ObjId>) -> Option<&RouterPort>
         ensures { option_copied result ≡ find (λ port. is_after after port.id && same router port.router) self.now.router_ports }
     {
         self.router_ports.tagged(&Tag::Of(router), after)
     }
 
     /// The first route of a router, above a number where one is given.
-    pub(crate) fn route_of(&self, router: ObjId, after: Option<ObjId>) -> Option<&Route>
+    pub fn route_of(&self, router: ObjId, after: Option<ObjId>) -> Option<&Route>
         ensures { option_copied result ≡ find (λ route. is_after after route.id && same router route.router) self.now.routes }
     {
         self.routes.tagged(&Tag::Of(router), after)
     }
 
     /// The first NAT rule of a router, above a number where one is given.
-    pub(crate) fn nat_of(&self, router: ObjId, after: Option<ObjId>) -> Option<&Nat>
+    pub fn nat_of(&self, router: ObjId, after: Option<ObjId>) -> Option<&Nat>
         ensures { option_copied result ≡ find (λ nat. is_after after nat.id && same router nat.router) self.now.nats }
     {
         self.nats.tagged(&Tag::Of(router), after)
     }
 
     /// The first ACL of a switch or a group, above a number where one is given.
-    pub(crate) fn acl_of(&self, owner: ObjId, after: Option<ObjId>) -> Option<&Acl>
+    pub fn acl_of(&self, owner: ObjId, after: Option<ObjId>) -> Option<&Acl>
         ensures { option_copied result ≡ find (λ acl. is_after after acl.id && same owner acl.owner) self.now.acls }
     {
         self.acls.tagged(&Tag::Of(owner), after)
     }
 
     /// The first static binding of a router port, above a number where one is given.
-    pub(crate) fn binding_of(&self, port: ObjId, after: Option<ObjId>) -> Option<&Binding>
+    pub fn binding_of(&self, port: ObjId, after: Option<ObjId>) -> Option<&Binding>
         ensures { option_copied result ≡ find (λ binding. is_after after binding.id && same port binding.port) self.now.bindings }
     {
         self.bindings.tagged(&Tag::Of(port), after)
     }
 
     /// The first switch that has a load balancer, above a number where one is given.
-    pub(crate) fn switch_with(&self, lb: ObjId, after: Option<ObjId>) -> Option<&Switch>
+    pub fn switch_with(&self, lb: ObjId, after: Option<ObjId>) -> Option<&Switch>
         ensures { option_copied result ≡ find (λ switch. is_after after switch.id && is_among lb switch.lbs) self.now.switches }
     {
         self.switches.tagged(&Tag::Lists(lb), after)
     }
 
     /// The first router that has a load balancer, above a number where one is given.
-    pub(crate) fn router_with(&self, lb: ObjId, after: Option<ObjId>) -> Option<&Router>
+    pub fn router_with(&self, lb: ObjId, after: Option<ObjId>) -> Option<&Router>
         ensures { option_copied result ≡ find (λ router. is_after after router.id && is_among lb router.lbs) self.now.routers }
     {
         self.routers.tagged(&Tag::Lists(lb), after)
     }
 
     /// The first group that has a port, above a number where one is given.
-    pub(crate) fn group_with(&self, port: ObjId, after: Option<ObjId>) -> Option<&Group>
+    pub fn group_with(&self, port: ObjId, after: Option<ObjId>) -> Option<&Group>
         ensures { option_copied result ≡ find (λ group. is_after after group.id && is_among port group.ports) self.now.groups }
     {
         self.groups.tagged(&Tag::Lists(port), after)
     }
 
     /// The route of a router that has this policy and is for this prefix.
-    pub(crate) fn route_saying(&self, router: ObjId, by: RouteBy, prefix: Prefix) -> Option<&Route>
+    pub fn route_saying(&self, router: ObjId, by: RouteBy, prefix: Prefix) -> Option<&Route>
         ensures { option_copied result ≡ find (λ route. same router route.router && same_policy by route.by && same_block prefix route.prefix) self.now.routes }
     {
         let rule = route_rule(by, prefix);
@@ -87,7 +87,7 @@ impl Records {
     }
 
     /// The first ACL of an owner of this direction and priority, above a number where one is given.
-    pub(crate) fn acl_saying(
+    pub fn acl_saying(
         &self,
         owner: ObjId,
         way: Way,
@@ -101,7 +101,7 @@ impl Records {
     }
 
     /// The static binding of a router port for this address.
-    pub(crate) fn binding_saying(&self, port: ObjId, addr: Ip4) -> Option<&Binding>
+    pub fn binding_saying(&self, port: ObjId, addr: Ip4) -> Option<&Binding>
         ensures { option_copied result ≡ find (λ binding. same port binding.port && (addr.0 == binding.addr.0)) self.now.bindings }
     {
         self.bindings
@@ -109,7 +109,7 @@ impl Records {
     }
 
     /// The NAT rule of a router that a rule of this kind and with these addresses would repeat.
-    pub(crate) fn nat_saying(
+    pub fn nat_saying(
         &self,
         router: ObjId,
         kind: NatKind,

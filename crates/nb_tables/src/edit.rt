@@ -1,12 +1,10 @@
 //! Edits of the network, each by its name.
-ghost use Rattle.std.specs.Prelude.{◌≡◌, ◌<◌, None, OnOk, OnErr, IfOk};
+ghost use Rattle.std.specs.Prelude.{◌≡◌, OnOk, OnErr, IfOk};
 ghost use Rattle.nb_net.specs.Effect.{effect};
 ghost use Rattle.nb_net.specs.Readable.{IsReadable};
 ghost use Rattle.nb_net.specs.Sound.{IsSound};
-ghost use Rattle.nb_net.specs.Tests.{refusal};
 ghost use Rattle.nb_tables.specs.Undo.{back, back_steps};
 
-use crate::Tables;
 use crate::records::Records;
 use crate::undo::Undo;
 use crate::work::Work;
@@ -15,21 +13,27 @@ use nv_base::OutOfMemory;
 use std::alloc::Global;
 use std::mem;
 
-impl Tables {
-    /// Edits the network, and answers what undoes the edit. No test refuses it (ovn-nbctl(8)). After `OutOfMemory` the network is
-    /// as before.
+impl Records {
+    /// Does what an edit of a sound network asks for, and answers what undoes it (ovn-nbctl(8)). Whether the edit is to be refused is
+    /// not asked here. After `OutOfMemory` the network is as before.
     pub fn edit(&mut self, alloc: Global, edit: Edit) -> Result<Undo, OutOfMemory>
+        requires sound { IsSound self.old }
         requires readable { IsReadable edit }
-        requires accepted { refusal self.old edit ≡ None }
-        requires room { (effect self.old edit).next < 4294967294 }
         ensures ok { OnOk result (self.new ≡ effect self.old edit) }
         ensures back { IfOk result (λ undo. back undo self.new ≡ self.old) }
         ensures err { OnErr result (self.new ≡ self.old) }
     {
-        let records = mem::replace(&mut self.records, Records::new());
+        let records = mem::replace(self, Records::new());
         let (records, result) = edited(alloc, records, edit);
-        drop(mem::replace(&mut self.records, records));
+        drop(mem::replace(self, records));
         result
+    }
+
+    /// Undoes an edit. It takes no memory.
+    pub fn undo(&mut self, undo: Undo)
+        ensures { self.new ≡ back undo self.old }
+    {
+        self.undo_all(undo.steps);
     }
 }
 

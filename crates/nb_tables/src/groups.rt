@@ -101,7 +101,7 @@ fn add_number(numbers: &mut Items<ObjId>, number: ObjId) -> Result<(), OutOfMemo
     numbers.push(number)
 }
 
-fn is_among(number: ObjId, numbers: &[ObjId]) -> bool
+pub(crate) fn is_among(number: ObjId, numbers: &[ObjId]) -> bool
     ensures { result ≡ is_among number numbers.now }
 {
     numbers.iter().any(|other| number.0 == other.0)

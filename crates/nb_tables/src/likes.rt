@@ -15,13 +15,7 @@ use nv_base::{Kept, ObjId};
 
 impl Records {
     /// The number of the ACL of this owner, direction, priority and printed match.
-    pub(crate) fn acl_like(
-        &self,
-        owner: ObjId,
-        way: Way,
-        priority: u16,
-        matching: &Typed,
-    ) -> Option<ObjId>
+    pub fn acl_like(&self, owner: ObjId, way: Way, priority: u16, matching: &Typed) -> Option<ObjId>
         requires rise { NumbersRise (λ x. x.id) self.now.acls }
         requires printed { IsPrintable (role_of way) matching.now }
         requires readable { AllByRecursion (λ acl. IsPrintable (role_of acl.way) acl.matching) self.now.acls }

@@ -10,98 +10,98 @@ use nv_base::{Name, ObjId};
 
 impl Records {
     /// The switch of this name.
-    pub(crate) fn switch_named(&self, name: &Name) -> Option<&Switch>
+    pub fn switch_named(&self, name: &Name) -> Option<&Switch>
         ensures { option_copied result ≡ switch_named self.now name.now }
     {
         self.switches.tagged(&Named(name), None)
     }
 
     /// The router of this name.
-    pub(crate) fn router_named(&self, name: &Name) -> Option<&Router>
+    pub fn router_named(&self, name: &Name) -> Option<&Router>
         ensures { option_copied result ≡ router_named self.now name.now }
     {
         self.routers.tagged(&Named(name), None)
     }
 
     /// The switch port of this name.
-    pub(crate) fn port_named(&self, name: &Name) -> Option<&Port>
+    pub fn port_named(&self, name: &Name) -> Option<&Port>
         ensures { option_copied result ≡ port_named self.now name.now }
     {
         self.ports.tagged(&Named(name), None)
     }
 
     /// The router port of this name.
-    pub(crate) fn router_port_named(&self, name: &Name) -> Option<&RouterPort>
+    pub fn router_port_named(&self, name: &Name) -> Option<&RouterPort>
         ensures { option_copied result ≡ router_port_named self.now name.now }
     {
         self.router_ports.tagged(&Named(name), None)
     }
 
     /// The load balancer of this name.
-    pub(crate) fn lb_named(&self, name: &Name) -> Option<&Lb>
+    pub fn lb_named(&self, name: &Name) -> Option<&Lb>
         ensures { option_copied result ≡ lb_named self.now name.now }
     {
         self.lbs.tagged(&Named(name), None)
     }
 
     /// The address set of this name.
-    pub(crate) fn set_named(&self, name: &Name) -> Option<&AddrSet>
+    pub fn set_named(&self, name: &Name) -> Option<&AddrSet>
         ensures { option_copied result ≡ set_named self.now name.now }
     {
         self.sets.tagged(&Named(name), None)
     }
 
     /// The port group of this name.
-    pub(crate) fn group_named(&self, name: &Name) -> Option<&Group>
+    pub fn group_named(&self, name: &Name) -> Option<&Group>
         ensures { option_copied result ≡ group_named self.now name.now }
     {
         self.groups.tagged(&Named(name), None)
     }
 
     /// The number of the switch of this name.
-    pub(crate) fn switch_id(&self, name: &Name) -> Option<ObjId>
+    pub fn switch_id(&self, name: &Name) -> Option<ObjId>
         ensures { result ≡ switch_id self.now name.now }
     {
         Some(self.switch_named(name)?.id)
     }
 
     /// The number of the router of this name.
-    pub(crate) fn router_id(&self, name: &Name) -> Option<ObjId>
+    pub fn router_id(&self, name: &Name) -> Option<ObjId>
         ensures { result ≡ router_id self.now name.now }
     {
         Some(self.router_named(name)?.id)
     }
 
     /// The number of the switch port of this name.
-    pub(crate) fn port_id(&self, name: &Name) -> Option<ObjId>
+    pub fn port_id(&self, name: &Name) -> Option<ObjId>
         ensures { result ≡ port_id self.now name.now }
     {
         Some(self.port_named(name)?.id)
     }
 
     /// The number of the router port of this name.
-    pub(crate) fn router_port_id(&self, name: &Name) -> Option<ObjId>
+    pub fn router_port_id(&self, name: &Name) -> Option<ObjId>
         ensures { result ≡ router_port_id self.now name.now }
     {
         Some(self.router_port_named(name)?.id)
     }
 
     /// The number of the load balancer of this name.
-    pub(crate) fn lb_id(&self, name: &Name) -> Option<ObjId>
+    pub fn lb_id(&self, name: &Name) -> Option<ObjId>
         ensures { result ≡ lb_id self.now name.now }
     {
         Some(self.lb_named(name)?.id)
     }
 
     /// The number of the port group of this name.
-    pub(crate) fn group_id(&self, name: &Name) -> Option<ObjId>
+    pub fn group_id(&self, name: &Name) -> Option<ObjId>
         ensures { result ≡ group_id self.now name.now }
     {
         Some(self.group_named(name)?.id)
     }
 
     /// The number of the owner of ACLs of this name: of the kind that is given, else a switch before a group.
-    pub(crate) fn owner_id(&self, of: Option<OwnerKind>, name: &Name) -> Option<ObjId>
+    pub fn owner_id(&self, of: Option<OwnerKind>, name: &Name) -> Option<ObjId>
         ensures { result ≡ owner_id self.now of name.now }
     {
         match of {

@@ -12,21 +12,21 @@ use nv_base::{Name, ObjId};
 
 impl Records {
     /// The port of the lowest number among those of kind Router whose option is this name.
-    pub(crate) fn peer_named(&self, name: &Name) -> Option<&Port>
+    pub fn peer_named(&self, name: &Name) -> Option<&Port>
         ensures { option_copied result ≡ find (λ port. is_to_router port && is_name port.router_port name.now) self.now.ports }
     {
         self.ports.tagged(&Names(name), None)
     }
 
     /// The peer of a router port.
-    pub(crate) fn peer_port(&self, port: &RouterPort) -> Option<&Port>
+    pub fn peer_port(&self, port: &RouterPort) -> Option<&Port>
         ensures { option_copied result ≡ peer_port self.now port.now }
     {
         self.peer_named(&port.name)
     }
 
     /// The peer of a port of a switch, which is there.
-    pub(crate) fn peer_router_port(&self, port: &Port) -> Option<&RouterPort>
+    pub fn peer_router_port(&self, port: &Port) -> Option<&RouterPort>
         requires there { record_of (λ x. x.id) port.now.id self.now.ports ≡ Some port.now }
         requires rise { NumbersRise (λ x. x.id) self.now.ports }
         ensures { option_copied result ≡ peer_router_port self.now port.now }
@@ -41,7 +41,7 @@ impl Records {
     }
 
     /// The number of the peer of the router port of this number.
-    pub(crate) fn peer_of_router_port(&self, number: ObjId) -> Option<ObjId>
+    pub fn peer_of_router_port(&self, number: ObjId) -> Option<ObjId>
         ensures { result ≡ peer_of_router_port self.now number }
     {
         let port = self.router_ports.get(number)?;
@@ -49,7 +49,7 @@ impl Records {
     }
 
     /// The number of the peer of the switch port of this number.
-    pub(crate) fn peer_of_port(&self, number: ObjId) -> Option<ObjId>
+    pub fn peer_of_port(&self, number: ObjId) -> Option<ObjId>
         ensures { result ≡ peer_of_port self.now number }
     {
         let port = self.ports.get(number)?;

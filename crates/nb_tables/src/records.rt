@@ -10,9 +10,10 @@ use nb_table::Table;
 use nv_base::ObjId;
 use std::marker::Model;
 
-/// The records of the network, a table a kind, and the number that the next object gets. A clause sees the network.
+/// The records of the network, a table a kind, and the number that the next object gets. A clause sees the network, which need not
+/// be sound.
 #[derive(Drop)]
-pub(crate) struct Records {
+pub struct Records {
     pub(crate) switches: Table<Switch>,
     pub(crate) ports: Table<Port>,
     pub(crate) routers: Table<Router>,
@@ -40,8 +41,8 @@ impl Model for Records {
 }
 
 impl Records {
-    /// No records.
-    pub(crate) fn new() -> Self
+    /// The network without objects. It takes no memory.
+    pub fn new() -> Self
         ensures { result ≡ empty_network }
     {
         Records {
@@ -72,7 +73,7 @@ impl Records {
     }
 
     /// Undoes one change.
-    pub(crate) fn undo(&mut self, step: Step)
+    pub(crate) fn undo_step(&mut self, step: Step)
         ensures { self.new ≡ undone step self.old }
     {
         match step {
@@ -87,7 +88,7 @@ impl Records {
         ensures { self.new ≡ back_steps steps.items self.old }
     {
         while let Some(step) = steps.pop() {
-            self.undo(step);
+            self.undo_step(step);
         }
     }
 

@@ -87,7 +87,7 @@ impl Work {
         match self.steps.push(step) {
             Ok(()) => Ok(()),
             Err(failed) => {
-                self.records.undo(failed.value);
+                self.records.undo_step(failed.value);
                 Err(OutOfMemory)
             }
         }

@@ -1,7 +1,8 @@
 -- What is among the elements of lists.
 use Rattle.std.proofs.Common.{◌≡◌, zero, suc, Bool, true, false, cond, List, [], ◌∷◌, ◌++◌, get_or, map, sym, ap, refl, ◌∙◌, subst, ◌⊎◌, inl, inr, arith}
-use Rattle.std.specs.List.{All, Contains, flat_map, filter}
-use Rattle.std.proofs.lemmas.Bool.{false≢true}
+use Rattle.std.specs.Prelude.{◌||◌}
+use Rattle.std.specs.List.{All, AllByRecursion, Contains, flat_map, filter, list_any}
+use Rattle.std.proofs.lemmas.Bool.{false≢true, or_left, or_right}
 use Rattle.std.proofs.lemmas.List.{get_or_default}
 use Rattle.std.proofs.lemmas.List.Elements.{Contains-append_left, Contains-append_right, Contains-append_cases}
 
@@ -86,3 +87,26 @@ Contains-from_filter {X} p (z ∷ xs) x there = by (p z) there (Contains-from_fi
 -- what holds of each element holds of all
 pub All-from_members : {X : Type 0} (P : X → Type 0) (xs : List X) → ((x : X) → Contains xs x → P x) → All P xs
 All-from_members P xs each k d below = each (get_or xs k d) (k, below, get_or_default xs k (get_or xs k d) d below)
+
+-- what holds of each element of two lists holds of each of both
+pub every_append : {X : Type 0} (P : X → Type 0) (xs ys : List X) → AllByRecursion P xs → AllByRecursion P ys → AllByRecursion P (xs ++ ys)
+every_append P [] ys a b = b
+every_append P (x ∷ xs) ys a b = (a.0, every_append P xs ys a.1 b)
+
+-- where one of a list passes, there is such a one
+pub any_gives : {X : Type 0} (p : X → Bool) (xs : List X) → list_any p xs ≡ true → (x : X) × Contains xs x × (p x ≡ true)
+any_gives p [] any = absurd (false≢true any)
+any_gives {X} p (x ∷ xs) any = by (p x) refl any (any_gives p xs)
+  where
+    by : (b : Bool) → p x ≡ b → (b || list_any p xs) ≡ true → (list_any p xs ≡ true → (y : X) × Contains xs y × (p y ≡ true)) → (y : X) × Contains (x ∷ xs) y × (p y ≡ true)
+    by true is any rest = (x, one_first x xs x refl, is)
+    by false is any rest = let at = rest any in (at.0, one_later x xs at.0 at.1, at.2)
+
+-- and where there is such a one, one passes
+pub any_from : {X : Type 0} (p : X → Bool) (xs : List X) (x : X) → Contains xs x → p x ≡ true → list_any p xs ≡ true
+any_from p [] x there passes = absurd (one_of_none x there)
+any_from {X} p (y ∷ xs) x there passes = by (one_of y xs x there) (λ later. any_from p xs x later passes)
+  where
+    by : (y ≡ x) ⊎ Contains xs x → (Contains xs x → list_any p xs ≡ true) → (p y || list_any p xs) ≡ true
+    by (inl same) rest = or_left (p y) (list_any p xs) (ap p same ∙ passes)
+    by (inr later) rest = or_right (p y) (list_any p xs) (rest later)

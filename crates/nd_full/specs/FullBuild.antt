@@ -1,5 +1,5 @@
 -- The full build: the rows of a network, after ovn-northd(8).
-use Rattle.std.specs.Prelude.{ℕ, List, [], ◌∷◌, ◌++◌, Option, Some, None, map, codes}
+use Rattle.std.specs.Prelude.{◌≡◌, ℕ, List, [], ◌∷◌, ◌++◌, map, codes}
 use Rattle.std.specs.List.{flat_map}
 use Rattle.nv_base.specs.declared.object.ObjId.{ObjId}
 use Rattle.nv_base.specs.declared.field.Field.TheVariants.{EthSrc, EthDst}
@@ -21,8 +21,11 @@ use Rattle.nd_full.specs.declared.fixed.Takes.{Takes}
 use Rattle.nd_full.specs.declared.fixed.Takes.TheVariants.{Each, FromMulticast, ToMulticast}
 use Rattle.nd_full.specs.declared.fixed.Does.{Does}
 use Rattle.nd_full.specs.declared.fixed.Does.TheVariants.{Next, Drop, Output, Flood}
-use Rattle.nb_model.specs.declared.port.Port.{Port}
-use Rattle.nb_model.specs.Network.{Switch, Tables}
+use Rattle.nb_core.specs.declared.switch.Port.{Port}
+use Rattle.nb_core.specs.declared.switch.Switch.{Switch}
+use Rattle.nb_net.specs.Addresses.{macs}
+use Rattle.nb_net.specs.Network.{Network}
+use Rattle.nb_net.specs.Sound.{IsSound}
 
 -- the match of the packets that a fixed row takes
 abbrev pub match_of : Takes → Formula TypedAtom
@@ -73,7 +76,7 @@ row_on dp row = record { dp = dp; stage = row.0; priority = row.1; hint = record
 
 -- the rows of a switch
 unfoldable pub switch_rows : Switch → List Row
-switch_rows switch = map (row_on switch.0) fixed_rows
+switch_rows switch = map (row_on switch.id) fixed_rows
 
 -- the MAC as a constant of a match
 abbrev pub mac_constant : ℕ → Const
@@ -83,18 +86,29 @@ mac_constant mac = record { form = form.Mac; value = mac }
 abbrev pub lookup_row : Port → ℕ → Row
 lookup_row port mac = record { dp = port.switch; stage = LsInL2Lkup; priority = 50; hint = port.id; matching = equals EthDst (mac_constant mac); actions = output_to port.name }
 
--- the rows of a port: one where it has an address
-abbrev pub lookup_rows : Port → Option ℕ → List Row
-lookup_rows port None = []
-lookup_rows port (Some mac) = lookup_row port mac ∷ []
-
+-- the rows of a port: one for each of its MACs
 abbrev pub port_rows : Port → List Row
-port_rows port = lookup_rows port port.address
+port_rows port = map (lookup_row port) (macs port)
 
--- the rows of all units of the network: of each switch, and of each port
-abbrev pub unit_rows : Tables → List Row
-unit_rows tables = flat_map switch_rows tables.switches ++ flat_map port_rows tables.ports
+-- the rows of all units: of each switch, and of each port
+abbrev pub rows_of_units : List Switch → List Port → List Row
+rows_of_units switches ports = flat_map switch_rows switches ++ flat_map port_rows ports
 
--- the rows of the network: those of its units, in row order
-unfoldable pub full_build : Tables → List Row
-full_build tables = put_rows [] (unit_rows tables)
+-- the rows of these switches and ports: those of their units, in row order
+unfoldable pub rows_of : List Switch → List Port → List Row
+rows_of switches ports = put_rows [] (rows_of_units switches ports)
+
+-- the rows of all units of the network
+abbrev pub unit_rows : Network → List Row
+unit_rows net = rows_of_units net.switches net.ports
+
+-- the rows of the network
+abbrev pub full_build : Network → List Row
+full_build net = rows_of net.switches net.ports
+
+-- these are the switches and the ports of a sound network
+pub record AreOfSound (switches : List Switch) (ports : List Port) : Type 0 where
+  pub net : Network
+  pub of_switches : switches ≡ net.switches
+  pub of_ports : ports ≡ net.ports
+  pub sound : IsSound net

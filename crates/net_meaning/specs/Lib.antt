@@ -1,3 +1,4 @@
+pub mod Address
 pub mod Cause
 pub mod Frame
 pub mod SwitchMeaning

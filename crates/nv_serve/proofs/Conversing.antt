@@ -9,7 +9,7 @@ use Rattle.nv_io.specs.declared.sink.SinkFailed.{SinkFailed}
 use Rattle.nv_io.specs.declared.source.SourceFailed.{SourceFailed}
 use Rattle.nv_serve.specs.declared.stop.Stop.{Stop}
 use Rattle.nv_serve.specs.declared.stop.Stop.TheVariants as stops
-use Rattle.nb_model.specs.Network.{Tables}
+use Rattle.nv_serve.specs.Session.{Session}
 use Rattle.nv_serve.specs.Reply.{reply}
 use Rattle.nv_serve.specs.Output.{output, complete_output, is_refused, input_limit}
 use Rattle.nv_serve.specs.Calls.{IsPrefix, BeginsDue, Gave, Took, Moved, told_left, Point, start_at, IsReady, piece_limit, Calls, no_call, and_take, and_puts, LastTakeGivesNothing}
@@ -43,19 +43,19 @@ module _ {S K : Type 0} (takes : S → List ℕ → Result ℕ SourceFailed → 
       StopEnds (source_state s, sink_state k) (source_state t, sink_state l) given written stop × StopCalls takes puts (start_at s k) (at_point t l given written) stop)
 
   -- what was given so far was run, and each reply that is due was put
-  pub record Conversed (s : S) (k : K) (t : S) (l : K) (network : Tables) (line : List ℕ) (refused : Bool) (room : ℕ) : Type 0 where
+  pub record Conversed (s : S) (k : K) (t : S) (l : K) (session : Session) (line : List ℕ) (refused : Bool) (room : ℕ) : Type 0 where
     pub given : List ℕ
     pub calls : Calls takes puts (start_at s k) (at_point t l given (complete_output given))
     pub gave : Gave (source_state s) (source_state t) given
     pub took : Took (sink_state k) (sink_state l) (complete_output given)
     pub source_quiet : (source_state t).faults ≡ (source_state s).faults
     pub sink_quiet : (sink_state l).faults ≡ (sink_state k).faults
-    pub stands : IsKeptAfter network line refused given
+    pub stands : IsKeptAfter session line refused given
     pub limited : length given + room ≡ input_limit
-    pub numbered : network.next ≤ 1 + length given
+    pub numbered : session.network.next + length line ≤ 1 + length given
 
-  pub conversed_first : (s : S) (k : K) (network : Tables) (line : List ℕ) (refused : Bool) → IsKeptAfter network line refused [] → network.next ≡ 1 → Conversed s k s k network line refused input_limit
-  conversed_first s k network line refused stands first = record {
+  pub conversed_first : (s : S) (k : K) (session : Session) (line : List ℕ) (refused : Bool) → IsKeptAfter session line refused [] → session.network.next + length line ≡ 1 → Conversed s k s k session line refused input_limit
+  conversed_first s k session line refused stands first = record {
     given = [];
     calls = no_call;
     gave = gave_nothing (source_state s);
@@ -67,7 +67,7 @@ module _ {S K : Type 0} (takes : S → List ℕ → Result ℕ SourceFailed → 
     numbered = omega (arith, first);
   }
 
-  module _ (s : S) (k : K) (t : S) (l : K) (network : Tables) (line : List ℕ) (refused : Bool) (room : ℕ) (so_far : Conversed s k t l network line refused room) where
+  module _ (s : S) (k : K) (t : S) (l : K) (session : Session) (line : List ℕ) (refused : Bool) (room : ℕ) (so_far : Conversed s k t l session line refused room) where
     -- a take may be made
     ready : (into : List ℕ) → length into ≤ piece_limit → IsReady (at_point t l so_far.given (complete_output so_far.given)) (length into)
     ready into small = record { small = small; answered = refl }
@@ -85,8 +85,8 @@ module _ {S K : Type 0} (takes : S → List ℕ → Result ℕ SourceFailed → 
     )
 
     -- a piece was run, and its replies were put
-    abbrev Fed : K → K → List ℕ → Tables → List ℕ → Bool → Type 0
-    Fed before after bytes network' line' refused' = IsKeptAfter network' line' refused' (so_far.given ++ bytes) × ((text : List ℕ) × IsDue so_far.given bytes text × Wrote puts sink_state before after text)
+    abbrev Fed : K → K → List ℕ → Session → List ℕ → Bool → Type 0
+    Fed before after bytes session' line' refused' = IsKeptAfter session' line' refused' (so_far.given ++ bytes) × ((text : List ℕ) × IsDue so_far.given bytes text × Wrote puts sink_state before after text)
 
     -- the program stopped within it
     abbrev Stopped : K → K → List ℕ → Stop → Type 0
@@ -101,8 +101,8 @@ module _ {S K : Type 0} (takes : S → List ℕ → Result ℕ SourceFailed → 
       taken_calls = and_take into so_far.calls (ready into small) step
 
       -- all of the piece was run
-      pub conversed_more : (m : K) (network' : Tables) (line' : List ℕ) (refused' : Bool) → n ≤ room → length (take n into) ≡ n → network'.next ≤ network.next + n → Fed l m (take n into) network' line' refused' → Conversed s k u m network' line' refused' (room - n)
-      conversed_more m network' line' refused' fits long next (stands, (text, due, wrote)) = record {
+      pub conversed_more : (m : K) (session' : Session) (line' : List ℕ) (refused' : Bool) → n ≤ room → length (take n into) ≡ n → session'.network.next + length line' ≤ session.network.next + length line + n → Fed l m (take n into) session' line' refused' → Conversed s k u m session' line' refused' (room - n)
+      conversed_more m session' line' refused' fits long next (stands, (text, due, wrote)) = record {
         given = so_far.given ++ take n into;
         calls = subst (λ w. Calls takes puts (start_at s k) (at_point u m (so_far.given ++ take n into) w)) (sym due) (and_puts text taken_calls wrote.puts);
         gave = gave_in_all;
@@ -175,8 +175,8 @@ module _ {S K : Type 0} (takes : S → List ℕ → Result ℕ SourceFailed → 
       stopped_within m bytes rest stops.InputTooLong cut (text, due, none) = absurd none
 
       -- the piece ends after the limit
-      pub too_long : (m : K) (network' : Tables) (line' : List ℕ) (refused' : Bool) → room < n → length (take n into) ≡ n → Fed l m (take room into) network' line' refused' → StopsAt s k u m stops.InputTooLong
-      too_long m network' line' refused' over long (stands, (text, due, wrote)) =
+      pub too_long : (m : K) (session' : Session) (line' : List ℕ) (refused' : Bool) → room < n → length (take n into) ≡ n → Fed l m (take room into) session' line' refused' → StopsAt s k u m stops.InputTooLong
+      too_long m session' line' refused' over long (stands, (text, due, wrote)) =
           let cut : take input_limit (so_far.given ++ take n into) ≡ so_far.given ++ take room into =
           ap (λ i. take i (so_far.given ++ take n into)) (sym so_far.limited) ∙ take-append-add so_far.given (take n into) room ∙ ap (λ b. so_far.given ++ b) (shorter (omega arith)) in (
             so_far.given ++ take n into,
@@ -204,23 +204,23 @@ module _ {S K : Type 0} (takes : S → List ℕ → Result ℕ SourceFailed → 
       calls_none none = subst (λ g. Calls takes puts (start_at s k) (at_point u l g (complete_output so_far.given))) (none_more none) taken_calls
 
       -- the reply to what is kept of the last line
-      last_written : output so_far.given ≡ complete_output so_far.given ++ (reply network line).text
+      last_written : output so_far.given ≡ complete_output so_far.given ++ (reply session line).text
       last_written =
-          written_end network so_far.stands.line refused so_far.given so_far.stands.stands
-          ∙ ap (λ r. complete_output so_far.given ++ r.text) (sym (reply_kept network so_far.stands.line line so_far.stands.kept_is))
+          written_end session so_far.stands.line refused so_far.given so_far.stands.stands
+          ∙ ap (λ r. complete_output so_far.given ++ r.text) (sym (reply_kept session so_far.stands.line line so_far.stands.kept_is))
 
-      last_refused : is_refused so_far.given ≡ (refused || (reply network line).refused)
+      last_refused : is_refused so_far.given ≡ (refused || (reply session line).refused)
       last_refused =
-          refused_end network so_far.stands.line refused so_far.given so_far.stands.stands
-          ∙ ap (λ r. refused || r.refused) (sym (reply_kept network so_far.stands.line line so_far.stands.kept_is))
+          refused_end session so_far.stands.line refused so_far.given so_far.stands.stands
+          ∙ ap (λ r. refused || r.refused) (sym (reply_kept session so_far.stands.line line so_far.stands.kept_is))
 
       -- the source is at its end
-      pub finished : (m : K) → n ≡ 0 → IsAtEnd (source_state u).left → Wrote puts sink_state l m (reply network line).text → FinishedAt s k u m (refused || (reply network line).refused)
+      pub finished : (m : K) → n ≡ 0 → IsAtEnd (source_state u).left → Wrote puts sink_state l m (reply session line).text → FinishedAt s k u m (refused || (reply session line).refused)
       finished m none at_end wrote = (
         so_far.given,
-        complete_output so_far.given ++ (reply network line).text,
+        complete_output so_far.given ++ (reply session line).text,
         gave_none none,
-        took_more _ _ _ (complete_output so_far.given) (reply network line).text so_far.took wrote.took,
+        took_more _ _ _ (complete_output so_far.given) (reply session line).text so_far.took wrote.took,
         (
           record {
             quiet = record { source = quiet ∙ so_far.source_quiet; sink = wrote.quiet ∙ so_far.sink_quiet };
@@ -235,7 +235,7 @@ module _ {S K : Type 0} (takes : S → List ℕ → Result ℕ SourceFailed → 
             into = into;
             ready = ready into small;
             ended = subst (λ i. takes t into (Ok i) u) none step;
-            text = (reply network line).text;
+            text = (reply session line).text;
             puts = wrote.puts;
             given = refl;
             written = refl;
@@ -244,19 +244,19 @@ module _ {S K : Type 0} (takes : S → List ℕ → Result ℕ SourceFailed → 
       )
 
       -- a part of the last reply begins the output
-      begins_at_end : (part : List ℕ) → IsPrefix part (reply network line).text → IsPrefix (complete_output so_far.given ++ part) (output so_far.given)
+      begins_at_end : (part : List ℕ) → IsPrefix part (reply session line).text → IsPrefix (complete_output so_far.given ++ part) (output so_far.given)
       begins_at_end part (following, part_of) = (
         following,
         last_written ∙ ap (λ t. complete_output so_far.given ++ t) part_of ∙ sym (append_assoc (complete_output so_far.given) part following),
       )
 
-      begins_due_at_end : IsAtEnd (source_state u).left → (part : List ℕ) → IsPrefix part (reply network line).text → BeginsDue output so_far.given (told_left (source_state u).left) (complete_output so_far.given ++ part)
+      begins_due_at_end : IsAtEnd (source_state u).left → (part : List ℕ) → IsPrefix part (reply session line).text → BeginsDue output so_far.given (told_left (source_state u).left) (complete_output so_far.given ++ part)
       begins_due_at_end at_end part begins =
           let part_begins = begins_at_end part begins in
           let nothing_left : so_far.given ++ told_left (source_state u).left ≡ so_far.given = ap (λ b. so_far.given ++ b) (none_left (source_state u).left at_end) ∙ append-nil so_far.given in
           (part_begins, subst (λ input. IsPrefix (complete_output so_far.given ++ part) (output input)) (sym nothing_left) part_begins)
 
-      pub stopped_at_end : (m : K) (stop : Stop) → n ≡ 0 → IsAtEnd (source_state u).left → StopsWithin (Wrote puts sink_state l m) (PutFailed puts sink_state l m) (reply network line).text stop → StopsAt s k u m stop
+      pub stopped_at_end : (m : K) (stop : Stop) → n ≡ 0 → IsAtEnd (source_state u).left → StopsWithin (Wrote puts sink_state l m) (PutFailed puts sink_state l m) (reply session line).text stop → StopsAt s k u m stop
       stopped_at_end m stops.WriteFault none at_end (part, begins, failed) = put_failed m so_far.given part (calls_none none) (gave_none none) (begins_due_at_end at_end part begins) failed
       stopped_at_end m stops.OutOfMemory none at_end (part, begins, wrote) = no_memory m so_far.given part (calls_none none) (gave_none none) (begins_due_at_end at_end part begins) wrote
       stopped_at_end m stops.ReadFault none at_end stops = absurd stops

@@ -19,6 +19,7 @@ use Rattle.nv_serve.specs.declared.stop.Stop.{Stop}
 use Rattle.nv_serve.specs.declared.stop.Stop.TheVariants as stops
 use Rattle.nv_serve.specs.inner.Endings.{status_of, StopEnds, StopCalls, Ends, Refuses}
 use Rattle.nv_serve.proofs.Writing.{gave_nothing, took_nothing}
+use Rattle.nv_serve.proofs.Lengths.{lines_longer}
 use Rattle.nv_serve.proofs.Traced.{frames_meant}
 
 -- what is due where the arguments are not accepted
@@ -41,6 +42,10 @@ given_within : (told still : Option (List ℕ)) (given : List ℕ) → Consumes 
 given_within None still given gave within = absurd within
 given_within (Some input) None given gave within = absurd gave
 given_within (Some input) (Some rest) given gave within = omega (arith, within, ap length gave, length-append given rest)
+
+-- each frame of an input that is no longer than it may be
+all_meant : (given : List ℕ) → length given ≤ input_limit → FramesAreMeant (lines_of given)
+all_meant given within = frames_meant (lines_of given) (omega (arith, within, lines_longer given))
 
 module _ {S K : Type 0} (takes : S → List ℕ → Result ℕ SourceFailed → S → Type 0) (source_state : S → SourceState) (puts : K → List ℕ → Result ℕ SinkFailed → K → Type 0) (sink_state : K → SinkState) (accepted : Bool) where
   -- what was moved, with what is true of it
@@ -127,8 +132,8 @@ module _ {S K : Type 0} (takes : S → List ℕ → Result ℕ SourceFailed → 
     some_refused OutOfMemory ends finished = absurd finished
 
     pub refinement : (status : Status) → EndedAt s k t l status → IsFinished status → MovedTo s k t l (λ given written. (written ≡ output given) × FramesAreMeant (lines_of given))
-    refinement Done (given, written, gave, took, ((few, ends), calls)) finished = (given, written, gave, took, (ends.whole, frames_meant (lines_of given)))
-    refinement SomeRefused (given, written, gave, took, ((few, ends), calls)) finished = (given, written, gave, took, (ends.whole, frames_meant (lines_of given)))
+    refinement Done (given, written, gave, took, ((few, ends), calls)) finished = (given, written, gave, took, (ends.whole, all_meant given ends.within))
+    refinement SomeRefused (given, written, gave, took, ((few, ends), calls)) finished = (given, written, gave, took, (ends.whole, all_meant given ends.within))
     refinement Usage ends finished = absurd finished
     refinement ReadFault ends finished = absurd finished
     refinement WriteFault ends finished = absurd finished

@@ -1,8 +1,8 @@
 -- How the output of an input goes on with the input.
 use Rattle.std.proofs.Common.{◌≡◌, ℕ, ◌-◌, List, [], ◌∷◌, ◌++◌, length, take, refl, sym, ap, ◌∙◌, subst}
 use Rattle.std.proofs.lemmas.List.{append-nil}
-use Rattle.nb_model.specs.Network.{Tables, empty_network}
-use Rattle.nv_serve.specs.Reply.{reply, network_after, some_refused}
+use Rattle.nv_serve.specs.Session.{Session, new_session}
+use Rattle.nv_serve.specs.Reply.{reply, session_after, some_refused}
 use Rattle.nv_serve.specs.Output.{is_newline, lines_of, complete_lines, output, complete_output}
 use Rattle.nv_serve.specs.Calls.{IsPrefix}
 use Rattle.nv_serve.specs.inner.StateAfter.{IsStateAfter}
@@ -25,22 +25,22 @@ last_line input =
     (parts.1, lines ∙ ap (λ all. all ++ parts.1 ∷ []) (sym complete))
 
 -- the state after an input
-state_after : (input : List ℕ) → IsStateAfter (network_after empty_network (complete_lines input)) (last_line input).0 (some_refused empty_network (complete_lines input)) input
-state_after input = record { line_is = (last_line input).1; network_is = refl; refused_is = refl }
+state_after : (input : List ℕ) → IsStateAfter (session_after new_session (complete_lines input)) (last_line input).0 (some_refused new_session (complete_lines input)) input
+state_after input = record { line_is = (last_line input).1; session_is = refl; refused_is = refl }
 
 -- the replies to an input's complete lines begin the output of each input that begins with it
 pub begins : (input more : List ℕ) → IsPrefix (complete_output input) (output (input ++ more))
 begins input more = written_prefix _ _ _ input (state_after input) more
 
 -- an empty line has no reply
-nothing_said : (tables : Tables) → (reply tables []).text ≡ []
-nothing_said tables = ap (λ r. r.text) (reply_nothing tables)
+nothing_said : (session : Session) → (reply session []).text ≡ []
+nothing_said session = ap (λ r. r.text) (reply_nothing session)
 
 -- at a line's end these are all replies
 at_line_end : (input : List ℕ) → output (input ++ 10 ∷ []) ≡ complete_output (input ++ 10 ∷ [])
 at_line_end input =
     written_end _ _ _ (input ++ 10 ∷ []) (stands_more _ _ _ input (state_after input))
-    ∙ ap (λ text. complete_output (input ++ 10 ∷ []) ++ text) (nothing_said (reply (network_after empty_network (complete_lines input)) (last_line input).0).after)
+    ∙ ap (λ text. complete_output (input ++ 10 ∷ []) ++ text) (nothing_said (reply (session_after new_session (complete_lines input)) (last_line input).0).after)
     ∙ append-nil (complete_output (input ++ 10 ∷ []))
 
 pub goes_on : (input more : List ℕ) → IsPrefix (output (input ++ 10 ∷ [])) (output ((input ++ 10 ∷ []) ++ more))

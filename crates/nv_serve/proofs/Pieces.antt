@@ -3,13 +3,10 @@ use Rattle.std.proofs.Common.{◌≡◌, ℕ, ◌+◌, ◌≤◌, Bool, ◌||◌
 use Rattle.std.proofs.lemmas.List.{append-nil}
 use Rattle.nv_io.specs.State.{SinkState}
 use Rattle.nv_io.specs.declared.sink.SinkFailed.{SinkFailed}
-use Rattle.nv_serve.specs.declared.line.Line.{Line}
-use Rattle.nv_serve.specs.declared.line.Line.TheVariants.{Nothing, AddSwitch, AddPort, SetAddress, ListFlows, Frame, Refused}
 use Rattle.nv_serve.specs.declared.stop.Stop.{Stop}
 use Rattle.nv_serve.specs.declared.stop.Stop.TheVariants.{OutOfMemory}
-use Rattle.nv_serve.specs.Line.{said}
-use Rattle.nb_model.specs.Network.{Tables, switch_named, port_named, with_switch, with_port}
-use Rattle.nv_serve.specs.Reply.{Reply, where_named, where_new, reply, reply_to}
+use Rattle.nv_serve.specs.Session.{Session}
+use Rattle.nv_serve.specs.Reply.{reply}
 use Rattle.nv_serve.specs.Output.{output, complete_output}
 use Rattle.nv_serve.specs.inner.Writing.{Wrote, PutFailed, StopsWithin}
 use Rattle.nv_serve.specs.inner.StateAfter.{IsStateAfter, IsKeptAfter, and_kept, EndsNoLine, CutsLine}
@@ -18,35 +15,12 @@ use Rattle.nv_serve.proofs.Writing.{wrote_nothing, wrote_after, stops_after}
 use Rattle.nv_serve.proofs.Kept.{reply_kept, kept_more}
 use Rattle.nv_serve.proofs.StateAfter.{stands_same, written_same, stands_more, written_more, written_prefix}
 
--- a line takes one number at most
-new_next : {X : Type 0} (tables : Tables) (name : List ℕ) (there : Option X) (after : Tables) → after.next ≡ tables.next + 1 → (where_new tables name there after).after.next ≤ tables.next + 1
-new_next tables name None after more = omega (arith, more)
-new_next tables name (Some object) after more = omega arith
-
-named_next : {X : Type 0} (tables : Tables) (name : List ℕ) (there : Option X) (reply_for : X → Reply) → ((object : X) → (reply_for object).after.next ≤ tables.next + 1) → (where_named tables name there reply_for).after.next ≤ tables.next + 1
-named_next tables name None reply_for each = omega arith
-named_next tables name (Some object) reply_for each = each object
-
-reply_to_next : (tables : Tables) (line : Line) → (reply_to tables line).after.next ≤ tables.next + 1
-reply_to_next tables Nothing = omega arith
-reply_to_next tables (AddSwitch name) = new_next tables name (switch_named tables.switches name) (with_switch tables name) refl
-reply_to_next tables (AddPort switch name) =
-    named_next tables switch (switch_named tables.switches switch) _ (λ number. new_next tables name (port_named tables.ports name) (with_port tables number name) refl)
-reply_to_next tables (SetAddress name mac) = named_next tables name (port_named tables.ports name) _ (λ port. omega arith)
-reply_to_next tables ListFlows = omega arith
-reply_to_next tables (Frame name mac) = named_next tables name (port_named tables.ports name) _ (λ port. omega arith)
-reply_to_next tables (Refused refusal) = omega arith
-
-pub reply_next : (tables : Tables) (line : List ℕ) → (reply tables line).after.next ≤ tables.next + 1
-unfolding reply
-reply_next tables line = reply_to_next tables (said line)
-
 module _ {K : Type 0} (gives : K → List ℕ → Result ℕ SinkFailed → K → Type 0) (state : K → SinkState) where
   -- Of these bytes, which come after others, all but the rest were run, and the replies due were put.
-  pub record Fed (old new : K) (before bytes rest : List ℕ) (network : Tables) (kept : List ℕ) (refused : Bool) : Type 0 where
+  pub record Fed (old new : K) (before bytes rest : List ℕ) (session : Session) (kept : List ℕ) (refused : Bool) : Type 0 where
     pub done : List ℕ
     pub whole : bytes ≡ done ++ rest
-    pub stands : IsKeptAfter network kept refused (before ++ done)
+    pub stands : IsKeptAfter session kept refused (before ++ done)
     pub text : List ℕ
     pub due : IsDue before done text
     pub wrote : Wrote gives state old new text
@@ -56,8 +30,8 @@ module _ {K : Type 0} (gives : K → List ℕ → Result ℕ SinkFailed → K �
   Stopped old new before bytes stop = (text : List ℕ) × BeginsOutput before bytes text × StopsWithin (Wrote gives state old new) (PutFailed gives state old new) text stop
 
   -- before the first byte
-  pub fed_nothing : (k : K) (before bytes : List ℕ) (network : Tables) (kept : List ℕ) (refused : Bool) → IsKeptAfter network kept refused before → Fed k k before bytes bytes network kept refused
-  fed_nothing k before bytes network kept refused stands = record {
+  pub fed_nothing : (k : K) (before bytes : List ℕ) (session : Session) (kept : List ℕ) (refused : Bool) → IsKeptAfter session kept refused before → Fed k k before bytes bytes session kept refused
+  fed_nothing k before bytes session kept refused stands = record {
     done = [];
     whole = refl;
     stands = rw (append-nil before) stands;
@@ -66,27 +40,27 @@ module _ {K : Type 0} (gives : K → List ℕ → Result ℕ SinkFailed → K �
     wrote = wrote_nothing gives state k;
   }
 
-  module _ (k l : K) (before bytes rest : List ℕ) (network : Tables) (kept : List ℕ) (refused : Bool) (fed : Fed k l before bytes rest network kept refused) where
+  module _ (k l : K) (before bytes rest : List ℕ) (session : Session) (kept : List ℕ) (refused : Bool) (fed : Fed k l before bytes rest session kept refused) where
     -- the line, of which as much is kept
     abbrev line : List ℕ
     line = fed.stands.line
 
-    stands : IsStateAfter network line refused (before ++ fed.done)
+    stands : IsStateAfter session line refused (before ++ fed.done)
     stands = fed.stands.stands
 
     -- the rest ends no line
-    pub fed_all : EndsNoLine rest → IsKeptAfter network (and_kept kept rest) refused (before ++ bytes) × ((text : List ℕ) × IsDue before bytes text × Wrote gives state k l text)
+    pub fed_all : EndsNoLine rest → IsKeptAfter session (and_kept kept rest) refused (before ++ bytes) × ((text : List ℕ) × IsDue before bytes text × Wrote gives state k l text)
     fed_all ends_none = (
       record {
         line = line ++ rest;
         stands =
-            subst (λ all. IsStateAfter network (line ++ rest) refused all) (sym (ap (λ b. before ++ b) fed.whole ∙ sym (append_assoc before fed.done rest)))
-            (stands_same network line refused (before ++ fed.done) stands rest ends_none);
+            subst (λ all. IsStateAfter session (line ++ rest) refused all) (sym (ap (λ b. before ++ b) fed.whole ∙ sym (append_assoc before fed.done rest)))
+            (stands_same session line refused (before ++ fed.done) stands rest ends_none);
         kept_is = kept_more line kept rest fed.stands.kept_is;
       },
       (
         fed.text,
-        ap (λ b. complete_output (before ++ b)) fed.whole ∙ ap complete_output (sym (append_assoc before fed.done rest)) ∙ written_same network line refused (before ++ fed.done) stands rest ends_none ∙ fed.due,
+        ap (λ b. complete_output (before ++ b)) fed.whole ∙ ap complete_output (sym (append_assoc before fed.done rest)) ∙ written_same session line refused (before ++ fed.done) stands rest ends_none ∙ fed.due,
         fed.wrote,
       ),
     )
@@ -101,15 +75,15 @@ module _ {K : Type 0} (gives : K → List ℕ → Result ℕ SinkFailed → K �
     pub stopped_here : Stopped k l before bytes OutOfMemory
     stopped_here = (
       fed.text,
-      λ more. let written = written_prefix network line refused (before ++ fed.done) stands (rest ++ more) in
+      λ more. let written = written_prefix session line refused (before ++ fed.done) stands (rest ++ more) in
           (written.0, ap output (goes_on rest more refl) ∙ written.1 ∙ ap (λ t. t ++ written.0) fed.due),
       (fed.text, ([], sym (append-nil fed.text)), fed.wrote),
     )
 
     module _ (part after : List ℕ) (cut : CutsLine rest part after) where
       -- the state at the line's end
-      at_line : IsStateAfter network (line ++ part) refused ((before ++ fed.done) ++ part)
-      at_line = stands_same network line refused (before ++ fed.done) stands part cut.ends_no_line
+      at_line : IsStateAfter session (line ++ part) refused ((before ++ fed.done) ++ part)
+      at_line = stands_same session line refused (before ++ fed.done) stands part cut.ends_no_line
 
       -- with the line's newline
       line_end : List ℕ
@@ -118,46 +92,46 @@ module _ {K : Type 0} (gives : K → List ℕ → Result ℕ SinkFailed → K �
       fed_bytes : before ++ (fed.done ++ (part ++ 10 ∷ [])) ≡ ((before ++ fed.done) ++ part) ++ 10 ∷ []
       fed_bytes = sym (append_assoc before fed.done (part ++ 10 ∷ [])) ∙ sym (append_assoc (before ++ fed.done) part (10 ∷ []))
 
-      line_due : complete_output (((before ++ fed.done) ++ part) ++ 10 ∷ []) ≡ complete_output before ++ (fed.text ++ (reply network (line ++ part)).text)
+      line_due : complete_output (((before ++ fed.done) ++ part) ++ 10 ∷ []) ≡ complete_output before ++ (fed.text ++ (reply session (line ++ part)).text)
       line_due =
-          written_more network (line ++ part) refused ((before ++ fed.done) ++ part) at_line
-          ∙ ap (λ t. t ++ (reply network (line ++ part)).text) (written_same network line refused (before ++ fed.done) stands part cut.ends_no_line ∙ fed.due)
-          ∙ append_assoc (complete_output before) fed.text (reply network (line ++ part)).text
+          written_more session (line ++ part) refused ((before ++ fed.done) ++ part) at_line
+          ∙ ap (λ t. t ++ (reply session (line ++ part)).text) (written_same session line refused (before ++ fed.done) stands part cut.ends_no_line ∙ fed.due)
+          ∙ append_assoc (complete_output before) fed.text (reply session (line ++ part)).text
 
-      at_end : IsStateAfter (reply network (line ++ part)).after [] (refused || (reply network (line ++ part)).refused) (((before ++ fed.done) ++ part) ++ 10 ∷ [])
-      at_end = stands_more network (line ++ part) refused ((before ++ fed.done) ++ part) at_line
+      at_end : IsStateAfter (reply session (line ++ part)).after [] (refused || (reply session (line ++ part)).refused) (((before ++ fed.done) ++ part) ++ 10 ∷ [])
+      at_end = stands_more session (line ++ part) refused ((before ++ fed.done) ++ part) at_line
 
       -- what is kept of it has the same reply
-      same_reply : reply network (and_kept kept part) ≡ reply network (line ++ part)
-      same_reply = reply_kept network (line ++ part) (and_kept kept part) (kept_more line kept part fed.stands.kept_is)
+      same_reply : reply session (and_kept kept part) ≡ reply session (line ++ part)
+      same_reply = reply_kept session (line ++ part) (and_kept kept part) (kept_more line kept part fed.stands.kept_is)
 
-      fed_whole : (m : K) → Wrote gives state l m (reply network (line ++ part)).text → Fed k m before bytes after (reply network (line ++ part)).after [] (refused || (reply network (line ++ part)).refused)
+      fed_whole : (m : K) → Wrote gives state l m (reply session (line ++ part)).text → Fed k m before bytes after (reply session (line ++ part)).after [] (refused || (reply session (line ++ part)).refused)
       fed_whole m wrote = record {
         done = fed.done ++ (part ++ 10 ∷ []);
         whole = fed.whole ∙ ap (λ r. fed.done ++ r) (cut.whole ∙ sym (append_assoc part (10 ∷ []) after)) ∙ sym (append_assoc fed.done (part ++ 10 ∷ []) after);
         stands = record { line = []; stands = rw fed_bytes at_end; kept_is = refl };
-        text = fed.text ++ (reply network (line ++ part)).text;
+        text = fed.text ++ (reply session (line ++ part)).text;
         due = ap complete_output fed_bytes ∙ line_due;
-        wrote = wrote_after gives state k l m fed.text (reply network (line ++ part)).text fed.wrote wrote;
+        wrote = wrote_after gives state k l m fed.text (reply session (line ++ part)).text fed.wrote wrote;
       }
 
       -- a line more
-      pub fed_line : (m : K) → Wrote gives state l m (reply network (and_kept kept part)).text
-          → Fed k m before bytes after (reply network (and_kept kept part)).after [] (refused || (reply network (and_kept kept part)).refused)
+      pub fed_line : (m : K) → Wrote gives state l m (reply session (and_kept kept part)).text
+          → Fed k m before bytes after (reply session (and_kept kept part)).after [] (refused || (reply session (and_kept kept part)).refused)
       fed_line m = rw same_reply (fed_whole m)
 
-      stopped_whole : (m : K) (stop : Stop) → StopsWithin (Wrote gives state l m) (PutFailed gives state l m) (reply network (line ++ part)).text stop → Stopped k m before bytes stop
+      stopped_whole : (m : K) (stop : Stop) → StopsWithin (Wrote gives state l m) (PutFailed gives state l m) (reply session (line ++ part)).text stop → Stopped k m before bytes stop
       stopped_whole m stop stops = (
-        fed.text ++ (reply network (line ++ part)).text,
+        fed.text ++ (reply session (line ++ part)).text,
         λ more.
-            let written = written_prefix (reply network (line ++ part)).after [] (refused || (reply network (line ++ part)).refused) (((before ++ fed.done) ++ part) ++ 10 ∷ []) at_end (after ++ more) in (
+            let written = written_prefix (reply session (line ++ part)).after [] (refused || (reply session (line ++ part)).refused) (((before ++ fed.done) ++ part) ++ 10 ∷ []) at_end (after ++ more) in (
               written.0,
               ap output (goes_on ((part ++ 10 ∷ []) ++ after) more (cut.whole ∙ sym (append_assoc part (10 ∷ []) after)) ∙ ap (λ b. (before ++ fed.done) ++ b) (append_assoc (part ++ 10 ∷ []) after more) ∙ sym (append_assoc (before ++ fed.done) (part ++ 10 ∷ []) (after ++ more)) ∙ ap (λ b. b ++ (after ++ more)) (sym (append_assoc (before ++ fed.done) part (10 ∷ []))))
                   ∙ written.1 ∙ ap (λ t. t ++ written.0) line_due,
             ),
-        stops_after gives state k l m fed.text (reply network (line ++ part)).text stop fed.wrote stops,
+        stops_after gives state k l m fed.text (reply session (line ++ part)).text stop fed.wrote stops,
       )
 
       -- the reply to the line could not all be put
-      pub stopped_line : (m : K) (stop : Stop) → StopsWithin (Wrote gives state l m) (PutFailed gives state l m) (reply network (and_kept kept part)).text stop → Stopped k m before bytes stop
+      pub stopped_line : (m : K) (stop : Stop) → StopsWithin (Wrote gives state l m) (PutFailed gives state l m) (reply session (and_kept kept part)).text stop → Stopped k m before bytes stop
       stopped_line m stop = rw same_reply (stopped_whole m stop)

@@ -1,57 +1,123 @@
--- The networks that lines leave are sound.
-use Rattle.std.proofs.Common.{◌≡◌, ℕ, Option, Some, None, List, [], ◌∷◌, refl}
-use Rattle.nv_base.specs.declared.object.ObjId.{ObjId}
-use Rattle.nb_model.specs.Network.{Tables, empty_network, switch_named, port_named, with_switch, with_port, with_address}
-use Rattle.nb_model.specs.Sound.{IsSound}
-use Rattle.nb_model.proofs.Edits.{empty_holds, switch_holds, port_holds, address_holds}
-use Rattle.nb_model.proofs.Index.{switch_there}
+-- The networks that lines leave are sound, and the numbers of their objects are no more than the bytes of the lines.
+use Rattle.std.proofs.Common.{◌≡◌, ℕ, ◌+◌, ◌<◌, ◌≤◌, ◌⊎◌, inl, inr, Option, Some, None, List, [], ◌∷◌, length, sum_by, IfOk, refl, arith}
+use Rattle.std.specs.List.{AllByRecursion}
+use Rattle.std.proofs.lemmas.List.Sums.{sum_by-cons}
+use Rattle.std.proofs.lemmas.Result.{IfOk-at_ok, IfOk-weaker}
+use Rattle.nb_core.specs.declared.edit.Edit.{Edit}
+use Rattle.nb_core.specs.declared.refusal.Refusal.{Refusal}
+use Rattle.nb_net.specs.Effect.{effect}
+use Rattle.nb_net.specs.Network.{Network}
+use Rattle.nb_net.specs.Readable.{IsReadable}
+use Rattle.nb_net.specs.Sound.{IsSound}
+use Rattle.nb_net.specs.Tests.{refusal}
+use Rattle.nb_net.specs.Transactions.{unless, applied, edited}
+use Rattle.nb_net.proofs.Drawn.{edit_draws}
+use Rattle.nb_net.proofs.Reading.{goes_on}
+use Rattle.nb_net.proofs.Whole.{edit_sound}
+use Rattle.nb_cmds.proofs.ReadableLines.{line_readable}
+use Rattle.nb_cmds.proofs.ShortLines.{line_short}
 use Rattle.tr_walk.specs.Walk.{IsRefined}
 use Rattle.tr_walk.proofs.Refinement.{sound_refined}
-use Rattle.nv_serve.specs.declared.line.Line.{Line}
-use Rattle.nv_serve.specs.declared.line.Line.TheVariants.{Nothing, AddSwitch, AddPort, SetAddress, ListFlows, Frame, Refused}
-use Rattle.std.specs.Bool.{IsTrue}
-use Rattle.nv_base.specs.Name.{is_object_name}
-use Rattle.nv_serve.specs.Line.{said}
-use Rattle.nv_serve.proofs.WellRead.{IsWellRead, for_said}
-use Rattle.nv_serve.specs.Reply.{reply, reply_to, where_named, where_new, accept, network_after}
+use Rattle.nv_serve.specs.Reply.{reply, session_after}
+use Rattle.nv_serve.specs.Session.{Session, new_session}
+use Rattle.nv_serve.proofs.Keeping.{reply_keeps}
 
--- a new object, if there is none of the name
-new_holds : {X : Type 0} (tables : Tables) (name : List ℕ) (there : Option X) (after : Tables) → IsSound tables → (there ≡ None → IsSound after) → IsSound (where_new tables name there after).after
-new_holds tables name None after before following = following refl
-new_holds tables name (Some object) after before following = before
+-- an edit draws a number, or none
+one_more : (net : Network) (edit : Edit) → (effect net edit).next ≤ net.next + 1
+one_more net edit = by (edit_draws net edit)
+  where
+    by : ((effect net edit).next ≡ net.next) ⊎ ((effect net edit).next ≡ net.next + 1) → (effect net edit).next ≤ net.next + 1
+    by (inl same) = omega (arith, same)
+    by (inr more) = omega (arith, more)
 
-add_port_holds : (tables : Tables) (switch name : List ℕ) (there : Option ObjId) → switch_named tables.switches switch ≡ there → IsTrue (is_object_name name) → IsSound tables
-    → IsSound (where_named tables switch there (λ number. where_new tables name (port_named tables.ports name) (with_port tables number name))).after
-add_port_holds tables switch name None is named before = before
-add_port_holds tables switch name (Some number) is named before =
-    new_holds tables name (port_named tables.ports name) (with_port tables number name) before (port_holds tables number name before named (switch_there tables.switches switch number is))
+not_refused : {X : Type 0} (P : X → Type 0) (refused : Option Refusal) (x : X) → (refused ≡ None → P x) → IfOk (unless refused x) P
+not_refused P None x holds = holds refl
+not_refused P (Some refusal) x holds = tt
 
-named_holds : {X : Type 0} (tables : Tables) (name : List ℕ) (there : Option X) (lines : X → List ℕ) (after : Tables) → IsSound tables → IsSound after → IsSound (where_named tables name there (λ object. accept (lines object) after)).after
-named_holds tables name None lines after before following = before
-named_holds tables name (Some object) lines after before following = following
+-- edits draw so many
+edited_next : (net : Network) (list : List Edit) → IfOk (edited net list) (λ after. after.next ≤ net.next + length list)
+edited_next net [] = omega arith
+edited_next net (edit ∷ list) =
+    goes_on (λ one. one.next ≤ net.next + 1) (λ after. after.next ≤ net.next + length (edit ∷ list)) (applied net edit) (λ one. edited one list)
+    (not_refused (λ one. one.next ≤ net.next + 1) (refusal net edit) (effect net edit) (λ passes. one_more net edit))
+    (λ one drawn. IfOk-weaker (edited one list) (λ after. after.next ≤ one.next + length list) (λ after. after.next ≤ net.next + length (edit ∷ list)) (λ after more. omega (arith, drawn, more)) (edited_next one list))
 
--- what a line leaves is sound
-said_holds : (tables : Tables) (line : Line) → IsWellRead line → IsSound tables → IsSound (reply_to tables line).after
-said_holds tables Nothing read before = before
-said_holds tables (AddSwitch name) read before = new_holds tables name (switch_named tables.switches name) (with_switch tables name) before (switch_holds tables name before read)
-said_holds tables (AddPort switch name) read before = add_port_holds tables switch name (switch_named tables.switches switch) refl read before
-said_holds tables (SetAddress name mac) read before = named_holds tables name (port_named tables.ports name) (λ port. []) (with_address tables name mac) before (address_holds tables name mac before read)
-said_holds tables ListFlows read before = before
-said_holds tables (Frame name mac) read before = named_holds tables name (port_named tables.ports name) _ tables before before
-said_holds tables (Refused refusal) read before = before
+-- what is left after an edit
+record IsLeft (next : ℕ) (net : Network) : Type 0 where
+  pub sound : IsSound net
+  pub drawn : net.next ≤ next + 1
 
-reply_holds : (tables : Tables) (line : List ℕ) → IsSound tables → IsSound (reply tables line).after
-unfolding reply
-reply_holds tables line before = said_holds tables (said line) (for_said line) before
+-- edits leave a sound network sound
+edited_sound : (net : Network) (list : List Edit) → IsSound net → AllByRecursion IsReadable list → net.next + length list < 4294967294 → IfOk (edited net list) IsSound
+edited_sound net [] sound readable room = sound
+edited_sound net (edit ∷ list) sound readable room =
+    goes_on (IsLeft net.next) IsSound (applied net edit) (λ one. edited one list)
+    (not_refused (IsLeft net.next) (refusal net edit) (effect net edit)
+    (λ passes. record { sound = edit_sound net edit sound readable.0 (omega (arith, one_more net edit, room)) passes; drawn = one_more net edit }))
+    (λ one left. edited_sound one list left.sound readable.1 (omega (arith, left.drawn, room)))
 
-lines_hold : (tables : Tables) (lines : List (List ℕ)) → IsSound tables → IsSound (network_after tables lines)
-lines_hold tables [] before = before
-lines_hold tables (line ∷ lines) before = lines_hold (reply tables line).after lines (reply_holds tables line before)
+-- a line draws no more numbers than it has bytes
+pub reply_next : (session : Session) (line : List ℕ) → (reply session line).after.network.next ≤ session.network.next + length line
+reply_next session line =
+    reply_keeps (λ after. after.network.next ≤ session.network.next + length line) session line (omega arith) (λ list net said done.
+    omega (arith, line_short line list said, IfOk-at_ok (λ (after : Network). after.next ≤ session.network.next + length list) done (edited_next session.network list)))
 
--- each network that lines leave is sound
-pub sound_after : (lines : List (List ℕ)) → IsSound (network_after empty_network lines)
-sound_after lines = lines_hold empty_network lines empty_holds
+reply_sound : (session : Session) (line : List ℕ) → IsSound session.network → session.network.next + length line < 4294967294 → IsSound (reply session line).after.network
+reply_sound session line sound room =
+    reply_keeps (λ after. IsSound after.network) session line sound (λ list net said done.
+    IfOk-at_ok IsSound done (edited_sound session.network list sound (line_readable line list said) (omega (arith, line_short line list said, room))))
+
+lines_sound : (session : Session) (lines : List (List ℕ)) → IsSound session.network → session.network.next + sum_by length lines < 4294967294 → IsSound (session_after session lines).network
+lines_sound session [] sound room = sound
+lines_sound session (line ∷ lines) sound room =
+    let bytes = sum_by-cons length line lines in
+    lines_sound (reply session line).after lines (reply_sound session line sound (omega (arith, bytes, room))) (omega (arith, bytes, room, reply_next session line))
+
+empty_sound : IsSound new_session.network
+empty_sound = record {
+  numbered = record {
+    order = record {
+      switches = refl;
+      ports = refl;
+      routers = refl;
+      router_ports = refl;
+      routes = refl;
+      nats = refl;
+      lbs = refl;
+      acls = refl;
+      sets = refl;
+      groups = refl;
+      bindings = refl;
+    };
+    apart = refl;
+    below = refl;
+    room = omega arith;
+    from_one = omega arith;
+  };
+  named = record { datapaths = refl; ports = refl; lbs = refl; sets = refl; groups = refl };
+  refers = record { ports = refl; router_ports = refl; routes = refl; nats = refl; switches = refl; routers = refl; acls = refl; groups = refl; bindings = refl };
+  apart = record { routes = refl; nats = refl; acls = refl; bindings = refl; vips = refl; of_switches = refl; of_routers = refl; of_groups = refl };
+  readable = record {
+    switches = refl;
+    ports = refl;
+    routers = refl;
+    router_ports = refl;
+    routes = refl;
+    nats = refl;
+    lbs = refl;
+    priorities = refl;
+    matches = tt;
+    sets = refl;
+    groups = refl;
+    bindings = refl;
+  };
+  within = refl;
+}
+
+-- each network that lines leave is sound, as long as the lines are no longer
+pub sound_after : (lines : List (List ℕ)) → 1 + sum_by length lines < 4294967294 → IsSound (session_after new_session lines).network
+sound_after lines room = lines_sound new_session lines empty_sound room
 
 -- and the rows of each do what its switches do
-pub each_refined : (lines : List (List ℕ)) → IsRefined (network_after empty_network lines)
-each_refined lines = sound_refined (network_after empty_network lines) (sound_after lines)
+pub each_refined : (lines : List (List ℕ)) → 1 + sum_by length lines < 4294967294 → IsRefined (session_after new_session lines).network
+each_refined lines room = sound_refined (session_after new_session lines).network (sound_after lines room)

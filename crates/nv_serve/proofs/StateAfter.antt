@@ -2,42 +2,42 @@
 use Rattle.std.proofs.Common.{◌≡◌, ℕ, ◌-◌, Bool, true, false, ◌||◌, List, [], ◌∷◌, ◌++◌, length, take, refl, sym, ap, ◌∙◌, append_assoc}
 use Rattle.std.proofs.lemmas.List.{append-nil}
 use Rattle.std.specs.List.{slice_split}
-use Rattle.nb_model.specs.Network.{Tables, empty_network}
-use Rattle.nv_serve.specs.Reply.{reply, replies, some_refused, network_after}
+use Rattle.nv_serve.specs.Session.{Session, new_session}
+use Rattle.nv_serve.specs.Reply.{reply, replies, some_refused, session_after}
 use Rattle.nv_serve.specs.Output.{is_newline, lines_of, complete_lines, output, complete_output, is_refused}
 use Rattle.nv_serve.specs.inner.StateAfter.{IsStateAfter}
 use Rattle.nv_serve.proofs.Splits.{joined, joined-last, split-append, take-butlast}
 
 -- one list of lines after another
-pub replies-append : (tables : Tables) (xs ys : List (List ℕ)) → replies tables (xs ++ ys) ≡ replies tables xs ++ replies (network_after tables xs) ys
-replies-append tables [] ys = refl
-replies-append tables (x ∷ xs) ys =
-    ap (λ more. (reply tables x).text ++ more) (replies-append (reply tables x).after xs ys)
-    ∙ sym (append_assoc (reply tables x).text (replies (reply tables x).after xs) (replies (network_after (reply tables x).after xs) ys))
+pub replies-append : (session : Session) (xs ys : List (List ℕ)) → replies session (xs ++ ys) ≡ replies session xs ++ replies (session_after session xs) ys
+replies-append session [] ys = refl
+replies-append session (x ∷ xs) ys =
+    ap (λ more. (reply session x).text ++ more) (replies-append (reply session x).after xs ys)
+    ∙ sym (append_assoc (reply session x).text (replies (reply session x).after xs) (replies (session_after (reply session x).after xs) ys))
 
-pub network_after-append : (tables : Tables) (xs ys : List (List ℕ)) → network_after tables (xs ++ ys) ≡ network_after (network_after tables xs) ys
-network_after-append tables [] ys = refl
-network_after-append tables (x ∷ xs) ys = network_after-append (reply tables x).after xs ys
+pub session_after-append : (session : Session) (xs ys : List (List ℕ)) → session_after session (xs ++ ys) ≡ session_after (session_after session xs) ys
+session_after-append session [] ys = refl
+session_after-append session (x ∷ xs) ys = session_after-append (reply session x).after xs ys
 
 or_assoc : (a b c : Bool) → (a || (b || c)) ≡ ((a || b) || c)
 or_assoc true b c = refl
 or_assoc false b c = refl
 
-pub some_refused-append : (tables : Tables) (xs ys : List (List ℕ)) → some_refused tables (xs ++ ys) ≡ (some_refused tables xs || some_refused (network_after tables xs) ys)
-some_refused-append tables [] ys = refl
-some_refused-append tables (x ∷ xs) ys =
-    ap (λ more. (reply tables x).refused || more) (some_refused-append (reply tables x).after xs ys)
-    ∙ or_assoc (reply tables x).refused (some_refused (reply tables x).after xs) (some_refused (network_after (reply tables x).after xs) ys)
+pub some_refused-append : (session : Session) (xs ys : List (List ℕ)) → some_refused session (xs ++ ys) ≡ (some_refused session xs || some_refused (session_after session xs) ys)
+some_refused-append session [] ys = refl
+some_refused-append session (x ∷ xs) ys =
+    ap (λ more. (reply session x).refused || more) (some_refused-append (reply session x).after xs ys)
+    ∙ or_assoc (reply session x).refused (some_refused (reply session x).after xs) (some_refused (session_after (reply session x).after xs) ys)
 
 pub or_false : (a : Bool) → (a || false) ≡ a
 or_false true = refl
 or_false false = refl
 
 -- before the first byte
-pub stands_first : IsStateAfter empty_network [] false []
-stands_first = record { line_is = refl; network_is = refl; refused_is = refl }
+pub stands_first : IsStateAfter new_session [] false []
+stands_first = record { line_is = refl; session_is = refl; refused_is = refl }
 
-module _ (network : Tables) (line : List ℕ) (refused : Bool) (before : List ℕ) (stands : IsStateAfter network line refused before) where
+module _ (session : Session) (line : List ℕ) (refused : Bool) (before : List ℕ) (stands : IsStateAfter session line refused before) where
   -- the lines of these bytes and of more
   lines-append : (more : List ℕ) → lines_of (before ++ more) ≡ complete_lines before ++ joined (line ∷ []) (lines_of more)
   lines-append more =
@@ -55,27 +55,27 @@ module _ (network : Tables) (line : List ℕ) (refused : Bool) (before : List �
   pub whole-same : (bytes : List ℕ) → slice_split is_newline bytes ≡ bytes ∷ [] → complete_lines (before ++ bytes) ≡ complete_lines before
   whole-same bytes one = whole_from_lines (before ++ bytes) (complete_lines before) (line ++ bytes) (lines-same bytes one)
 
-  pub stands_same : (bytes : List ℕ) → slice_split is_newline bytes ≡ bytes ∷ [] → IsStateAfter network (line ++ bytes) refused (before ++ bytes)
+  pub stands_same : (bytes : List ℕ) → slice_split is_newline bytes ≡ bytes ∷ [] → IsStateAfter session (line ++ bytes) refused (before ++ bytes)
   stands_same bytes one = record {
     line_is = lines-same bytes one ∙ ap (λ whole. whole ++ (line ++ bytes) ∷ []) (sym (whole-same bytes one));
-    network_is = stands.network_is ∙ ap (network_after empty_network) (sym (whole-same bytes one));
-    refused_is = stands.refused_is ∙ ap (some_refused empty_network) (sym (whole-same bytes one));
+    session_is = stands.session_is ∙ ap (session_after new_session) (sym (whole-same bytes one));
+    refused_is = stands.refused_is ∙ ap (some_refused new_session) (sym (whole-same bytes one));
   }
 
   pub written_same : (bytes : List ℕ) → slice_split is_newline bytes ≡ bytes ∷ [] → complete_output (before ++ bytes) ≡ complete_output before
-  written_same bytes one = ap (replies empty_network) (whole-same bytes one)
+  written_same bytes one = ap (replies new_session) (whole-same bytes one)
 
   -- the line that has no end yet, after the complete lines
-  replies-line : replies empty_network (complete_lines before ++ line ∷ []) ≡ complete_output before ++ (reply network line).text
+  replies-line : replies new_session (complete_lines before ++ line ∷ []) ≡ complete_output before ++ (reply session line).text
   replies-line =
-      replies-append empty_network (complete_lines before) (line ∷ [])
-      ∙ ap (λ text. complete_output before ++ text) (append-nil (reply (network_after empty_network (complete_lines before)) line).text ∙ ap (λ tables. (reply tables line).text) (sym stands.network_is))
+      replies-append new_session (complete_lines before) (line ∷ [])
+      ∙ ap (λ text. complete_output before ++ text) (append-nil (reply (session_after new_session (complete_lines before)) line).text ∙ ap (λ session. (reply session line).text) (sym stands.session_is))
 
-  some_refused-line : some_refused empty_network (complete_lines before ++ line ∷ []) ≡ (refused || (reply network line).refused)
+  some_refused-line : some_refused new_session (complete_lines before ++ line ∷ []) ≡ (refused || (reply session line).refused)
   some_refused-line =
-      some_refused-append empty_network (complete_lines before) (line ∷ [])
-      ∙ ap (λ last. some_refused empty_network (complete_lines before) || last) (or_false (reply (network_after empty_network (complete_lines before)) line).refused ∙ ap (λ tables. (reply tables line).refused) (sym stands.network_is))
-      ∙ ap (λ some. some || (reply network line).refused) (sym stands.refused_is)
+      some_refused-append new_session (complete_lines before) (line ∷ [])
+      ∙ ap (λ last. some_refused new_session (complete_lines before) || last) (or_false (reply (session_after new_session (complete_lines before)) line).refused ∙ ap (λ session. (reply session line).refused) (sym stands.session_is))
+      ∙ ap (λ some. some || (reply session line).refused) (sym stands.refused_is)
 
   -- a newline ends the line
   lines-more : lines_of (before ++ 10 ∷ []) ≡ (complete_lines before ++ line ∷ []) ++ [] ∷ []
@@ -84,28 +84,28 @@ module _ (network : Tables) (line : List ℕ) (refused : Bool) (before : List �
   whole-more : complete_lines (before ++ 10 ∷ []) ≡ complete_lines before ++ line ∷ []
   whole-more = whole_from_lines (before ++ 10 ∷ []) (complete_lines before ++ line ∷ []) [] lines-more
 
-  pub stands_more : IsStateAfter (reply network line).after [] (refused || (reply network line).refused) (before ++ 10 ∷ [])
+  pub stands_more : IsStateAfter (reply session line).after [] (refused || (reply session line).refused) (before ++ 10 ∷ [])
   stands_more = record {
     line_is = lines-more ∙ ap (λ whole. whole ++ [] ∷ []) (sym whole-more);
-    network_is =
-        ap (λ tables. (reply tables line).after) stands.network_is
-        ∙ sym (network_after-append empty_network (complete_lines before) (line ∷ []))
-        ∙ ap (network_after empty_network) (sym whole-more);
-    refused_is = sym some_refused-line ∙ ap (some_refused empty_network) (sym whole-more);
+    session_is =
+        ap (λ session. (reply session line).after) stands.session_is
+        ∙ sym (session_after-append new_session (complete_lines before) (line ∷ []))
+        ∙ ap (session_after new_session) (sym whole-more);
+    refused_is = sym some_refused-line ∙ ap (some_refused new_session) (sym whole-more);
   }
 
   -- the reply to the line that has no end yet
-  pub written_more : complete_output (before ++ 10 ∷ []) ≡ complete_output before ++ (reply network line).text
-  written_more = ap (replies empty_network) whole-more ∙ replies-line
+  pub written_more : complete_output (before ++ 10 ∷ []) ≡ complete_output before ++ (reply session line).text
+  written_more = ap (replies new_session) whole-more ∙ replies-line
 
   -- at the end of the input the last line is run
-  pub written_end : output before ≡ complete_output before ++ (reply network line).text
-  written_end = ap (replies empty_network) stands.line_is ∙ replies-line
+  pub written_end : output before ≡ complete_output before ++ (reply session line).text
+  written_end = ap (replies new_session) stands.line_is ∙ replies-line
 
-  pub refused_end : is_refused before ≡ (refused || (reply network line).refused)
-  refused_end = ap (some_refused empty_network) stands.line_is ∙ some_refused-line
+  pub refused_end : is_refused before ≡ (refused || (reply session line).refused)
+  refused_end = ap (some_refused new_session) stands.line_is ∙ some_refused-line
 
   -- what was written for the complete lines begins the output of any input that goes on from here
   pub written_prefix : (more : List ℕ) → (rest : List ℕ) × (output (before ++ more) ≡ complete_output before ++ rest)
   written_prefix more =
-      (replies (network_after empty_network (complete_lines before)) (joined (line ∷ []) (lines_of more)), ap (replies empty_network) (lines-append more) ∙ replies-append empty_network (complete_lines before) (joined (line ∷ []) (lines_of more)))
+      (replies (session_after new_session (complete_lines before)) (joined (line ∷ []) (lines_of more)), ap (replies new_session) (lines-append more) ∙ replies-append new_session (complete_lines before) (joined (line ∷ []) (lines_of more)))

@@ -1,35 +1,28 @@
 -- How the events of a trace are written.
-use Rattle.std.specs.Prelude.{ℕ, List, [], ◌++◌, Option, Some, None, codes, decimal}
+use Rattle.std.specs.Prelude.{ℕ, List, [], ◌++◌, option_map, unwrap_or, codes, decimal}
 use Rattle.nv_base.specs.declared.object.ObjId.{ObjId}
 use Rattle.pkt_core.specs.Text.{packet_text}
+use Rattle.nb_net.specs.Belongs.{either}
+use Rattle.nb_net.specs.Network.{Network}
+use Rattle.nb_table.specs.Table.{record_of}
 use Rattle.sb_model.specs.Stage.{stage_name}
 use Rattle.net_meaning.specs.Cause.{cause_name}
 use Rattle.tr_walk.specs.declared.event.Event.{Event}
 use Rattle.tr_walk.specs.declared.event.Event.TheVariants.{Hit, Output, Drop}
-use Rattle.nb_model.specs.declared.port.Port.{Port}
-use Rattle.nb_model.specs.Network.{Switch, Tables, switch_numbered, port_numbered}
 
--- a switch's name, or nothing where there is none
-abbrev pub name_of_switch : Option Switch → List ℕ
-name_of_switch None = []
-name_of_switch (Some switch) = switch.1
+-- the name of the switch or the router of this number, or nothing where there is none
+abbrev pub datapath_name : Network → ObjId → List ℕ
+datapath_name net number =
+    unwrap_or (either (option_map (λ switch. switch.name) (record_of (λ switch. switch.id) number net.switches)) (option_map (λ router. router.name) (record_of (λ router. router.id) number net.routers))) []
 
--- a port's name, or nothing where there is none
-abbrev pub name_of_port : Option Port → List ℕ
-name_of_port None = []
-name_of_port (Some port) = port.name
-
--- the name of the switch of this number
-abbrev pub switch_name : Tables → ObjId → List ℕ
-switch_name tables number = name_of_switch (switch_numbered tables.switches number)
-
--- the name of the port of this number
-abbrev pub port_name : Tables → ObjId → List ℕ
-port_name tables number = name_of_port (port_numbered tables.ports number)
+-- the name of the port of this number, of a switch or of a router, or nothing where there is none
+abbrev pub port_name : Network → ObjId → List ℕ
+port_name net number =
+    unwrap_or (either (option_map (λ port. port.name) (record_of (λ port. port.id) number net.ports)) (option_map (λ port. port.name) (record_of (λ port. port.id) number net.router_ports))) []
 
 -- an event's line
-abbrev pub event_line : Tables → Event → List ℕ
-event_line tables (Hit hit) =
-    codes "hit " ++ switch_name tables hit.dp ++ codes " " ++ stage_name hit.stage ++ codes " " ++ decimal hit.priority ++ codes " " ++ decimal hit.hint.0 ++ codes "\n"
-event_line tables (Output port packet) = codes "output " ++ port_name tables port ++ codes " " ++ packet_text packet ++ codes "\n"
-event_line tables (Drop dp cause) = codes "drop " ++ switch_name tables dp ++ codes " " ++ cause_name cause ++ codes "\n"
+abbrev pub event_line : Network → Event → List ℕ
+event_line net (Hit hit) =
+    codes "hit " ++ datapath_name net hit.dp ++ codes " " ++ stage_name hit.stage ++ codes " " ++ decimal hit.priority ++ codes " " ++ decimal hit.hint.0 ++ codes "\n"
+event_line net (Output port packet) = codes "output " ++ port_name net port ++ codes " " ++ packet_text packet ++ codes "\n"
+event_line net (Drop dp cause) = codes "drop " ++ datapath_name net dp ++ codes " " ++ cause_name cause ++ codes "\n"

@@ -1,10 +1,9 @@
-pub mod Address
 pub mod Calls
 pub mod Events
-pub mod Line
 pub mod Output
 pub mod Reply
 pub mod Run
+pub mod Session
 pub mod Status
 pub mod Traced
 pub mod inner

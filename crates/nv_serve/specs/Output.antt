@@ -1,7 +1,7 @@
 -- The output of a run.
 use Rattle.std.specs.Prelude.{ℕ, ◌-◌, Bool, ◌==◌, if◌then◌else◌, List, length, take, codes}
 use Rattle.std.specs.List.{slice_split}
-use Rattle.nb_model.specs.Network.{empty_network}
+use Rattle.nv_serve.specs.Session.{new_session}
 use Rattle.nv_serve.specs.Reply.{replies, some_refused}
 
 abbrev pub is_newline : ℕ → Bool
@@ -18,7 +18,7 @@ complete_lines input = take (length (lines_of input) - 1) (lines_of input)
 
 -- what is written for an input that is read to its end
 abbrev pub output : List ℕ → List ℕ
-output input = replies empty_network (lines_of input)
+output input = replies new_session (lines_of input)
 
 -- how the program is called
 abbrev pub usage_line : List ℕ
@@ -30,11 +30,11 @@ output_for accepted given = if accepted then output given else usage_line
 
 -- what is written for the complete lines alone
 abbrev pub complete_output : List ℕ → List ℕ
-complete_output input = replies empty_network (complete_lines input)
+complete_output input = replies new_session (complete_lines input)
 
 -- whether a line of the input is refused
 abbrev pub is_refused : List ℕ → Bool
-is_refused input = some_refused empty_network (lines_of input)
+is_refused input = some_refused new_session (lines_of input)
 
 -- no more of an input is run than this many bytes
 abbrev pub input_limit : ℕ

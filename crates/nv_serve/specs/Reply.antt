@@ -1,82 +1,108 @@
--- What a line is answered, and the network that it leaves.
-use Rattle.std.specs.Prelude.{ℕ, Bool, true, false, ◌||◌, List, [], ◌∷◌, ◌++◌, Option, Some, None, codes}
+-- What a line is answered, and the session that it leaves.
+use Rattle.std.specs.Prelude.{ℕ, Bool, true, false, ◌||◌, List, [], ◌∷◌, ◌++◌, map, Option, Some, None, is_some, ok_or, Result, Ok, Err, if◌then◌else◌, codes}
 use Rattle.std.specs.List.{flat_map}
 use Rattle.nv_base.specs.declared.field.Field.TheVariants.{EthDst}
+use Rattle.nv_base.specs.declared.object.ObjId.{ObjId}
 use Rattle.pkt_core.specs.Packet.{Values, with_value, zero_packet}
-use Rattle.nv_serve.specs.declared.line.Line.{Line}
-use Rattle.nv_serve.specs.declared.line.Line.TheVariants.{Nothing, AddSwitch, AddPort, SetAddress, ListFlows, Frame, Refused}
 use Rattle.nb_core.specs.declared.refusal.Refusal.{Refusal}
-use Rattle.nb_core.specs.declared.refusal.Refusal.TheVariants.{NoSuchObject, Exists}
+use Rattle.nb_core.specs.declared.refusal.Refusal.TheVariants.{NoSuchObject, WrongKind}
+use Rattle.nb_core.specs.declared.switch.Port.{Port}
+use Rattle.nb_core.specs.declared.switch.Switch.{Switch}
 use Rattle.nb_core.specs.Refusal.{refusal_line}
-use Rattle.nb_model.specs.Network.{Tables, switch_named, port_named, with_switch, with_port, with_address}
-use Rattle.nv_serve.specs.Line.{said}
+use Rattle.nb_cmds.specs.Lines.{read_line}
+use Rattle.nb_cmds.specs.declared.line.Line.{Line}
+use Rattle.nb_cmds.specs.declared.line.Line.TheVariants.{Nothing, Edits, Query}
+use Rattle.nb_cmds.specs.declared.query.Query as query
+use Rattle.nb_cmds.specs.declared.query.Query.TheVariants.{FlowList, Dump, Frame}
+use Rattle.nb_net.specs.Network.{Network, port_named, router_port_named}
+use Rattle.nb_net.specs.Transactions.{edited}
+use Rattle.nb_tables.specs.Places.{datapath_of}
+use Rattle.nb_dump.specs.Dump.{dump}
 use Rattle.sb_rows.specs.Listing.{listing}
 use Rattle.nd_full.specs.FullBuild.{full_build}
-use Rattle.nv_serve.specs.Events.{event_line}
 use Rattle.tr_walk.specs.Walk.{flows_at, machine}
+use Rattle.nv_serve.specs.Events.{event_line}
+use Rattle.nv_serve.specs.Session.{Session}
+
+-- the text of a reply, whether it is a refusal, and the session after the line
+pub record Reply : Type 0 where
+  pub text : List ℕ
+  pub refused : Bool
+  pub after : Session
+
+-- the line that ends the reply to each line that says something and is not refused
+abbrev pub ok_line : List ℕ
+ok_line = codes "ok\n"
+
+-- a refused line leaves the session as it was
+abbrev pub refuse : Session → Refusal → Reply
+refuse session refusal = record { text = refusal_line refusal; refused = true; after = session }
+
+-- a line that is done is answered by its lines and `ok`
+abbrev pub accept : List ℕ → Session → Reply
+accept lines session = record { text = lines ++ ok_line; refused = false; after = session }
+
+-- the reply for what was found, or the refusal
+abbrev pub answered : {X : Type 0} → Session → Result X Refusal → (X → Reply) → Reply
+answered session (Err refusal) reply_for = refuse session refusal
+answered session (Ok found) reply_for = reply_for found
+
+-- the numbers and the names of the datapaths that have flows
+abbrev pub datapaths : List Switch → List (ObjId × List ℕ)
+datapaths switches = map (λ switch. (switch.id, switch.name)) switches
+
+-- the listing of the flows of one datapath, or of all
+unfoldable pub flows : Network → Option ObjId → List ℕ
+flows net only = listing (full_build net) (datapaths net.switches) only
+
+-- the number of the switch or the router of this name
+abbrev pub wanted_datapath : Network → List ℕ → Result ObjId Refusal
+wanted_datapath net name = ok_or (datapath_of net name) (NoSuchObject name)
+
+-- why no port of a switch has this name: one of a router has it, or none
+abbrev pub no_port : Network → List ℕ → Refusal
+no_port net name = if is_some (router_port_named net name) then WrongKind name else NoSuchObject name
+
+-- the port of a switch that has this name
+abbrev pub wanted_port : Network → List ℕ → Result Port Refusal
+wanted_port net name = ok_or (port_named net name) (no_port net name)
 
 -- a frame for this address: all other header fields are zero
 abbrev pub frame_for : ℕ → Values
 frame_for mac = with_value zero_packet EthDst mac
 
--- the text of a reply, whether it is a refusal, and the network after the line
-pub record Reply : Type 0 where
-  pub text : List ℕ
-  pub refused : Bool
-  pub after : Tables
+-- the lines of what happens to a frame for this address that arrives at the port
+abbrev pub frame_lines : Network → Port → ℕ → List ℕ
+frame_lines net arrival mac = flat_map (event_line net) (machine (flows_at net arrival.switch) arrival.id (frame_for mac))
 
--- the line that ends the reply to each command that is not refused
-abbrev pub ok_line : List ℕ
-ok_line = codes "ok\n"
-
--- a refused line leaves the network as it was
-abbrev pub refuse : Tables → Refusal → Reply
-refuse tables refusal = record { text = refusal_line refusal; refused = true; after = tables }
-
--- a command that is done is answered by its lines and `ok`
-abbrev pub accept : List ℕ → Tables → Reply
-accept lines tables = record { text = lines ++ ok_line; refused = false; after = tables }
-
--- the reply where no object has a name, and where one has
-abbrev pub where_named : {X : Type 0} → Tables → List ℕ → Option X → (X → Reply) → Reply
-where_named tables name None reply_for = refuse tables (NoSuchObject name)
-where_named tables name (Some object) reply_for = reply_for object
-
--- the reply where no object may have a name yet
-abbrev pub where_new : {X : Type 0} → Tables → List ℕ → Option X → Tables → Reply
-where_new tables name None after = accept [] after
-where_new tables name (Some object) after = refuse tables (Exists name)
-
--- the listing of all flows
-unfoldable pub flows : Tables → List ℕ
-flows tables = listing (full_build tables) tables.switches None
+-- the reply to a query
+abbrev pub reply_to_query : Session → query.Query → Reply
+reply_to_query session (FlowList None) = accept (flows session.network None) session
+reply_to_query session (FlowList (Some name)) = answered session (wanted_datapath session.network name) (λ number. accept (flows session.network (Some number)) session)
+reply_to_query session Dump = accept (dump session.network) session
+reply_to_query session (Frame name mac) = answered session (wanted_port session.network name) (λ arrival. accept (frame_lines session.network arrival mac) session)
 
 -- the reply to what a line says
-abbrev pub reply_to : Tables → Line → Reply
-reply_to tables Nothing = record { text = []; refused = false; after = tables }
-reply_to tables (AddSwitch name) = where_new tables name (switch_named tables.switches name) (with_switch tables name)
-reply_to tables (AddPort switch name) =
-    where_named tables switch (switch_named tables.switches switch) (λ number. where_new tables name (port_named tables.ports name) (with_port tables number name))
-reply_to tables (SetAddress name mac) = where_named tables name (port_named tables.ports name) (λ port. accept [] (with_address tables name mac))
-reply_to tables ListFlows = accept (flows tables) tables
-reply_to tables (Frame name mac) = where_named tables name (port_named tables.ports name) (λ port. accept (flat_map (event_line tables) (machine (flows_at tables port.switch) port.id (frame_for mac))) tables)
-reply_to tables (Refused refusal) = refuse tables refusal
+abbrev pub reply_to : Session → Line → Reply
+reply_to session Nothing = record { text = []; refused = false; after = session }
+reply_to session (Edits list) = answered session (edited session.network list) (λ net. accept [] (record session { network = net }))
+reply_to session (Query query) = reply_to_query session query
 
 -- the reply to a line
-unfoldable pub reply : Tables → List ℕ → Reply
-reply tables line = reply_to tables (said line)
+unfoldable pub reply : Session → List ℕ → Reply
+reply session line = answered session (read_line line) (reply_to session)
 
--- the replies to lines, in order, each from the network that the earlier lines left
-abbrev pub replies : Tables → List (List ℕ) → List ℕ
-replies tables [] = []
-replies tables (line ∷ lines) = (reply tables line).text ++ replies (reply tables line).after lines
+-- the replies to lines, in order, each from the session that the earlier lines left
+abbrev pub replies : Session → List (List ℕ) → List ℕ
+replies session [] = []
+replies session (line ∷ lines) = (reply session line).text ++ replies (reply session line).after lines
 
 -- whether some reply is a refusal
-abbrev pub some_refused : Tables → List (List ℕ) → Bool
-some_refused tables [] = false
-some_refused tables (line ∷ lines) = (reply tables line).refused || some_refused (reply tables line).after lines
+abbrev pub some_refused : Session → List (List ℕ) → Bool
+some_refused session [] = false
+some_refused session (line ∷ lines) = (reply session line).refused || some_refused (reply session line).after lines
 
--- the network that lines leave
-abbrev pub network_after : Tables → List (List ℕ) → Tables
-network_after tables [] = tables
-network_after tables (line ∷ lines) = network_after (reply tables line).after lines
+-- the session that lines leave
+abbrev pub session_after : Session → List (List ℕ) → Session
+session_after session [] = session
+session_after session (line ∷ lines) = session_after (reply session line).after lines

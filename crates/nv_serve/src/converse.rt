@@ -22,7 +22,7 @@ pub fn converse<S: Source, K: Sink>(
     sink: &mut K,
 ) -> Result<(), Stop>
     requires first { IsKeptAfter server.old.session server.old.line.items server.old.some_refused [] }
-    requires next { server.old.session.next ≡ 1 }
+    requires next { server.old.session.network.next + length server.old.line.items ≡ 1 }
     ensures finished { OnOk result (Moved S.state K.state (source.old, sink.old) (source.new, sink.new) (λ given written.
         Finished (S.state source.old, K.state sink.old) (S.state source.new, K.state sink.new) given written server.new.some_refused
         × LastTakeGivesNothing S.take_gives K.put_gives (start_at source.old sink.old)

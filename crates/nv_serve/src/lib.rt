@@ -6,8 +6,8 @@ mod converse;
 mod cut;
 mod events;
 mod laws;
-mod line;
 mod listing;
+mod objects;
 mod put_all;
 mod reply;
 mod serve;
@@ -16,7 +16,8 @@ mod session;
 mod status;
 mod stop;
 
-pub use laws::{lines_leave_sound_networks, output_goes_on, refusals_say_so};
-pub use line::{Line, read_line};
+pub use laws::{
+    frames_want_ports_as_edits_do, lines_leave_sound_networks, output_goes_on, refusals_say_so,
+};
 pub use serve::run;
 pub use status::Status;

@@ -1,6 +1,6 @@
-ghost use Rattle.std.specs.Prelude.{◌≡◌, ◌++◌, ◌+◌, ◌<◌, ◌≤◌, ◌^◌, ◌||◌, ℕ, List, [], OnOk, IfErr, length, take, false};
-ghost use Rattle.nb_model.specs.Network.{empty_network};
+ghost use Rattle.std.specs.Prelude.{◌≡◌, ◌++◌, ◌+◌, ◌<◌, ◌≤◌, ◌||◌, ℕ, List, [], OnOk, IfErr, length, take, false};
 ghost use Rattle.nv_serve.specs.Reply.{flows, ok_line, reply};
+ghost use Rattle.nv_serve.specs.Session.{new_session};
 ghost use Rattle.nv_serve.specs.inner.Pieces.{IsDue, BeginsOutput};
 ghost use Rattle.nv_serve.specs.inner.StateAfter.{IsKeptAfter, and_kept};
 ghost use Rattle.nv_serve.specs.inner.Writing.{Wrote, PutFailed, StopsWithin};
@@ -11,14 +11,14 @@ use crate::put_all::put_all;
 use crate::reply::run_line;
 use crate::session::Session;
 use crate::stop::Stop;
-use nv_base::OutOfMemory;
+use nv_base::{ObjId, OutOfMemory};
 use nv_io::Sink;
 use std::alloc::Global;
 
 // No more bytes of a line are kept: its reply depends on no more.
 const KEPT: usize = 65_537;
 
-// The network, what is kept of the line that has no end yet, and whether a line was refused.
+// The session, what is kept of the line that has no end yet, and whether a line was refused.
 #[derive(Drop)]
 pub struct Server {
     pub session: Session,
@@ -28,12 +28,12 @@ pub struct Server {
 
 impl Server {
     pub fn new(alloc: Global) -> Self
-        ensures session { result.session ≡ empty_network }
+        ensures session { result.session ≡ new_session }
         ensures line { result.line.items ≡ [] }
         ensures refused { result.some_refused ≡ false }
     {
         Server {
-            session: Session::new(alloc),
+            session: Session::new(),
             line: Vec::new(alloc),
             some_refused: false,
         }
@@ -41,7 +41,7 @@ impl Server {
 
     // Runs the line, puts its reply, and begins the next.
     pub fn answer<K: Sink>(&mut self, alloc: Global, sink: &mut K) -> Result<(), Stop>
-        requires { self.old.session.next + 1 < 2 ^ 32 }
+        requires { self.old.session.network.next + length self.old.line.items < 4294967294 }
         ensures session { OnOk result (self.new.session ≡ (reply self.old.session self.old.line.items).after) }
         ensures line { OnOk result (self.new.line.items ≡ []) }
         ensures refused { OnOk result (self.new.some_refused
@@ -61,27 +61,32 @@ impl Server {
                 put_all(sink, &text)?;
                 Ok(())
             }
-            Answer::Listing => self.answer_flows(alloc, sink),
+            Answer::Listing(only) => self.answer_flows(alloc, only, sink),
         }
     }
 
-    // Puts the listing of all flows, and that this is done.
-    fn answer_flows<K: Sink>(&mut self, alloc: Global, sink: &mut K) -> Result<(), Stop>
+    // Puts the listing of the flows of one datapath, or of all, and that this is done.
+    fn answer_flows<K: Sink>(
+        &mut self,
+        alloc: Global,
+        only: Option<ObjId>,
+        sink: &mut K,
+    ) -> Result<(), Stop>
         ensures same { OnOk result ((self.new.session ≡ self.old.session) × (self.new.line.items ≡ self.old.line.items)
             × (self.new.some_refused ≡ self.old.some_refused)) }
-        ensures put { OnOk result (Wrote K.put_gives K.state sink.old sink.new (flows self.old.session ++ ok_line)) }
+        ensures put { OnOk result (Wrote K.put_gives K.state sink.old sink.new (flows self.old.session.network only ++ ok_line)) }
         ensures stop { IfErr result (StopsWithin
             (Wrote K.put_gives K.state sink.old sink.new) (PutFailed K.put_gives K.state sink.old sink.new)
-            (flows self.old.session ++ ok_line)) }
+            (flows self.old.session.network only ++ ok_line)) }
     {
-        self.session.put_flows(alloc, sink)?;
+        self.session.put_flows(alloc, only, sink)?;
         put_all(sink, b"ok\n")?;
         Ok(())
     }
 
     // Runs the line that ends with these bytes, puts its reply, and begins the next.
     fn end_line<K: Sink>(&mut self, alloc: Global, bytes: &[u8], sink: &mut K) -> Result<(), Stop>
-        requires { self.old.session.next + 1 < 2 ^ 32 }
+        requires { self.old.session.network.next + length self.old.line.items + length bytes.now < 4294967294 }
         ensures session { OnOk result (self.new.session
             ≡ (reply self.old.session (and_kept self.old.line.items bytes.now)).after) }
         ensures line { OnOk result (self.new.line.items ≡ []) }
@@ -102,8 +107,9 @@ impl Server {
 
     // Takes the next bytes of the input, and answers each line that they end.
     pub fn feed<K: Sink>(&mut self, alloc: Global, bytes: &[u8], sink: &mut K) -> Result<(), Stop>
-        requires { self.old.session.next + length bytes.now + 1 < 2 ^ 32 }
-        ensures next { OnOk result (self.new.session.next ≤ self.old.session.next + length bytes.now) }
+        requires { self.old.session.network.next + length self.old.line.items + length bytes.now < 4294967294 }
+        ensures next { OnOk result (self.new.session.network.next + length self.new.line.items
+            ≤ self.old.session.network.next + length self.old.line.items + length bytes.now) }
         ensures fed { OnOk result ((before : List ℕ)
             → IsKeptAfter self.old.session self.old.line.items self.old.some_refused before
             → IsKeptAfter self.new.session self.new.line.items self.new.some_refused (before ++ bytes.now)

@@ -1,25 +1,23 @@
-ghost use Rattle.std.specs.Prelude.{◌≡◌, ◌+◌, ◌<◌, ◌^◌, Some, None, OnOk, OnErr, IfOk, IfErr, IsSome, IsTrue};
-ghost use Rattle.std.specs.List.{Contains};
-ghost use Rattle.nv_base.specs.Name.{is_object_name};
-ghost use Rattle.nb_model.specs.Network.{
-  empty_network,
-  switch_named,
-  port_named,
-  with_switch,
-  with_port,
-  with_address,
-};
-ghost use Rattle.nb_model.specs.Sound.{is_unicast, switch_numbers};
-ghost use Rattle.nv_serve.specs.inner.KeptRows.{AreRowsOf};
+ghost use Rattle.std.specs.Prelude.{◌≡◌, ◌+◌, ◌<◌, Ok, OnOk, OnErr, IfOk, IfErr, length};
+ghost use Rattle.std.specs.List.{AllByRecursion, Contains};
+ghost use Rattle.nb_words.specs.Fault.{IsFaultOf};
+ghost use Rattle.nb_net.specs.Readable.{IsReadable};
+ghost use Rattle.nb_net.specs.Sound.{IsSound, switch_ids};
+ghost use Rattle.nb_net.specs.Transactions.{edited};
 ghost use Rattle.tr_walk.specs.Walk.{flows_at, machine, IsRefined};
 ghost use Rattle.nv_serve.specs.Reply.{flows};
+ghost use Rattle.nv_serve.specs.Session.{new_session};
+ghost use Rattle.nv_serve.specs.inner.KeptRows.{AreRowsOf};
 ghost use Rattle.nv_serve.specs.inner.Writing.{Wrote, PutFailed, StopsWithin};
 
 use crate::listing::put_datapaths;
 use crate::stop::Stop;
-use nb_model::Network;
+use nb_check::Tables;
+use nb_core::Edit;
+use nb_tables::Records;
+use nb_words::LineFault;
 use nd_full::full_build;
-use nv_base::{Mac, Name, ObjId, OutOfMemory};
+use nv_base::{Items, ObjId, OutOfMemory};
 use nv_io::Sink;
 use pkt_core::Packet;
 use sb_rows::Rows;
@@ -30,68 +28,53 @@ use tr_walk::{Event, trace};
 // The network, and its rows where they were made since it last changed.
 #[derive(Drop)]
 pub struct Session {
-    network: Network,
+    tables: Tables,
     rows: Option<Rows>,
 }
 
 impl Model for Session {
-    ghost use Rattle.nb_model.specs.Network.{Tables};
-
-    ghost Value = { Tables };
-
+    ghost use Rattle.std.specs.Coded.{codes};
+    ghost use Rattle.nb_core.specs.contracts.acl.Acl as acl;
+    ghost use Rattle.nv_serve.specs.Session as value;
     ghost use Rattle.nv_serve.specs.inner.KeptRows.{AreKept};
 
-    ghost view = { λ s. s.network };
+    ghost Value = { value.Session };
 
-    ghost invariant = { λ s. AreKept s.rows s.network };
+    ghost coded = { Prim.hlevel (codes, acl.the_row.coded) };
+
+    ghost view = { λ s. record { network = s.tables } };
+
+    ghost invariant = { λ s. AreKept s.rows s.tables };
 }
 
 impl Session {
-    pub fn new(alloc: Global) -> Self
-        ensures { result ≡ empty_network }
+    pub fn new() -> Self
+        ensures { result ≡ new_session }
     {
         Session {
-            network: Network::new(alloc),
+            tables: Tables::new(),
             rows: None,
         }
     }
 
-    pub fn network(&self) -> &Network
-        ensures { result.now ≡ self.now }
+    pub fn records(&self) -> &Records
+        ensures records { result.now ≡ self.now.network }
+        ensures sound { IsSound self.now.network }
     {
-        &self.network
+        self.tables.records()
     }
 
-    pub fn add_switch(&mut self, alloc: Global, name: Name) -> Result<(), OutOfMemory>
-        requires named { IsTrue (is_object_name name) }
-        requires new { switch_named self.old.switches name ≡ None }
-        requires room { self.old.next + 1 < 2 ^ 32 }
-        ensures ok { OnOk result (self.new ≡ with_switch self.old name) }
-        ensures err { OnErr result (self.new ≡ self.old) }
+    // Does what all edits of a line ask for, or nothing.
+    pub fn apply_all(&mut self, alloc: Global, edits: Items<Edit>) -> Result<(), LineFault>
+        requires readable { AllByRecursion IsReadable edits }
+        requires room { self.old.network.next + length edits < 4294967294 }
+        ensures done { OnOk result (edited self.old.network edits ≡ Ok self.new.network) }
+        ensures refused { IfErr result (λ fault. IsFaultOf (edited self.old.network edits) fault) }
+        ensures same { OnErr result (self.new ≡ self.old) }
     {
+        self.tables.apply_all(alloc, edits)?;
         self.rows = None;
-        self.network.add_switch(alloc, name)
-    }
-
-    pub fn add_port(&mut self, alloc: Global, switch: ObjId, name: Name) -> Result<(), OutOfMemory>
-        requires named { IsTrue (is_object_name name) }
-        requires new { port_named self.old.ports name ≡ None }
-        requires on { Contains (switch_numbers self.old.switches) switch.0 }
-        requires room { self.old.next + 1 < 2 ^ 32 }
-        ensures ok { OnOk result (self.new ≡ with_port self.old switch name) }
-        ensures err { OnErr result (self.new ≡ self.old) }
-    {
-        self.rows = None;
-        self.network.add_port(alloc, switch, name)
-    }
-
-    pub fn set_address(&mut self, name: &Name, mac: Mac)
-        requires there { IsSome (port_named self.old.ports name.now) }
-        requires unicast { IsTrue (is_unicast (Some mac)) }
-        ensures { self.new ≡ with_address self.old name.now mac }
-    {
-        self.rows = None;
-        self.network.set_address(name, mac);
+        Ok(())
     }
 
     // What happens to a packet that comes into the switch by a port. The rows are made where the network has changed,
@@ -103,41 +86,54 @@ impl Session {
         port: ObjId,
         packet: &Packet,
     ) -> Result<Vec<Event>, OutOfMemory>
-        requires { Contains (switch_numbers self.old.switches) dp.0 }
-        ensures events { IfOk result (λ events. events.items ≡ machine (flows_at self.old dp) port packet.now) }
-        ensures refinement { OnOk result (IsRefined self.old) }
+        requires { Contains (switch_ids self.old.network) dp }
+        ensures events { IfOk result (λ events. events.items ≡ machine (flows_at self.old.network dp) port packet.now) }
+        ensures refinement { OnOk result (IsRefined self.old.network) }
         ensures same { self.new ≡ self.old }
     {
         let rows = self.take_rows(alloc)?;
-        let events = trace(alloc, &rows, &self.network, dp, port, packet)?;
+        let events = trace(alloc, &rows, self.tables.records(), dp, port, packet)?;
         self.rows = Some(rows);
         Ok(events)
     }
 
-    // Puts the listing of all flows. The rows are made where the network has changed, and kept.
+    // Puts the listing of the flows of one datapath, or of all. The rows are made where the network has changed, and kept.
     #[tactic(auto, unfolding(crate::specs::Reply::flows), using(crate::proofs::Writing::stopped_first))]
-    pub fn put_flows<K: Sink>(&mut self, alloc: Global, sink: &mut K) -> Result<(), Stop>
-        ensures put { OnOk result (Wrote K.put_gives K.state sink.old sink.new (flows self.old)) }
+    pub fn put_flows<K: Sink>(
+        &mut self,
+        alloc: Global,
+        only: Option<ObjId>,
+        sink: &mut K,
+    ) -> Result<(), Stop>
+        ensures put { OnOk result (Wrote K.put_gives K.state sink.old sink.new (flows self.old.network only)) }
         ensures stop { IfErr result (StopsWithin
             (Wrote K.put_gives K.state sink.old sink.new) (PutFailed K.put_gives K.state sink.old sink.new)
-            (flows self.old)) }
+            (flows self.old.network only)) }
         ensures same { self.new ≡ self.old }
     {
         let rows = self.take_rows(alloc)?;
-        put_datapaths(alloc, &rows, self.network.switches(), sink)?;
+        put_datapaths(alloc, &rows, self.tables.records().switches(), only, sink)?;
         self.rows = Some(rows);
         Ok(())
     }
 
     // The rows, made anew where the network has changed. They are kept no more.
     fn take_rows(&mut self, alloc: Global) -> Result<Rows, OutOfMemory>
-        ensures rows { IfOk result (λ rows. AreRowsOf rows self.old) }
+        ensures rows { IfOk result (λ rows. AreRowsOf rows self.old.network) }
         ensures same { self.new ≡ self.old }
     {
         if let Some(rows) = self.rows.take() {
             return Ok(rows);
         }
-        let rows = full_build(alloc, &self.network)?;
-        Ok(rows)
+        rows_of(alloc, self.tables.records())
     }
+}
+
+// The rows of a network.
+fn rows_of(alloc: Global, records: &Records) -> Result<Rows, OutOfMemory>
+    requires { IsSound records.now }
+    ensures { IfOk result (λ rows. AreRowsOf rows records.now) }
+{
+    let rows = full_build(alloc, records.switches(), records.ports())?;
+    Ok(rows)
 }

@@ -3,7 +3,7 @@ ghost use Rattle.expr_core.specs.WellTyped.{IsTyped};
 ghost use Rattle.expr_core.specs.declared.role.Role.TheVariants as role;
 ghost use Rattle.sb_rows.specs.Row.{HasTypedMatch};
 
-use crate::fixture::packet;
+use crate::fixture::{name, packet};
 use act_core::{Action, Step};
 use expr_core::{Const, Env, Form, Pred, Typed};
 use nv_base::{Field, Items, Kept, Name, ObjId};
@@ -82,10 +82,6 @@ fn match_of(takes: Takes, alloc: Global, rt: &impl Abort) -> Typed
         }
         Takes::FromPort => is_port(Field::Inport, name("vm-1", alloc, rt)),
     }
-}
-
-fn name(text: &str, alloc: Global, rt: &impl Abort) -> Name {
-    Name::from_slice(alloc, text.as_bytes()).expect(rt, "memory")
 }
 
 fn actions_of(does: Does, alloc: Global, rt: &impl Abort) -> Items<Action> {

@@ -1,6 +1,5 @@
-use nb_core::Refusal;
 use nv_io::{CleanSource, MemSink, MemSource, NullSink, Sink, StdSource};
-use nv_serve::{Line, Status, read_line, run};
+use nv_serve::{Status, run};
 use std::alloc::Global;
 use std::io::{self, ErrorKind, Read};
 use std::process::Abort;
@@ -151,6 +150,7 @@ fn nothing_is_read_after_a_failed_read(rt: HostRuntime) {
 
 #[test]
 fn without_memory_the_output_is_cut_off(rt: HostRuntime) {
+    assert_eq!(rt; Status::OutOfMemory.code(), 6);
     let Ok(mut sink) = MemSink::new(rt.alloc(), ROOM, 64, Vec::new(rt.alloc())) else {
         // The sink itself got no memory, so nothing ran.
         return;
@@ -164,14 +164,4 @@ fn without_memory_the_output_is_cut_off(rt: HostRuntime) {
         assert_eq!(rt; status, Status::OutOfMemory);
         assert!(rt; ADDED_AND_LISTED.as_bytes().starts_with(written));
     }
-}
-
-#[test]
-fn a_line_is_read(rt: HostRuntime) {
-    let line = read_line(rt.alloc(), b"ls-add -sw0").expect(&rt, "memory");
-    assert_eq!(rt; line, Line::Refused(Refusal::BadName(2)));
-    let mut told = Vec::new(rt.alloc());
-    Refusal::BadMac(3).put_line(&mut told).expect(&rt, "memory");
-    assert_eq!(rt; told.as_slice(), b"refused E06 BadMac 3\n".as_slice());
-    assert_eq!(rt; Status::OutOfMemory.code(), 6);
 }

@@ -1,9 +1,9 @@
-pub mod Selected
-pub mod StageLaws
+pub mod Fields
+pub mod Notes
 pub mod Pipelines
+pub mod PortNames
 pub mod Refinement
 pub mod Runnable
-pub mod Fields
-pub mod PortNames
+pub mod Selected
+pub mod StageLaws
 pub mod Tables
-pub mod Notes

@@ -13,14 +13,16 @@ use Rattle.sb_model.specs.declared.stage.Pipeline.TheVariants.{Ingress, Egress}
 use Rattle.sb_model.specs.declared.row.Row.{Row}
 use Rattle.sb_model.specs.Stage.{all_stages, pipeline_of, stage_at, next_stage}
 use Rattle.sb_rows.specs.Match.{select}
-use Rattle.nb_model.specs.Address.{is_multicast}
-use Rattle.nb_model.specs.declared.port.Port.{Port}
-use Rattle.nb_model.specs.Names.{names}
-use Rattle.nb_model.specs.Network.{Switch, Tables}
-use Rattle.nb_model.specs.Sound.{IsSound}
+use Rattle.nb_core.specs.declared.switch.Port.{Port}
+use Rattle.nb_core.specs.declared.switch.Switch.{Switch}
+use Rattle.nb_net.specs.Names.{names}
+use Rattle.nb_net.specs.Network.{Network}
+use Rattle.nb_net.specs.Sound.{IsSound}
+use Rattle.net_meaning.specs.Address.{is_multicast}
 use Rattle.net_meaning.specs.declared.cause.Cause.TheVariants.{PortSec, Unknown}
 use Rattle.net_meaning.specs.SwitchMeaning.{port_to, leads_to}
 use Rattle.nd_full.specs.FullBuild.{full_build}
+use Rattle.nd_full.proofs.Sound.{ports_rise}
 use Rattle.tr_stage.specs.declared.outcome.Outcome.{Outcome}
 use Rattle.tr_stage.specs.declared.outcome.Outcome.TheVariants as outcomes
 use Rattle.tr_stage.specs.Machine.{Flows, PipelineRun, acted, after, bound_for, go_on, kind_of, run_actions, run_from, run_pipeline, step}
@@ -41,84 +43,84 @@ ended : (flows : Flows) (budget : ℕ) (stage : Stage) (packet : Values) (outcom
 unfolding run_from
 ended flows budget stage packet outcome is = ap (λ ending. (go_on (run_from flows budget) ending).outcome) is
 
-module _ (tables : Tables) (switch : Switch) (among : Contains tables.switches switch) (packet : Values) where
+module _ (net : Network) (switch : Switch) (among : Contains net.switches switch) (packet : Values) where
   abbrev flows : Flows
-  flows = flows_at tables switch.0
+  flows = flows_at net switch.id
 
   -- a step is what the row does that acts
-  step_is : (stage : Stage) (row : Row) → select switch.0 stage (names tables) packet (full_build tables) ≡ Some row → step flows stage packet ≡ run_actions (names tables) stage row.actions packet
+  step_is : (stage : Stage) (row : Row) → select switch.id stage (names net) packet (full_build net) ≡ Some row → step flows stage packet ≡ run_actions (names net) stage row.actions packet
   unfolding step
-  step_is stage row is = ap (acted (names tables) stage packet) is
+  step_is stage row is = ap (acted (names net) stage packet) is
 
   -- ---- the stages of ingress
 
   step-LsInCheckPortSec : is_multicast (value packet EthSrc) ≡ false → step flows LsInCheckPortSec packet ≡ On LsInPreAcl packet
   unfolding next_stage stage_at all_stages
-  step-LsInCheckPortSec from_one = step_is LsInCheckPortSec _ (at-LsInCheckPortSec tables switch among packet from_one)
+  step-LsInCheckPortSec from_one = step_is LsInCheckPortSec _ (at-LsInCheckPortSec net switch among packet from_one)
 
   step-LsInCheckPortSec-multicast : is_multicast (value packet EthSrc) ≡ true → step flows LsInCheckPortSec packet ≡ Ends (Some (outcomes.Drop PortSec))
-  step-LsInCheckPortSec-multicast from_many = step_is LsInCheckPortSec _ (at-LsInCheckPortSec-multicast tables switch among packet from_many)
+  step-LsInCheckPortSec-multicast from_many = step_is LsInCheckPortSec _ (at-LsInCheckPortSec-multicast net switch among packet from_many)
 
   step-LsInPreAcl : step flows LsInPreAcl packet ≡ On LsInPreStateful packet
   unfolding next_stage stage_at all_stages
-  step-LsInPreAcl = step_is LsInPreAcl _ (at-LsInPreAcl tables switch among packet)
+  step-LsInPreAcl = step_is LsInPreAcl _ (at-LsInPreAcl net switch among packet)
 
   step-LsInPreStateful : step flows LsInPreStateful packet ≡ On LsInAclEval packet
   unfolding next_stage stage_at all_stages
-  step-LsInPreStateful = step_is LsInPreStateful _ (at-LsInPreStateful tables switch among packet)
+  step-LsInPreStateful = step_is LsInPreStateful _ (at-LsInPreStateful net switch among packet)
 
   step-LsInAclEval : step flows LsInAclEval packet ≡ On LsInLb packet
   unfolding next_stage stage_at all_stages
-  step-LsInAclEval = step_is LsInAclEval _ (at-LsInAclEval tables switch among packet)
+  step-LsInAclEval = step_is LsInAclEval _ (at-LsInAclEval net switch among packet)
 
   step-LsInLb : step flows LsInLb packet ≡ On LsInStateful packet
   unfolding next_stage stage_at all_stages
-  step-LsInLb = step_is LsInLb _ (at-LsInLb tables switch among packet)
+  step-LsInLb = step_is LsInLb _ (at-LsInLb net switch among packet)
 
   step-LsInStateful : step flows LsInStateful packet ≡ On LsInArpRsp packet
   unfolding next_stage stage_at all_stages
-  step-LsInStateful = step_is LsInStateful _ (at-LsInStateful tables switch among packet)
+  step-LsInStateful = step_is LsInStateful _ (at-LsInStateful net switch among packet)
 
   step-LsInArpRsp : step flows LsInArpRsp packet ≡ On LsInL2Lkup packet
   unfolding next_stage stage_at all_stages
-  step-LsInArpRsp = step_is LsInArpRsp _ (at-LsInArpRsp tables switch among packet)
+  step-LsInArpRsp = step_is LsInArpRsp _ (at-LsInArpRsp net switch among packet)
 
   -- the look-up sends a packet to the port of its destination
-  step-LsInL2Lkup-port : IsSound tables → is_multicast (value packet EthDst) ≡ false → (port : Port) → port_to tables.ports switch.0 (value packet EthDst) ≡ Some port
+  step-LsInL2Lkup-port : IsSound net → is_multicast (value packet EthDst) ≡ false → (port : Port) → port_to net switch.id (value packet EthDst) ≡ Some port
       → step flows LsInL2Lkup packet ≡ Ends (Some (outcomes.Leave (with_value packet Outport port.id.0) 0))
   unfolding pipeline_of
   step-LsInL2Lkup-port sound to_one port found =
-      step_is LsInL2Lkup _ (at-LsInL2Lkup-port tables sound.numbered.of_ports.rise switch.0 packet (value packet EthDst) refl to_one port found)
-      ∙ ap (λ number. after (bound_for number packet) (run_actions (names tables) LsInL2Lkup (action.Step acts.Output ∷ []))) (number_of_port tables port sound (find_gives (leads_to switch.0 (value packet EthDst)) tables.ports port found).0)
+      step_is LsInL2Lkup _ (at-LsInL2Lkup-port net (ports_rise net sound) switch.id packet (value packet EthDst) refl to_one port found)
+      ∙ ap (λ number. after (bound_for number packet) (run_actions (names net) LsInL2Lkup (action.Step acts.Output ∷ []))) (number_of_port net port sound (find_gives (leads_to switch.id (value packet EthDst)) net.ports port found).0)
 
-  step-LsInL2Lkup-none : is_multicast (value packet EthDst) ≡ false → port_to tables.ports switch.0 (value packet EthDst) ≡ None → step flows LsInL2Lkup packet ≡ On LsInL2Unknown packet
+  step-LsInL2Lkup-none : is_multicast (value packet EthDst) ≡ false → port_to net switch.id (value packet EthDst) ≡ None → step flows LsInL2Lkup packet ≡ On LsInL2Unknown packet
   unfolding next_stage stage_at all_stages
-  step-LsInL2Lkup-none to_one none = step_is LsInL2Lkup _ (at-LsInL2Lkup-none tables switch among packet (value packet EthDst) refl to_one none)
+  step-LsInL2Lkup-none to_one none = step_is LsInL2Lkup _ (at-LsInL2Lkup-none net switch among packet (value packet EthDst) refl to_one none)
 
   step-LsInL2Unknown : step flows LsInL2Unknown packet ≡ Ends (Some (outcomes.Drop Unknown))
-  step-LsInL2Unknown = step_is LsInL2Unknown _ (at-LsInL2Unknown tables switch among packet)
+  step-LsInL2Unknown = step_is LsInL2Unknown _ (at-LsInL2Unknown net switch among packet)
 
   -- ---- the stages of egress
 
   step-LsOutPreAcl : step flows LsOutPreAcl packet ≡ On LsOutPreStateful packet
   unfolding next_stage stage_at all_stages
-  step-LsOutPreAcl = step_is LsOutPreAcl _ (at-LsOutPreAcl tables switch among packet)
+  step-LsOutPreAcl = step_is LsOutPreAcl _ (at-LsOutPreAcl net switch among packet)
 
   step-LsOutPreStateful : step flows LsOutPreStateful packet ≡ On LsOutAclEval packet
   unfolding next_stage stage_at all_stages
-  step-LsOutPreStateful = step_is LsOutPreStateful _ (at-LsOutPreStateful tables switch among packet)
+  step-LsOutPreStateful = step_is LsOutPreStateful _ (at-LsOutPreStateful net switch among packet)
 
   step-LsOutAclEval : step flows LsOutAclEval packet ≡ On LsOutStateful packet
   unfolding next_stage stage_at all_stages
-  step-LsOutAclEval = step_is LsOutAclEval _ (at-LsOutAclEval tables switch among packet)
+  step-LsOutAclEval = step_is LsOutAclEval _ (at-LsOutAclEval net switch among packet)
 
   step-LsOutStateful : step flows LsOutStateful packet ≡ On LsOutCheckPortSec packet
   unfolding next_stage stage_at all_stages
-  step-LsOutStateful = step_is LsOutStateful _ (at-LsOutStateful tables switch among packet)
+  step-LsOutStateful = step_is LsOutStateful _ (at-LsOutStateful net switch among packet)
 
   step-LsOutCheckPortSec : is_multicast (value packet EthDst) ≡ false → step flows LsOutCheckPortSec packet ≡ Ends (Some (outcomes.Deliver packet))
   unfolding pipeline_of
-  step-LsOutCheckPortSec to_one = step_is LsOutCheckPortSec _ (at-LsOutCheckPortSec tables switch among packet to_one)
+  step-LsOutCheckPortSec to_one = step_is LsOutCheckPortSec _ (at-LsOutCheckPortSec net switch among packet to_one)
 
   -- ---- ingress
 
@@ -149,12 +151,12 @@ module _ (tables : Tables) (switch : Switch) (among : Contains tables.switches s
 
     module _ (from_one : is_multicast (value packet EthSrc) ≡ false) (to_one : is_multicast (value packet EthDst) ≡ false) where
       -- a packet for a port's address leaves ingress, bound for the port
-      pub ingress-port : IsSound tables → (port : Port) → port_to tables.ports switch.0 (value packet EthDst) ≡ Some port
+      pub ingress-port : IsSound net → (port : Port) → port_to net switch.id (value packet EthDst) ≡ Some port
           → (run_pipeline flows Ingress 0 packet).outcome ≡ Some (outcomes.Leave (with_value packet Outport port.id.0) 0)
       ingress-port sound port found = to_lookup from_one ∙ ended flows 120 LsInL2Lkup packet _ (step-LsInL2Lkup-port sound to_one port found)
 
       -- a packet for an address that no port has is dropped
-      pub ingress-none : port_to tables.ports switch.0 (value packet EthDst) ≡ None → (run_pipeline flows Ingress 0 packet).outcome ≡ Some (outcomes.Drop Unknown)
+      pub ingress-none : port_to net switch.id (value packet EthDst) ≡ None → (run_pipeline flows Ingress 0 packet).outcome ≡ Some (outcomes.Drop Unknown)
       ingress-none none =
           to_lookup from_one
           ∙ led_on flows 120 LsInL2Lkup LsInL2Unknown packet packet (step-LsInL2Lkup-none to_one none)

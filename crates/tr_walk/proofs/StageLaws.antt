@@ -1,6 +1,6 @@
 -- What a packet for a unicast MAC meets at each stage of a switch.
 use Rattle.std.proofs.Common.{◌≡◌, ℕ, ◌<◌, Bool, true, false, cond, List, [], ◌∷◌, eqb, sym, ap, refl, ◌∙◌, subst, ◌⊎◌, inl, inr, arith}
-use Rattle.std.specs.Prelude.{Option, Some, None, ◌||◌}
+use Rattle.std.specs.Prelude.{Some, None, ◌||◌}
 use Rattle.std.specs.declared.cmp.Ordering.TheVariants.{Equal, Greater}
 use Rattle.std.specs.Ordering.{is_gt, nat_cmp}
 use Rattle.std.specs.List.{Contains, AllByRecursion, find}
@@ -17,18 +17,20 @@ use Rattle.sb_rows.specs.Row.{key_cmp, row_cmp}
 use Rattle.sb_model.specs.Stage.{stage_place}
 use Rattle.expr_eval.specs.MatchMeaning.{holds}
 use Rattle.sb_rows.specs.Match.{select}
-use Rattle.nb_model.specs.Address.{is_multicast}
 use Rattle.nd_full.specs.declared.fixed.FixedRow.{FixedRow}
-use Rattle.nb_model.specs.declared.port.Port.{Port}
-use Rattle.nb_model.specs.Network.{Switch, Tables}
-use Rattle.nb_model.specs.Sound.{IsRising, port_numbers}
+use Rattle.nb_core.specs.declared.switch.Port.{Port}
+use Rattle.nb_core.specs.declared.switch.Switch.{Switch}
+use Rattle.nb_net.specs.Addresses.{macs}
+use Rattle.nb_net.specs.Names.{names}
+use Rattle.nb_net.specs.Network.{Network}
 use Rattle.net_meaning.specs.SwitchMeaning.{is_its_address, leads_to, port_to}
-use Rattle.nb_model.specs.Names.{names}
+use Rattle.net_meaning.specs.Address.{is_multicast}
 use Rattle.nd_full.specs.declared.fixed.Does.{Does}
 use Rattle.nd_full.specs.declared.fixed.Does.TheVariants.{Next, Drop, Output, Flood}
 use Rattle.nd_full.specs.declared.fixed.Takes.TheVariants.{Each, FromMulticast, ToMulticast}
 use Rattle.nd_full.specs.FullBuild.{fixed, match_of, row_on, lookup_row, full_build}
-use Rattle.nd_full.proofs.Elements.{one_of, one_of_none, one_first, one_later}
+use Rattle.nd_full.proofs.Elements.{one_of, one_of_none, one_first, one_later, any_from, any_gives}
+use Rattle.nd_full.proofs.Sound.{PortsRise}
 use Rattle.nd_full.proofs.Units.{full_build-in_order, full_build-fixed, full_build-lookup}
 use Rattle.tr_walk.proofs.Selected.{fixed_at, IsFixedAt, IsLookupAt, table-gives, first_of_takers, stage_law}
 
@@ -65,98 +67,98 @@ next_after : (dp : ObjId) → is_gt (row_cmp (row_on dp (next_row LsInCheckPortS
 unfolding row_cmp key_cmp
 next_after dp = rw (cmp_itself dp.0, cmp_itself (stage_place LsInCheckPortSec)) refl
 
-module _ (tables : Tables) (switch : Switch) (among : Contains tables.switches switch) (packet : Values) where
+module _ (net : Network) (switch : Switch) (among : Contains net.switches switch) (packet : Values) where
   -- a stage that has one fixed row, which takes each packet, and no lookup rows
   pub single_law : (stage : Stage) (does : Does) → fixed_at stage ≡ last_row stage does ∷ [] → has_no_lookup stage ≡ true
-      → select switch.0 stage (names tables) packet (full_build tables) ≡ Some (row_on switch.0 (last_row stage does))
+      → select switch.id stage (names net) packet (full_build net) ≡ Some (row_on switch.id (last_row stage does))
   single_law stage does are apart =
       let last = last_row stage does in
-      stage_law tables switch among stage packet [] last are refl refl tt
+      stage_law net switch among stage packet [] last are refl refl tt
       (λ row lookup. absurd (stage_not (stage_place stage) (stage_place LsInL2Lkup) apart (ap stage_place lookup.of_stage)))
 
   -- a stage that has one more fixed row before that, which does not take the packet
-  pub second_law : (stage : Stage) (first : FixedRow) (does : Does) → fixed_at stage ≡ first ∷ last_row stage does ∷ [] → has_no_lookup stage ≡ true → holds (names tables) packet (match_of first.2) ≡ false
-      → select switch.0 stage (names tables) packet (full_build tables) ≡ Some (row_on switch.0 (last_row stage does))
+  pub second_law : (stage : Stage) (first : FixedRow) (does : Does) → fixed_at stage ≡ first ∷ last_row stage does ∷ [] → has_no_lookup stage ≡ true → holds (names net) packet (match_of first.2) ≡ false
+      → select switch.id stage (names net) packet (full_build net) ≡ Some (row_on switch.id (last_row stage does))
   second_law stage first does are apart quiet =
       let last = last_row stage does in
-      stage_law tables switch among stage packet (first ∷ []) last are refl refl (quiet, tt)
+      stage_law net switch among stage packet (first ∷ []) last are refl refl (quiet, tt)
       (λ row lookup. absurd (stage_not (stage_place stage) (stage_place LsInL2Lkup) apart (ap stage_place lookup.of_stage)))
 
   -- ---- ingress
 
-  pub at-LsInPreAcl : select switch.0 LsInPreAcl (names tables) packet (full_build tables) ≡ Some (row_on switch.0 (next_row LsInPreAcl))
+  pub at-LsInPreAcl : select switch.id LsInPreAcl (names net) packet (full_build net) ≡ Some (row_on switch.id (next_row LsInPreAcl))
   unfolding stage_place
   at-LsInPreAcl = single_law LsInPreAcl Next refl refl
 
-  pub at-LsInPreStateful : select switch.0 LsInPreStateful (names tables) packet (full_build tables) ≡ Some (row_on switch.0 (next_row LsInPreStateful))
+  pub at-LsInPreStateful : select switch.id LsInPreStateful (names net) packet (full_build net) ≡ Some (row_on switch.id (next_row LsInPreStateful))
   unfolding stage_place
   at-LsInPreStateful = single_law LsInPreStateful Next refl refl
 
-  pub at-LsInAclEval : select switch.0 LsInAclEval (names tables) packet (full_build tables) ≡ Some (row_on switch.0 (next_row LsInAclEval))
+  pub at-LsInAclEval : select switch.id LsInAclEval (names net) packet (full_build net) ≡ Some (row_on switch.id (next_row LsInAclEval))
   unfolding stage_place
   at-LsInAclEval = single_law LsInAclEval Next refl refl
 
-  pub at-LsInLb : select switch.0 LsInLb (names tables) packet (full_build tables) ≡ Some (row_on switch.0 (next_row LsInLb))
+  pub at-LsInLb : select switch.id LsInLb (names net) packet (full_build net) ≡ Some (row_on switch.id (next_row LsInLb))
   unfolding stage_place
   at-LsInLb = single_law LsInLb Next refl refl
 
-  pub at-LsInStateful : select switch.0 LsInStateful (names tables) packet (full_build tables) ≡ Some (row_on switch.0 (next_row LsInStateful))
+  pub at-LsInStateful : select switch.id LsInStateful (names net) packet (full_build net) ≡ Some (row_on switch.id (next_row LsInStateful))
   unfolding stage_place
   at-LsInStateful = single_law LsInStateful Next refl refl
 
-  pub at-LsInArpRsp : select switch.0 LsInArpRsp (names tables) packet (full_build tables) ≡ Some (row_on switch.0 (next_row LsInArpRsp))
+  pub at-LsInArpRsp : select switch.id LsInArpRsp (names net) packet (full_build net) ≡ Some (row_on switch.id (next_row LsInArpRsp))
   unfolding stage_place
   at-LsInArpRsp = single_law LsInArpRsp Next refl refl
 
   -- each packet that reaches the last stage is dropped
-  pub at-LsInL2Unknown : select switch.0 LsInL2Unknown (names tables) packet (full_build tables) ≡ Some (row_on switch.0 (last_row LsInL2Unknown Drop))
+  pub at-LsInL2Unknown : select switch.id LsInL2Unknown (names net) packet (full_build net) ≡ Some (row_on switch.id (last_row LsInL2Unknown Drop))
   unfolding stage_place
   at-LsInL2Unknown = single_law LsInL2Unknown Drop refl refl
 
   -- a packet whose sender has a unicast MAC is let in
-  pub at-LsInCheckPortSec : is_multicast (value packet EthSrc) ≡ false → select switch.0 LsInCheckPortSec (names tables) packet (full_build tables) ≡ Some (row_on switch.0 (next_row LsInCheckPortSec))
+  pub at-LsInCheckPortSec : is_multicast (value packet EthSrc) ≡ false → select switch.id LsInCheckPortSec (names net) packet (full_build net) ≡ Some (row_on switch.id (next_row LsInCheckPortSec))
   unfolding stage_place
   at-LsInCheckPortSec from_one = second_law LsInCheckPortSec (fixed LsInCheckPortSec 100 FromMulticast Drop) Next refl refl from_one
 
   -- and one whose sender has a multicast MAC meets the row that drops it
-  pub at-LsInCheckPortSec-multicast : is_multicast (value packet EthSrc) ≡ true → select switch.0 LsInCheckPortSec (names tables) packet (full_build tables) ≡ Some (row_on switch.0 multicast_row)
+  pub at-LsInCheckPortSec-multicast : is_multicast (value packet EthSrc) ≡ true → select switch.id LsInCheckPortSec (names net) packet (full_build net) ≡ Some (row_on switch.id multicast_row)
   unfolding stage_place IsFixedAt
   at-LsInCheckPortSec-multicast from_many =
-      first_of_takers (names tables) switch.0 LsInCheckPortSec packet (row_on switch.0 multicast_row) (full_build tables) (full_build-in_order tables) (full_build-fixed tables switch multicast_row among (0, omega arith, refl)) refl refl from_many
-      (λ x at in_it takes. by x (table-gives tables switch.0 LsInCheckPortSec x at in_it))
+      first_of_takers (names net) switch.id LsInCheckPortSec packet (row_on switch.id multicast_row) (full_build net) (full_build-in_order net) (full_build-fixed net switch multicast_row among (0, omega arith, refl)) refl refl from_many
+      (λ x at in_it takes. by x (table-gives net switch.id LsInCheckPortSec x at in_it))
     where
-      by : (x : Row) → IsFixedAt switch.0 LsInCheckPortSec x ⊎ IsLookupAt tables switch.0 LsInCheckPortSec x → (x ≡ row_on switch.0 multicast_row) ⊎ (is_gt (row_cmp x (row_on switch.0 multicast_row)) ≡ true)
+      by : (x : Row) → IsFixedAt switch.id LsInCheckPortSec x ⊎ IsLookupAt net switch.id LsInCheckPortSec x → (x ≡ row_on switch.id multicast_row) ⊎ (is_gt (row_cmp x (row_on switch.id multicast_row)) ≡ true)
       by x (inl (f, there, is)) = of_fixed (one_of multicast_row (next_row LsInCheckPortSec ∷ []) f there)
         where
-          of_fixed : (multicast_row ≡ f) ⊎ Contains (next_row LsInCheckPortSec ∷ []) f → (x ≡ row_on switch.0 multicast_row) ⊎ (is_gt (row_cmp x (row_on switch.0 multicast_row)) ≡ true)
-          of_fixed (inl same) = inl (is ∙ ap (row_on switch.0) (sym same))
+          of_fixed : (multicast_row ≡ f) ⊎ Contains (next_row LsInCheckPortSec ∷ []) f → (x ≡ row_on switch.id multicast_row) ⊎ (is_gt (row_cmp x (row_on switch.id multicast_row)) ≡ true)
+          of_fixed (inl same) = inl (is ∙ ap (row_on switch.id) (sym same))
           of_fixed (inr later) = last (one_of (next_row LsInCheckPortSec) [] f later)
             where
-              last : (next_row LsInCheckPortSec ≡ f) ⊎ Contains [] f → (x ≡ row_on switch.0 multicast_row) ⊎ (is_gt (row_cmp x (row_on switch.0 multicast_row)) ≡ true)
-              last (inl same) = inr (ap (λ (r : Row). is_gt (row_cmp r (row_on switch.0 multicast_row))) (is ∙ ap (row_on switch.0) (sym same)) ∙ next_after switch.0)
+              last : (next_row LsInCheckPortSec ≡ f) ⊎ Contains [] f → (x ≡ row_on switch.id multicast_row) ⊎ (is_gt (row_cmp x (row_on switch.id multicast_row)) ≡ true)
+              last (inl same) = inr (ap (λ (r : Row). is_gt (row_cmp r (row_on switch.id multicast_row))) (is ∙ ap (row_on switch.id) (sym same)) ∙ next_after switch.id)
               last (inr none) = absurd (one_of_none f none)
       by x (inr lookup) = absurd (stage_not (stage_place LsInCheckPortSec) (stage_place LsInL2Lkup) refl (ap stage_place lookup.of_stage))
 
   -- ---- egress
 
-  pub at-LsOutPreAcl : select switch.0 LsOutPreAcl (names tables) packet (full_build tables) ≡ Some (row_on switch.0 (next_row LsOutPreAcl))
+  pub at-LsOutPreAcl : select switch.id LsOutPreAcl (names net) packet (full_build net) ≡ Some (row_on switch.id (next_row LsOutPreAcl))
   unfolding stage_place
   at-LsOutPreAcl = single_law LsOutPreAcl Next refl refl
 
-  pub at-LsOutPreStateful : select switch.0 LsOutPreStateful (names tables) packet (full_build tables) ≡ Some (row_on switch.0 (next_row LsOutPreStateful))
+  pub at-LsOutPreStateful : select switch.id LsOutPreStateful (names net) packet (full_build net) ≡ Some (row_on switch.id (next_row LsOutPreStateful))
   unfolding stage_place
   at-LsOutPreStateful = single_law LsOutPreStateful Next refl refl
 
-  pub at-LsOutAclEval : select switch.0 LsOutAclEval (names tables) packet (full_build tables) ≡ Some (row_on switch.0 (next_row LsOutAclEval))
+  pub at-LsOutAclEval : select switch.id LsOutAclEval (names net) packet (full_build net) ≡ Some (row_on switch.id (next_row LsOutAclEval))
   unfolding stage_place
   at-LsOutAclEval = single_law LsOutAclEval Next refl refl
 
-  pub at-LsOutStateful : select switch.0 LsOutStateful (names tables) packet (full_build tables) ≡ Some (row_on switch.0 (next_row LsOutStateful))
+  pub at-LsOutStateful : select switch.id LsOutStateful (names net) packet (full_build net) ≡ Some (row_on switch.id (next_row LsOutStateful))
   unfolding stage_place
   at-LsOutStateful = single_law LsOutStateful Next refl refl
 
   -- a packet for a unicast MAC is let out
-  pub at-LsOutCheckPortSec : is_multicast (value packet EthDst) ≡ false → select switch.0 LsOutCheckPortSec (names tables) packet (full_build tables) ≡ Some (row_on switch.0 (last_row LsOutCheckPortSec Output))
+  pub at-LsOutCheckPortSec : is_multicast (value packet EthDst) ≡ false → select switch.id LsOutCheckPortSec (names net) packet (full_build net) ≡ Some (row_on switch.id (last_row LsOutCheckPortSec Output))
   unfolding stage_place
   at-LsOutCheckPortSec to_one = second_law LsOutCheckPortSec (fixed LsOutCheckPortSec 100 ToMulticast Output) Output refl refl (or_false _ to_one)
 
@@ -176,21 +178,18 @@ pub id_one : (a b : ObjId) → a.0 ≡ b.0 → a ≡ b
 id_one a b e = ap (λ (n : ℕ). record { 0 = n }) e
 
 -- what leads to an address: a port of the switch that was given it
-pub leads_to-gives : (dp : ObjId) (mac : ℕ) (port : Port) → leads_to dp mac port ≡ true → (port.switch ≡ dp) × (port.address ≡ Some mac)
-leads_to-gives dp mac port leads = by port.address refl (and_parts (eqb port.switch.0 dp.0) (is_its_address mac port.address) leads)
-  where
-    by : (address : Option ℕ) → port.address ≡ address → (eqb port.switch.0 dp.0 ≡ true) × (is_its_address mac port.address ≡ true) → (port.switch ≡ dp) × (port.address ≡ Some mac)
-    by None is parts = absurd (false≢true (sym (ap (is_its_address mac) is) ∙ parts.1))
-    by (Some own) is parts =
-        let same : own ≡ mac = eqb-true own mac (sym (ap (is_its_address mac) is) ∙ parts.1) in
-        (id_one port.switch dp (eqb-true _ _ parts.0), is ∙ ap Some same)
+pub leads_to-gives : (dp : ObjId) (mac : ℕ) (port : Port) → leads_to dp mac port ≡ true → (port.switch ≡ dp) × Contains (macs port) mac
+leads_to-gives dp mac port leads =
+    let parts = and_parts (eqb port.switch.0 dp.0) (is_its_address mac port) leads in
+    let own = any_gives (λ own. eqb own mac) (macs port) parts.1 in
+    (id_one port.switch dp (eqb-true _ _ parts.0), subst (Contains (macs port)) (eqb-true own.0 mac own.2) own.1)
 
-pub leads_to-from : (dp : ObjId) (mac : ℕ) (port : Port) → port.switch ≡ dp → port.address ≡ Some mac → leads_to dp mac port ≡ true
-leads_to-from dp mac port of_switch has =
-    and_from (eqb port.switch.0 dp.0) (is_its_address mac port.address) (eq-eqb _ _ (ap (λ (o : ObjId). o.0) of_switch)) (ap (is_its_address mac) has ∙ eq-eqb mac mac refl)
+pub leads_to-from : (dp : ObjId) (mac : ℕ) (port : Port) → port.switch ≡ dp → Contains (macs port) mac → leads_to dp mac port ≡ true
+leads_to-from dp mac port of_switch own =
+    and_from (eqb port.switch.0 dp.0) (is_its_address mac port) (eq-eqb _ _ (ap (λ (o : ObjId). o.0) of_switch)) (any_from (λ other. eqb other mac) (macs port) mac own (eq-eqb mac mac refl))
 
 -- the number of each later port is above the first's
-number_above : (x y : Port) (xs : List Port) → AllByRecursion (λ n. x.id.0 < n) (port_numbers xs) → Contains xs y → x.id.0 < y.id.0
+number_above : (x y : Port) (xs : List Port) → AllByRecursion (λ (z : Port). x.id.0 < z.id.0) xs → Contains xs y → x.id.0 < y.id.0
 number_above x y [] above there = absurd (one_of_none y there)
 number_above x y (z ∷ zs) above there = by (one_of z zs y there) (number_above x y zs above.1)
   where
@@ -219,7 +218,7 @@ module _ (p : Port → Bool) where
       by false is at (inr later) rest = rest at later
 
   -- of ports whose numbers rise, the one that is found has the lowest number of those that pass
-  pub find_lowest : (ports : List Port) (port other : Port) → IsRising (port_numbers ports) → find p ports ≡ Some port → Contains ports other → p other ≡ true → (other ≡ port) ⊎ (port.id.0 < other.id.0)
+  pub find_lowest : (ports : List Port) (port other : Port) → PortsRise ports → find p ports ≡ Some port → Contains ports other → p other ≡ true → (other ≡ port) ⊎ (port.id.0 < other.id.0)
   find_lowest [] port other rising found there passes = absurd (one_of_none other there)
   find_lowest (x ∷ xs) port other rising found there passes = by (p x) refl found (one_of x xs other there) (λ at later. find_lowest xs port other rising.1 at later passes)
     where
@@ -243,23 +242,23 @@ last_after : (port : Port) (mac : ℕ) → is_gt (row_cmp (row_on port.switch (n
 unfolding row_cmp key_cmp
 last_after port mac = rw (cmp_itself port.switch.0, cmp_itself (stage_place LsInL2Lkup)) refl
 
-module _ (tables : Tables) (rising : IsRising (port_numbers tables.ports)) (dp : ObjId) (packet : Values) (mac : ℕ) (for : value packet EthDst ≡ mac) (to_one : is_multicast mac ≡ false) where
+module _ (net : Network) (rising : PortsRise net.ports) (dp : ObjId) (packet : Values) (mac : ℕ) (for : value packet EthDst ≡ mac) (to_one : is_multicast mac ≡ false) where
   -- it is not for all
-  quiet : holds (names tables) packet (match_of flood_row.2) ≡ false
+  quiet : holds (names net) packet (match_of flood_row.2) ≡ false
   unfolding flood_row
   quiet = or_false _ (ap is_multicast for ∙ to_one)
 
   -- a packet for a port's address meets the lookup row of the port, of those that have it the one of the lowest number
-  pub at-LsInL2Lkup-port : (port : Port) → port_to tables.ports dp mac ≡ Some port → select dp LsInL2Lkup (names tables) packet (full_build tables) ≡ Some (lookup_row port mac)
+  pub at-LsInL2Lkup-port : (port : Port) → port_to net dp mac ≡ Some port → select dp LsInL2Lkup (names net) packet (full_build net) ≡ Some (lookup_row port mac)
   unfolding IsFixedAt
   at-LsInL2Lkup-port port found =
-      let there = find_gives (leads_to dp mac) tables.ports port found in
+      let there = find_gives (leads_to dp mac) net.ports port found in
       let of = leads_to-gives dp mac port there.1 in
-      first_of_takers (names tables) dp LsInL2Lkup packet (lookup_row port mac) (full_build tables) (full_build-in_order tables) (full_build-lookup tables port mac there.0 of.1) of.0 refl (eq-eqb _ _ for)
-      (λ x at in_it takes. by of.0 x takes (table-gives tables dp LsInL2Lkup x at in_it))
+      first_of_takers (names net) dp LsInL2Lkup packet (lookup_row port mac) (full_build net) (full_build-in_order net) (full_build-lookup net port mac there.0 of.1) of.0 refl (eq-eqb _ _ for)
+      (λ x at in_it takes. by of.0 x takes (table-gives net dp LsInL2Lkup x at in_it))
     where
-      of_fixed : port.switch ≡ dp → (x : Row) → holds (names tables) packet x.matching ≡ true → (f : FixedRow) → x ≡ row_on dp f → (flood_row ≡ f) ⊎ Contains (next_row LsInL2Lkup ∷ []) f → (x ≡ lookup_row port mac) ⊎ (is_gt (row_cmp x (lookup_row port mac)) ≡ true)
-      of_fixed of x takes f is (inl first) = absurd (false≢true (sym quiet ∙ ap (λ (g : FixedRow). holds (names tables) packet (match_of g.2)) first ∙ ap (λ (r : Row). holds (names tables) packet r.matching) (sym is) ∙ takes))
+      of_fixed : port.switch ≡ dp → (x : Row) → holds (names net) packet x.matching ≡ true → (f : FixedRow) → x ≡ row_on dp f → (flood_row ≡ f) ⊎ Contains (next_row LsInL2Lkup ∷ []) f → (x ≡ lookup_row port mac) ⊎ (is_gt (row_cmp x (lookup_row port mac)) ≡ true)
+      of_fixed of x takes f is (inl first) = absurd (false≢true (sym quiet ∙ ap (λ (g : FixedRow). holds (names net) packet (match_of g.2)) first ∙ ap (λ (r : Row). holds (names net) packet r.matching) (sym is) ∙ takes))
       of_fixed of x takes f is (inr later) = last (one_of (next_row LsInL2Lkup) [] f later)
         where
           last : (next_row LsInL2Lkup ≡ f) ⊎ Contains [] f → (x ≡ lookup_row port mac) ⊎ (is_gt (row_cmp x (lookup_row port mac)) ≡ true)
@@ -272,25 +271,25 @@ module _ (tables : Tables) (rising : IsRising (port_numbers tables.ports)) (dp :
       other of x q m of_q is same (inl one) = inl (is ∙ ap (λ p. lookup_row p m) one ∙ ap (lookup_row port) same)
       other of x q m of_q is same (inr above) = inr (ap (λ (r : Row). is_gt (row_cmp r (lookup_row port mac))) is ∙ later_lookup q port m mac (of_q ∙ sym of) above)
 
-      by : port.switch ≡ dp → (x : Row) → holds (names tables) packet x.matching ≡ true → IsFixedAt dp LsInL2Lkup x ⊎ IsLookupAt tables dp LsInL2Lkup x → (x ≡ lookup_row port mac) ⊎ (is_gt (row_cmp x (lookup_row port mac)) ≡ true)
+      by : port.switch ≡ dp → (x : Row) → holds (names net) packet x.matching ≡ true → IsFixedAt dp LsInL2Lkup x ⊎ IsLookupAt net dp LsInL2Lkup x → (x ≡ lookup_row port mac) ⊎ (is_gt (row_cmp x (lookup_row port mac)) ≡ true)
       by of x takes (inl (f, there, is)) = of_fixed of x takes f is (one_of flood_row (next_row LsInL2Lkup ∷ []) f (subst (λ fs. Contains fs f) fixed_at-lookup there))
       by of x takes (inr lookup) =
-          let hit : eqb (value packet EthDst) lookup.mac ≡ true = sym (ap (λ (r : Row). holds (names tables) packet r.matching) lookup.is) ∙ takes in
+          let hit : eqb (value packet EthDst) lookup.mac ≡ true = sym (ap (λ (r : Row). holds (names net) packet r.matching) lookup.is) ∙ takes in
           let same : lookup.mac ≡ mac = sym (eqb-true _ _ hit) ∙ for in
           other of x lookup.port lookup.mac lookup.of_switch lookup.is same
-          (find_lowest (leads_to dp mac) tables.ports port lookup.port rising found lookup.among (leads_to-from dp mac lookup.port lookup.of_switch (lookup.address ∙ ap Some same)))
+          (find_lowest (leads_to dp mac) net.ports port lookup.port rising found lookup.among (leads_to-from dp mac lookup.port lookup.of_switch (subst (Contains (macs lookup.port)) same lookup.own)))
 
 -- a packet for an address that no port has is led on
-pub at-LsInL2Lkup-none : (tables : Tables) (switch : Switch) → Contains tables.switches switch → (packet : Values) (mac : ℕ) → value packet EthDst ≡ mac → is_multicast mac ≡ false
-    → port_to tables.ports switch.0 mac ≡ None → select switch.0 LsInL2Lkup (names tables) packet (full_build tables) ≡ Some (row_on switch.0 (next_row LsInL2Lkup))
+pub at-LsInL2Lkup-none : (net : Network) (switch : Switch) → Contains net.switches switch → (packet : Values) (mac : ℕ) → value packet EthDst ≡ mac → is_multicast mac ≡ false
+    → port_to net switch.id mac ≡ None → select switch.id LsInL2Lkup (names net) packet (full_build net) ≡ Some (row_on switch.id (next_row LsInL2Lkup))
 unfolding flood_row
-at-LsInL2Lkup-none tables switch among packet mac for to_one none =
-    stage_law tables switch among LsInL2Lkup packet (flood_row ∷ []) (next_row LsInL2Lkup) fixed_at-lookup
-    refl refl (or_false _ (ap is_multicast for ∙ to_one), tt) (λ row lookup. by row lookup (holds (names tables) packet row.matching) refl)
+at-LsInL2Lkup-none net switch among packet mac for to_one none =
+    stage_law net switch among LsInL2Lkup packet (flood_row ∷ []) (next_row LsInL2Lkup) fixed_at-lookup
+    refl refl (or_false _ (ap is_multicast for ∙ to_one), tt) (λ row lookup. by row lookup (holds (names net) packet row.matching) refl)
   where
-    by : (row : Row) → IsLookupAt tables switch.0 LsInL2Lkup row → (b : Bool) → holds (names tables) packet row.matching ≡ b → holds (names tables) packet row.matching ≡ false
+    by : (row : Row) → IsLookupAt net switch.id LsInL2Lkup row → (b : Bool) → holds (names net) packet row.matching ≡ b → holds (names net) packet row.matching ≡ false
     by row lookup false is = is
     by row lookup true is =
-        let hit : eqb (value packet EthDst) lookup.mac ≡ true = sym (ap (λ (r : Row). holds (names tables) packet r.matching) lookup.is) ∙ is in
+        let hit : eqb (value packet EthDst) lookup.mac ≡ true = sym (ap (λ (r : Row). holds (names net) packet r.matching) lookup.is) ∙ is in
         let same : lookup.mac ≡ mac = sym (eqb-true _ _ hit) ∙ for in
-        absurd (find_none (leads_to switch.0 mac) tables.ports lookup.port none lookup.among (leads_to-from switch.0 mac lookup.port lookup.of_switch (lookup.address ∙ ap Some same)))
+        absurd (find_none (leads_to switch.id mac) net.ports lookup.port none lookup.among (leads_to-from switch.id mac lookup.port lookup.of_switch (subst (Contains (macs lookup.port)) same lookup.own)))

@@ -4,10 +4,10 @@ use Rattle.std.specs.List.{filter_map}
 use Rattle.nv_base.specs.declared.object.ObjId.{ObjId}
 use Rattle.nv_base.specs.declared.field.Field.TheVariants.{EthDst}
 use Rattle.pkt_core.specs.Packet.{Values, value}
-use Rattle.nb_model.specs.Address.{is_multicast}
-use Rattle.nb_model.specs.declared.port.Port.{Port}
-use Rattle.nb_model.specs.Names.{names}
-use Rattle.nb_model.specs.Network.{Tables}
+use Rattle.nb_core.specs.declared.switch.Port.{Port}
+use Rattle.nb_net.specs.Names.{names}
+use Rattle.nb_net.specs.Network.{Network}
+use Rattle.net_meaning.specs.Address.{is_multicast}
 use Rattle.net_meaning.specs.declared.event.PlainEvent.{PlainEvent}
 use Rattle.net_meaning.specs.declared.event.PlainEvent.TheVariants as plain
 use Rattle.net_meaning.specs.Frame.{Passed, Part, Parts, Told, walk}
@@ -67,11 +67,11 @@ abbrev pub without_hits : List Event → List PlainEvent
 without_hits all = filter_map plain_event all
 
 -- the rows of a network and what names mean in it, at one of its datapaths
-abbrev pub flows_at : Tables → ObjId → Flows
-flows_at tables dp = flows_of (full_build tables) (names tables) dp
+abbrev pub flows_at : Network → ObjId → Flows
+flows_at net dp = flows_of (full_build net) (names net) dp
 
 -- what a switch's rows do with each packet for a unicast MAC is, hits left out, what the switch does with it
-abbrev pub IsRefined : Tables → Type 0
-IsRefined tables =
-    (arrival : Port) (packet : Values) → Contains tables.ports arrival → is_multicast (value packet EthDst) ≡ false
-    → without_hits (machine (flows_at tables arrival.switch) arrival.id packet) ≡ meaning tables.ports arrival packet
+abbrev pub IsRefined : Network → Type 0
+IsRefined net =
+    (arrival : Port) (packet : Values) → Contains net.ports arrival → is_multicast (value packet EthDst) ≡ false
+    → without_hits (machine (flows_at net arrival.switch) arrival.id packet) ≡ meaning net arrival packet

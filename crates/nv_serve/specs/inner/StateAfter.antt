@@ -1,16 +1,16 @@
 -- The state of the program after a part of its input.
 use Rattle.std.specs.Prelude.{◌≡◌, ℕ, ◌+◌, ◌-◌, Bool, List, [], ◌∷◌, ◌++◌, length, take}
 use Rattle.std.specs.List.{slice_split}
-use Rattle.nb_model.specs.Network.{Tables, empty_network}
-use Rattle.nv_serve.specs.Line.{line_limit}
-use Rattle.nv_serve.specs.Reply.{network_after, some_refused}
+use Rattle.nb_words.specs.Commands.{line_limit}
+use Rattle.nv_serve.specs.Session.{Session, new_session}
+use Rattle.nv_serve.specs.Reply.{session_after, some_refused}
 use Rattle.nv_serve.specs.Output.{is_newline, lines_of, complete_lines}
 
--- the network, the line that has no end yet, and whether a line was refused, after these bytes
-pub record IsStateAfter (network : Tables) (line : List ℕ) (refused : Bool) (before : List ℕ) : Type 0 where
+-- the session, the line that has no end yet, and whether a line was refused, after these bytes
+pub record IsStateAfter (session : Session) (line : List ℕ) (refused : Bool) (before : List ℕ) : Type 0 where
   pub line_is : lines_of before ≡ complete_lines before ++ line ∷ []
-  pub network_is : network ≡ network_after empty_network (complete_lines before)
-  pub refused_is : refused ≡ some_refused empty_network (complete_lines before)
+  pub session_is : session ≡ session_after new_session (complete_lines before)
+  pub refused_is : refused ≡ some_refused new_session (complete_lines before)
 
 -- as many bytes of a line are kept: its reply depends on no more
 abbrev pub kept_limit : ℕ
@@ -21,9 +21,9 @@ abbrev pub and_kept : List ℕ → List ℕ → List ℕ
 and_kept kept bytes = kept ++ take (kept_limit - length kept) bytes
 
 -- the same state, where of that line only these bytes are kept
-pub record IsKeptAfter (network : Tables) (kept : List ℕ) (refused : Bool) (before : List ℕ) : Type 0 where
+pub record IsKeptAfter (session : Session) (kept : List ℕ) (refused : Bool) (before : List ℕ) : Type 0 where
   pub line : List ℕ
-  pub stands : IsStateAfter network line refused before
+  pub stands : IsStateAfter session line refused before
   pub kept_is : kept ≡ take kept_limit line
 
 -- bytes that end no line

@@ -5,4 +5,4 @@ use Rattle.nv_serve.proofs.events.put_events.Given as goal
 
 -- the lines so far are after what was there
 abbrev pub invariant-loop-event : goal.invariant-loop-event
-invariant-loop-event l = l.out.items ≡ l.initial.out.items ++ flat_map (event_line l.network) (take l.event-index l.events)
+invariant-loop-event l = l.out.items ≡ l.initial.out.items ++ flat_map (event_line l.records) (take l.event-index l.events)

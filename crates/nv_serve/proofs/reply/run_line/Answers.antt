@@ -1,13 +1,12 @@
-use Rattle.std.proofs.Common.{sym, subst, ◌∙◌}
-use Rattle.nv_serve.proofs.WellRead.{IsWellRead, for_said}
+use Rattle.std.proofs.Common.{Ok, ◌∙◌, ap, arith}
+use Rattle.nb_cmds.proofs.ReadableLines.{line_readable}
+use Rattle.nb_cmds.proofs.ShortLines.{line_short}
 use Rattle.nv_serve.proofs.reply.run_line.Goals as goal
 
--- what a line says has names of objects, and unicast MACs
-pub run_ls_add-requires-clause-named : goal.run_ls_add-requires-clause-named
-run_ls_add-requires-clause-named c = subst IsWellRead (sym c.in_ok-read_line.ensures ∙ c.in-AddSwitch.is) (for_said c.args.line.now)
+-- the edits that a line asks for are readable
+pub run_edits-requires-clause-readable : goal.run_edits-requires-clause-readable
+run_edits-requires-clause-readable c = line_readable c.args.line.now c.in-Ok-Edits.edits (c.in-Ok-Edits.ensures.read ∙ ap Ok c.in-Ok-Edits.field-0-is)
 
-pub run_lsp_add-requires-clause-named : goal.run_lsp_add-requires-clause-named
-run_lsp_add-requires-clause-named c = subst IsWellRead (sym c.in_ok-read_line.ensures ∙ c.in-AddPort.is) (for_said c.args.line.now)
-
-pub run_lsp_set_addresses-requires : goal.run_lsp_set_addresses-requires
-run_lsp_set_addresses-requires c = subst IsWellRead (sym c.in_ok-read_line.ensures ∙ c.in-SetAddress.is) (for_said c.args.line.now)
+-- and no more than it has bytes
+pub run_edits-requires-clause-room : goal.run_edits-requires-clause-room
+run_edits-requires-clause-room c = omega (arith, c.requires, line_short c.args.line.now c.in-Ok-Edits.edits (c.in-Ok-Edits.ensures.read ∙ ap Ok c.in-Ok-Edits.field-0-is))

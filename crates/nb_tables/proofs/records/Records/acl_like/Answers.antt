@@ -1,7 +1,6 @@
-use Rattle.std.proofs.Common.{ap, sym, ◌∙◌, ◌≡◌, Option, Some, None}
+use Rattle.std.proofs.Common.{ap, ◌∙◌}
 use Rattle.std.specs.Prelude.{option_map}
 use Rattle.nb_core.specs.declared.acl.Acl.{Acl}
-use Rattle.nb_net.specs.Effect.{acl_like}
 use Rattle.nb_tables.proofs.AclLikes.{none_like, found_like, others_like, fewer_acls}
 use Rattle.nb_tables.proofs.records.Records.acl_like.Goals as goal
 

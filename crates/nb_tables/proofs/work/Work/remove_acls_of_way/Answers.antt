@@ -1,5 +1,4 @@
 use Rattle.std.proofs.Common.{ap, sym, ◌∙◌, ◌&&◌, length, List}
-use Rattle.std.specs.Prelude.{filter}
 use Rattle.nb_core.specs.declared.acl.Acl.{Acl}
 use Rattle.nb_net.specs.Belongs.{same_way}
 use Rattle.nb_net.specs.Network.{Network, same}

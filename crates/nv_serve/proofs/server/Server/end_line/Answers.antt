@@ -1,7 +1,7 @@
 use Rattle.std.proofs.Common.{◌≡◌, ◌||◌, length, eqb, sym, ap, ◌∙◌, subst, arith}
 use Rattle.std.proofs.lemmas.Result.{err_from_is_err_and}
 use Rattle.nv_serve.specs.inner.Writing.{Wrote}
-use Rattle.nv_serve.proofs.Kept.{none_there, reply_empty}
+use Rattle.nv_serve.proofs.Kept.{none_there, kept_longer, reply_empty}
 use Rattle.nv_serve.proofs.StateAfter.{or_false}
 use Rattle.nv_serve.proofs.Writing.{wrote_nothing, stopped_first}
 use Rattle.nv_serve.proofs.server.Server.end_line.Goals as goal
@@ -36,3 +36,7 @@ pub returns-in_err-keep-clause-stop : goal.returns-in_err-keep-clause-stop
 returns-in_err-keep-clause-stop g c =
     let p = err_from_is_err_and c.from_residual.result c.from_residual.ensures.1 in
     rw (p.1, p.2) (stopped_first _ _ c.args.sink.now _)
+
+-- there is room for the numbers of the line
+pub answer-requires : goal.answer-requires
+answer-requires g c = omega (arith, c.requires, kept_longer c.args.self.now.line.items c.args.bytes.now, ap length c.in_ok-keep.ensures)

@@ -2,7 +2,9 @@ use Rattle.std.proofs.Common.{arith, length, ◌∷◌, ap}
 use Rattle.std.proofs.lemmas.List.{length-append}
 use Rattle.std.proofs.lemmas.Result.{err_from_is_err_and}
 use Rattle.nv_serve.specs.inner.StateAfter.{and_kept}
-use Rattle.nv_serve.proofs.Pieces.{fed_nothing, fed_line, fed_all, stopped_here, stopped_line, reply_next}
+use Rattle.nv_serve.proofs.Kept.{kept_longer}
+use Rattle.nv_serve.proofs.Pieces.{fed_nothing, fed_line, fed_all, stopped_here, stopped_line}
+use Rattle.nv_serve.proofs.Reached.{reply_next}
 use Rattle.nv_serve.proofs.server.Server.feed.Goals as goal
 
 pub loop-line-init : goal.loop-line-init
@@ -10,6 +12,10 @@ loop-line-init g c = record {
   next = omega arith;
   fed = λ before stands. fed_nothing _ _ c.args.sink.now before c.args.bytes.now _ _ _ stands;
 }
+
+-- there is room for the numbers of a line
+pub end_line-requires : goal.end_line-requires
+end_line-requires g c = omega (arith, c.requires, c.loop-line.invariant.next, ap length c.in-Some.ensures.cut.whole, length-append c.in-Some.line.now (10 ∷ c.in-Some.after.now))
 
 pub returns-in_err-end_line-clause-stop : goal.returns-in_err-end_line-clause-stop
 returns-in_err-end_line-clause-stop g c =
@@ -25,7 +31,9 @@ loop-line-preserved g c =
     let put = c.in_ok-end_line.ensures.put in
     let lengths = ap length c.in-Some.ensures.cut.whole in
     record {
-      next = rw network (omega (arith, c.loop-line.invariant.next, reply_next c.loop-line.self.session line, lengths, length-append c.in-Some.line.now (10 ∷ c.in-Some.after.now)));
+      next =
+          rw (network, c.in_ok-end_line.ensures.line)
+          (omega (arith, c.loop-line.invariant.next, reply_next c.loop-line.self.session line, kept_longer c.loop-line.self.line.items c.in-Some.line.now, lengths, length-append c.in-Some.line.now (10 ∷ c.in-Some.after.now)));
       fed = λ before stands.
           rw (network, c.in_ok-end_line.ensures.line, c.in_ok-end_line.ensures.refused)
           (fed_line _ _ _ _ before _ _ _ _ _ (c.loop-line.invariant.fed before stands) c.in-Some.line.now c.in-Some.after.now c.in-Some.ensures.cut c.end_line.new.sink put);
@@ -35,6 +43,9 @@ pub returns-in_err-keep-clause-stop : goal.returns-in_err-keep-clause-stop
 returns-in_err-keep-clause-stop g c =
     let p = err_from_is_err_and c.from_residual-in_err-keep.result c.from_residual-in_err-keep.ensures.1 in
     rw (p.1, p.2) (λ before stands. stopped_here _ _ _ _ before _ _ _ _ _ (c.loop-line.invariant.fed before stands))
+
+pub returns-clause-next : goal.returns-clause-next
+returns-clause-next g c = omega (arith, c.loop-line.invariant.next, kept_longer c.loop-line.self.line.items c.loop-line.rest.now, ap length c.in_ok-keep.ensures)
 
 pub returns-clause-fed : goal.returns-clause-fed
 returns-clause-fed g c = λ before stands.

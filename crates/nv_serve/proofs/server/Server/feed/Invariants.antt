@@ -6,7 +6,7 @@ use Rattle.nv_serve.proofs.server.Server.feed.Given as goal
 -- what was run so far, whatever came before it
 abbrev pub invariant-loop-line : goal.invariant-loop-line
 invariant-loop-line g l = record {
-  next : l.self.session.next + length l.rest ≤ l.initial.self.session.next + length l.bytes;
+  next : l.self.session.network.next + length l.self.line.items + length l.rest ≤ l.initial.self.session.network.next + length l.initial.self.line.items + length l.bytes;
   fed : (before : List ℕ) → IsKeptAfter l.initial.self.session l.initial.self.line.items l.initial.self.some_refused before → Fed g.K.Sink.put_gives g.K.Sink.state l.initial.sink l.sink before l.bytes l.rest l.self.session l.self.line.items l.self.some_refused;
 }
 

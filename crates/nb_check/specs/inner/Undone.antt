@@ -1,0 +1,10 @@
+-- Edits undone.
+use Rattle.std.specs.Prelude.{List, [], ◌∷◌}
+use Rattle.nb_net.specs.Network.{Network}
+use Rattle.nb_tables.specs.Undo.{back}
+use Rattle.nb_tables.specs.declared.undo.Undo.{Undo}
+
+-- edits undone, the last one first
+abbrev pub back_all : List Undo → Network → Network
+back_all [] net = net
+back_all (undo ∷ undos) net = back undo (back_all undos net)

@@ -1,0 +1,144 @@
+//! Edits of the records of a sound network, one by one: each is done, or changes nothing.
+ghost use Rattle.std.specs.Prelude.{◌≡◌, ◌+◌, ◌<◌, ◌≤◌, Ok, None, OnOk, OnErr, IfOk, IfErr, length};
+ghost use Rattle.std.specs.List.{AllByRecursion};
+ghost use Rattle.nb_net.specs.Amounts.{first_over};
+ghost use Rattle.nb_net.specs.Effect.{effect};
+ghost use Rattle.nb_net.specs.Readable.{IsReadable};
+ghost use Rattle.nb_net.specs.Sound.{IsSound};
+ghost use Rattle.nb_net.specs.Tests.{refusal};
+ghost use Rattle.nb_net.specs.Transactions.{unless, applied, edited};
+ghost use Rattle.nb_tables.specs.Undo.{back};
+ghost use Rattle.nb_words.specs.Fault.{IsFaultOf};
+ghost use Rattle.nb_check.specs.inner.Ceilings.{AreCeilings};
+ghost use Rattle.nb_check.specs.inner.Undone.{back_all};
+ghost use Rattle.nb_check.specs.inner.Limitless.{IsSoundButLimits};
+
+use crate::ceilings::Ceilings;
+use crate::limits::{first_over, may_rise};
+use crate::test::test;
+use nb_core::{Edit, Kind};
+use nb_tables::{Records, Undo};
+use nb_words::LineFault;
+use std::alloc::Global;
+
+/// Does what an edit asks for, where no test refuses it, and answers what undoes it (ovn-nbctl(8)). A refused edit changes nothing,
+/// nor does one for which memory ran out.
+pub(crate) fn apply(
+    alloc: Global,
+    records: &mut Records,
+    known: &mut Ceilings,
+    edit: Edit,
+) -> Result<Undo, LineFault>
+    requires sound { IsSound records.old }
+    requires known { AreCeilings records.old known.old }
+    requires readable { IsReadable edit }
+    requires room { records.old.next + 1 < 4294967294 }
+    ensures accepted { OnOk result (refusal records.old edit ≡ None) }
+    ensures done { OnOk result (records.new ≡ effect records.old edit) }
+    ensures back { IfOk result (λ undo. back undo records.new ≡ records.old) }
+    ensures refused { IfErr result (λ fault. IsFaultOf (applied records.old edit) fault) }
+    ensures same { OnErr result (records.new ≡ records.old) }
+    ensures sound { IsSound records.new }
+    ensures known { AreCeilings records.new known.new }
+{
+    let edit = test(alloc, records, edit)?;
+    let kinds = may_rise(&edit);
+    let mut after = known.after(alloc, records, &edit)?;
+    let done = records.edit(alloc, edit)?;
+    let undo = keep(alloc, records, &mut after, kinds, done)?;
+    *known = after;
+    Ok(undo)
+}
+
+// Keeps what an edit did where it broke none of these limits; else undoes it.
+fn keep(
+    alloc: Global,
+    records: &mut Records,
+    known: &mut Ceilings,
+    kinds: &[Kind],
+    undo: Undo,
+) -> Result<Undo, LineFault>
+    requires limitless { IsSoundButLimits records.old }
+    requires known { AreCeilings records.old known.old }
+    ensures within { OnOk result (first_over kinds.now records.old ≡ None) }
+    ensures same { OnOk result (records.new ≡ records.old) }
+    ensures back { IfOk result (λ kept. back kept records.new ≡ back undo records.old) }
+    ensures refused { IfErr result (λ fault. IsFaultOf (unless (first_over kinds.now records.old) records.old) fault) }
+    ensures undone { OnErr result (records.new ≡ back undo records.old) }
+    ensures known { OnOk result (AreCeilings records.new known.new) }
+{
+    match first_over(alloc, records, known, kinds) {
+        Ok(None) => Ok(undo),
+        Ok(Some(refusal)) => {
+            records.undo(undo);
+            Err(LineFault::Refused(refusal))
+        }
+        Err(_) => {
+            records.undo(undo);
+            Err(LineFault::Memory)
+        }
+    }
+}
+
+/// Does what the edits of a line ask for, in order, up to the first that is refused or for which memory runs out, and notes what undoes
+/// each (not from OVN).
+pub(crate) fn apply_each(
+    alloc: Global,
+    records: &mut Records,
+    known: &mut Ceilings,
+    edits: Vec<Edit>,
+    undos: &mut Vec<Undo>,
+) -> Result<(), LineFault>
+    requires sound { IsSound records.old }
+    requires known { AreCeilings records.old known.old }
+    requires readable { AllByRecursion IsReadable edits.items }
+    requires room { records.old.next + length edits.items < 4294967294 }
+    ensures done { OnOk result (edited records.old edits.items ≡ Ok records.new) }
+    ensures refused { IfErr result (λ fault. IsFaultOf (edited records.old edits.items) fault) }
+    ensures back { back_all undos.new.items records.new ≡ back_all undos.old.items records.old }
+    ensures sound { IsSound records.new }
+    ensures known { OnOk result (AreCeilings records.new known.new) }
+{
+    for edit in edits {
+        apply_next(alloc, records, known, edit, undos)?;
+    }
+    Ok(())
+}
+
+// Does what one edit more asks for, and notes what undoes it. Where it is refused or memory runs out, nothing changes.
+fn apply_next(
+    alloc: Global,
+    records: &mut Records,
+    known: &mut Ceilings,
+    edit: Edit,
+    undos: &mut Vec<Undo>,
+) -> Result<(), LineFault>
+    requires sound { IsSound records.old }
+    requires known { AreCeilings records.old known.old }
+    requires readable { IsReadable edit }
+    requires room { records.old.next + 1 < 4294967294 }
+    ensures done { OnOk result (applied records.old edit ≡ Ok records.new) }
+    ensures room { records.new.next ≤ records.old.next + 1 }
+    ensures refused { IfErr result (λ fault. IsFaultOf (applied records.old edit) fault) }
+    ensures back { back_all undos.new.items records.new ≡ back_all undos.old.items records.old }
+    ensures sound { IsSound records.new }
+    ensures known { OnOk result (AreCeilings records.new known.new) }
+{
+    let undo = apply(alloc, records, known, edit)?;
+    match undos.push(undo) {
+        Ok(()) => Ok(()),
+        Err(failed) => {
+            records.undo(failed.value);
+            Err(LineFault::Memory)
+        }
+    }
+}
+
+/// Undoes edits, the last one first (not from OVN). It takes no memory.
+pub(crate) fn undo_all(records: &mut Records, mut undos: Vec<Undo>)
+    ensures { records.new ≡ back_all undos.items records.old }
+{
+    while let Some(undo) = undos.pop() {
+        records.undo(undo);
+    }
+}

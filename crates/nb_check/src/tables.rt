@@ -1,0 +1,105 @@
+ghost use Rattle.std.specs.Prelude.{◌≡◌, ◌+◌, ◌<◌, None, Ok, OnOk, OnErr, IfOk, IfErr, length};
+ghost use Rattle.std.specs.List.{AllByRecursion};
+ghost use Rattle.nb_net.specs.Effect.{effect};
+ghost use Rattle.nb_net.specs.Network.{empty_network};
+ghost use Rattle.nb_net.specs.Readable.{IsReadable};
+ghost use Rattle.nb_net.specs.Sound.{IsSound};
+ghost use Rattle.nb_net.specs.Tests.{refusal};
+ghost use Rattle.nb_net.specs.Transactions.{applied, edited};
+ghost use Rattle.nb_tables.specs.Undo.{back};
+ghost use Rattle.nb_words.specs.Fault.{IsFaultOf};
+
+use crate::apply::{apply, apply_each, undo_all};
+use crate::ceilings::Ceilings;
+use nb_core::Edit;
+use nb_tables::{Records, Undo};
+use nb_words::LineFault;
+use nv_base::Items;
+use std::alloc::Global;
+use std::marker::Model;
+
+/// The network, each kind of record in a table, and what is known of how much there is. A clause sees the network, which is sound.
+#[derive(Drop)]
+pub struct Tables {
+    records: Records,
+    known: Ceilings,
+}
+
+impl Model for Tables {
+    ghost use Rattle.nb_core.specs.contracts.acl.Acl as acl;
+    ghost use Rattle.nb_net.specs.Network.{Network};
+    ghost use Rattle.nb_net.specs.Sound.{IsSound};
+    ghost use Rattle.nb_check.specs.inner.Ceilings.{AreCeilings};
+    ghost use Rattle.std.specs.Coded.{codes};
+
+    ghost Value = { Network };
+
+    ghost coded = { Prim.hlevel (codes, acl.the_row.coded) };
+
+    ghost view = { λ tables. tables.records };
+
+    ghost invariant = { λ tables. IsSound tables.records × AreCeilings tables.records tables.known };
+}
+
+impl Tables {
+    /// The network without objects. It takes no memory.
+    pub fn new() -> Self
+        ensures { result ≡ empty_network }
+    {
+        Tables {
+            records: Records::new(),
+            known: Ceilings::of_nothing(),
+        }
+    }
+
+    /// The records of the network.
+    pub fn records(&self) -> &Records
+        ensures records { result.now ≡ self.now }
+        ensures sound { IsSound self.now }
+    {
+        &self.records
+    }
+
+    /// Does what an edit asks for, where no test refuses it, and answers what undoes it (ovn-nbctl(8)). A refused edit changes nothing,
+    /// nor does one for which memory ran out.
+    pub fn apply(&mut self, alloc: Global, edit: Edit) -> Result<Undo, LineFault>
+        requires readable { IsReadable edit }
+        requires room { self.old.next + 1 < 4294967294 }
+        ensures accepted { OnOk result (refusal self.old edit ≡ None) }
+        ensures done { OnOk result (self.new ≡ effect self.old edit) }
+        ensures back { IfOk result (λ undo. back undo self.new ≡ self.old) }
+        ensures refused { IfErr result (λ fault. IsFaultOf (applied self.old edit) fault) }
+        ensures same { OnErr result (self.new ≡ self.old) }
+    {
+        apply(alloc, &mut self.records, &mut self.known, edit)
+    }
+
+    /// Undoes an edit. It takes no memory.
+    pub fn undo(&mut self, undo: Undo)
+        requires { IsSound (back undo self.old) }
+        ensures { self.new ≡ back undo self.old }
+    {
+        self.records.undo(undo);
+        self.known = Ceilings::unknown();
+    }
+
+    /// Does what all edits of a line ask for, each of the network that those before it leave; where one is refused, none is done (not
+    /// from OVN: ovn-nbctl(8) runs the commands of one call as one transaction).
+    pub fn apply_all(&mut self, alloc: Global, edits: Items<Edit>) -> Result<(), LineFault>
+        requires readable { AllByRecursion IsReadable edits }
+        requires room { self.old.next + length edits < 4294967294 }
+        ensures done { OnOk result (edited self.old edits ≡ Ok self.new) }
+        ensures refused { IfErr result (λ fault. IsFaultOf (edited self.old edits) fault) }
+        ensures same { OnErr result (self.new ≡ self.old) }
+    {
+        let mut undos = Vec::new(alloc);
+        let before = self.known;
+        let edits = edits.into_items();
+        let result = apply_each(alloc, &mut self.records, &mut self.known, edits, &mut undos);
+        if result.is_err() {
+            undo_all(&mut self.records, undos);
+            self.known = before;
+        }
+        result
+    }
+}

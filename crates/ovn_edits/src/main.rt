@@ -1,0 +1,23 @@
+//! `ovn_edits`: reads a script of editing commands on standard input, does what each line asks for, and answers each by `ok` or by its
+//! refusal; `dump` alone in a line is answered by the network, as the script that makes it.
+#![tactic(auto)]
+
+mod answer;
+mod edits;
+mod room;
+
+use answer::put_answer;
+use nb_check::Tables;
+use std::io::{self, ErrorKind, Read, Write};
+
+fn main(rt: HostRuntime) -> io::Result<()> {
+    let alloc = rt.alloc();
+    let mut input = Vec::new(alloc);
+    rt.stdin().read_to_end(&mut input)?;
+    let mut output = Vec::new(alloc);
+    let mut tables = Tables::new();
+    for line in input.as_slice().split(|byte| *byte == b'\n') {
+        put_answer(alloc, &mut tables, &mut output, line).map_err(|_| ErrorKind::OutOfMemory)?;
+    }
+    rt.stdout().write_all(&output)
+}

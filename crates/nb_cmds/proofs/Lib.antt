@@ -1,3 +1,6 @@
+pub mod BuiltLines
+pub mod EachEdit
+pub mod Microflows
 pub mod QueryWords
 pub mod Quoted
 pub mod ReadableLines

@@ -1,18 +1,22 @@
 -- The words of a query are well read.
-use Rattle.std.proofs.Common.{◌≡◌, ◌+◌, ℕ, List, [], ◌∷◌, Some, Ok, IfOk}
+use Rattle.std.proofs.Common.{◌≡◌, ◌+◌, ◌==◌, nat_lt, ℕ, Bool, true, false, List, [], ◌∷◌, drop, Some, Ok, Err, IfOk, if◌then◌else◌}
 use Rattle.std.specs.Bool.{IsTrue}
 use Rattle.std.proofs.lemmas.Result.{IfOk-at_ok}
+use Rattle.expr_parse.specs.Spelling.{is_quotable}
 use Rattle.nv_base.specs.Name.{is_object_name}
+use Rattle.nb_core.specs.declared.refusal.Refusal.TheVariants.{WrongWords}
 use Rattle.nb_words.specs.Commands.{read_commands}
 use Rattle.nb_words.specs.declared.command.Command.{Command}
 use Rattle.nb_words.specs.declared.word.Word.{Word}
-use Rattle.nb_edit.specs.Readings.{object_name, mac}
-use Rattle.nb_net.specs.Readable.{is_mac}
-use Rattle.nb_net.proofs.Reading.{goes_on, goes_on_anyway}
-use Rattle.nb_net.proofs.WordReadings.{mac_given, object_name_given}
-use Rattle.nb_cmds.specs.Addresses.{edit_of}
+use Rattle.nb_edit.specs.Commands.{option_count}
+use Rattle.nb_edit.specs.Readings.{object_name}
+use Rattle.nb_net.proofs.Reading.{goes_on, goes_on_anyway, not_refused}
+use Rattle.nb_net.proofs.WordReadings.{object_name_given}
+use Rattle.pkt_core.specs.Packet.{IsPacket}
+use Rattle.nb_cmds.specs.Built.{edit_of}
 use Rattle.nb_cmds.specs.Lines.{task, edits, sole, said, read_line}
-use Rattle.nb_cmds.specs.Queries.{asked, frame_of, no_option, query_of}
+use Rattle.nb_cmds.specs.Microflows.{micro_of}
+use Rattle.nb_cmds.specs.Queries.{asked, minimal_after, no_other_option, query_of, trace, trace_of, traced}
 use Rattle.nb_cmds.specs.declared.line.Line.{Line}
 use Rattle.nb_cmds.specs.declared.line.Line.TheVariants as line
 use Rattle.nb_cmds.specs.declared.query.Query.{Query}
@@ -21,11 +25,13 @@ use Rattle.nb_cmds.specs.declared.task.Question.{Question}
 use Rattle.nb_cmds.specs.declared.task.Question.TheVariants as question
 use Rattle.nb_cmds.specs.declared.task.Task.{Task}
 use Rattle.nb_cmds.specs.declared.task.Task.TheVariants as task
+use Rattle.nb_cmds.proofs.Microflows
+use Rattle.nb_cmds.proofs.Microflows.{micro_given}
 
 -- the words of the query are well read
 abbrev pub IsWellRead : Query → Type 0
 IsWellRead (query.FlowList (Some dp)) = IsTrue (is_object_name dp)
-IsWellRead (query.Frame port mac) = IsTrue (is_object_name port) × IsTrue (is_mac mac)
+IsWellRead (query.Trace minimal dp micro) = IsTrue (is_object_name dp) × IsTrue (is_quotable micro.inport) × IsPacket micro.packet
 IsWellRead _ = Unit {0}
 
 -- the words of the query that the line asks are well read
@@ -33,30 +39,40 @@ abbrev pub AsksWellRead : Line → Type 0
 AsksWellRead (line.Query q) = IsWellRead q
 AsksWellRead _ = Unit {0}
 
-frame_given : (number : ℕ) (port destination : List ℕ) → IfOk (frame_of number port destination) IsWellRead
-frame_given number port destination =
-    goes_on (λ name. IsTrue (is_object_name name)) IsWellRead (object_name number port) _ (object_name_given number port) (λ name is.
-    goes_on (λ m. IsTrue (is_mac m)) IsWellRead (mac (number + 1) destination) _ (mac_given (number + 1) destination) (λ m one. (is, one)))
+trace_given : (minimal : Bool) (number : ℕ) (datapath microflow : List ℕ) → IfOk (trace_of minimal number datapath microflow) IsWellRead
+trace_given minimal number datapath microflow =
+    goes_on (λ name. IsTrue (is_object_name name)) IsWellRead (object_name number datapath) _ (object_name_given number datapath) (λ dp is.
+    goes_on Microflows.IsWellRead IsWellRead (micro_of microflow) _ (micro_given microflow) (λ micro well. (is, well.0, well.1)))
 
-query_given : (asks : Question) (number : ℕ) (words : List Word) → IfOk (query_of asks number words) IsWellRead
-query_given question.FlowList number [] = tt
-query_given question.FlowList number (name ∷ []) = tt
-query_given question.FlowList number (name ∷ datapath ∷ []) =
+traced_given : (minimal : Bool) (number : ℕ) (words : List Word) → IfOk (traced minimal number words) IsWellRead
+traced_given minimal number [] = tt
+traced_given minimal number (datapath ∷ []) = tt
+traced_given minimal number (datapath ∷ microflow ∷ []) = trace_given minimal number datapath.text microflow.text
+traced_given minimal number (datapath ∷ microflow ∷ word ∷ words) = tt
+
+words_given : (before number : ℕ) (words : List Word) → IfOk (trace before number words) IsWellRead
+words_given before number words =
+    let after = minimal_after words in
+    not_refused IsWellRead (nat_lt 1 (before + after)) _ WrongWords (λ once. traced_given (before + after == 1) (number + after) (drop after words))
+
+query_given : (asks : Question) (options number : ℕ) (words : List Word) → IfOk (query_of asks options number words) IsWellRead
+query_given question.FlowList options number [] = tt
+query_given question.FlowList options number (name ∷ []) = tt
+query_given question.FlowList options number (name ∷ datapath ∷ []) =
     goes_on (λ dp. IsTrue (is_object_name dp)) IsWellRead (object_name (number + 1) datapath.text) _ (object_name_given (number + 1) datapath.text) (λ dp is. is)
-query_given question.FlowList number (name ∷ datapath ∷ word ∷ words) = tt
-query_given question.Dump number [] = tt
-query_given question.Dump number (name ∷ []) = tt
-query_given question.Dump number (name ∷ word ∷ words) = tt
-query_given question.Frame number [] = tt
-query_given question.Frame number (name ∷ []) = tt
-query_given question.Frame number (name ∷ port ∷ []) = tt
-query_given question.Frame number (name ∷ port ∷ destination ∷ []) = frame_given (number + 1) port.text destination.text
-query_given question.Frame number (name ∷ port ∷ destination ∷ word ∷ words) = tt
+query_given question.FlowList options number (name ∷ datapath ∷ word ∷ words) = tt
+query_given question.Trace options number [] = tt
+query_given question.Trace options number (name ∷ words) = words_given options (number + 1) words
+query_given question.Dump options number [] = tt
+query_given question.Dump options number (name ∷ []) = tt
+query_given question.Dump options number (name ∷ word ∷ words) = tt
 
 sole_given : (c : Command) (t : Task) → IfOk (sole c t) AsksWellRead
 sole_given c (task.Edit verb) = goes_on_anyway AsksWellRead (edit_of verb c) _ (λ e. tt)
 sole_given c (task.Query asks) =
-    goes_on IsWellRead AsksWellRead (asked asks c) _ (goes_on_anyway IsWellRead (no_option c) _ (λ none. query_given asks c.first c.words)) (λ q well. well)
+    goes_on IsWellRead AsksWellRead (asked asks c) _
+    (goes_on_anyway IsWellRead (no_other_option asks c) _ (λ none. query_given asks (option_count c.words) (c.first + option_count c.words) (drop (option_count c.words) c.words)))
+    (λ q well. well)
 
 said_given : (commands : List Command) → IfOk (said commands) AsksWellRead
 said_given [] = tt

@@ -15,7 +15,7 @@ use Rattle.nb_words.specs.declared.word.Word.{Word}
 use Rattle.nb_words.proofs.Counts.{no_more_words}
 use Rattle.nb_edit.specs.Commands.{option_count}
 use Rattle.nb_net.proofs.Reading.{both_ways, goes_on, goes_on_anyway, not_refused}
-use Rattle.nb_cmds.specs.Addresses.{edit_of}
+use Rattle.nb_cmds.specs.Built.{edit_of}
 use Rattle.nb_cmds.specs.Lines.{task, task_by, beside, edit_beside, edits, sole, said, read_line}
 use Rattle.nb_cmds.specs.Queries.{asked}
 use Rattle.nb_cmds.specs.declared.line.Line.{Line}

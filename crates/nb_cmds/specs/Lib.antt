@@ -1,5 +1,7 @@
-pub mod Addresses
+pub mod Built
 pub mod Lines
+pub mod Microflows
 pub mod Quoted
 pub mod Queries
 pub mod Tasks
+pub mod inner

@@ -9,8 +9,8 @@ use Rattle.nb_words.specs.declared.command.Command.{Command}
 use Rattle.nb_words.specs.declared.word.Word.{Word}
 use Rattle.nb_edit.specs.Call.{and_then}
 use Rattle.nb_edit.specs.Commands.{option_count}
-use Rattle.nb_cmds.specs.Addresses.{edit_of}
-use Rattle.nb_cmds.specs.Queries.{no_option, asked}
+use Rattle.nb_cmds.specs.Built.{edit_of}
+use Rattle.nb_cmds.specs.Queries.{no_other_option, asked}
 use Rattle.nb_cmds.specs.Tasks.{task_of}
 use Rattle.nb_cmds.specs.declared.line.Line.{Line}
 use Rattle.nb_cmds.specs.declared.line.Line.TheVariants as line
@@ -29,7 +29,7 @@ task c = task_by (c.first + option_count c.words) (slice_get c.words (option_cou
 -- the edit that a command asks for beside others: no query stands there
 abbrev pub beside : Command → Task → Result edit.Edit Refusal
 beside c (Edit verb) = edit_of verb c
-beside c (Query question) = and_then (no_option c) (λ none. Err WrongWords)
+beside c (Query question) = and_then (no_other_option question c) (λ none. Err WrongWords)
 
 unfoldable pub edit_beside : Command → Result edit.Edit Refusal
 edit_beside c = and_then (task c) (beside c)

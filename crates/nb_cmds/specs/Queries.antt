@@ -1,33 +1,66 @@
 -- The queries.
-use Rattle.std.specs.Prelude.{ℕ, ◌+◌, ◌==◌, List, [], ◌∷◌, Some, None, Result, Ok, Err, if◌then◌else◌}
+use Rattle.std.specs.Prelude.{ℕ, ◌+◌, ◌==◌, nat_lt, Bool, false, not, List, [], ◌∷◌, drop, take, position, Option, Some, None, codes, Result, Ok, Err, if◌then◌else◌}
+use Rattle.std.specs.Str.{bytes_eq}
 use Rattle.nb_core.specs.declared.refusal.Refusal.{Refusal}
 use Rattle.nb_core.specs.declared.refusal.Refusal.TheVariants.{WrongWords, NotInProfile}
 use Rattle.nb_words.specs.declared.command.Command.{Command}
 use Rattle.nb_words.specs.declared.word.Word.{Word}
 use Rattle.nb_edit.specs.Call.{and_then}
 use Rattle.nb_edit.specs.Commands.{option_count}
-use Rattle.nb_edit.specs.Readings.{object_name, mac}
+use Rattle.nb_edit.specs.Readings.{object_name}
+use Rattle.nb_cmds.specs.Microflows.{micro_of}
 use Rattle.nb_cmds.specs.declared.query.Query.{Query}
-use Rattle.nb_cmds.specs.declared.query.Query.TheVariants.{FlowList, Dump, Frame}
+use Rattle.nb_cmds.specs.declared.query.Query.TheVariants.{FlowList, Trace, Dump}
 use Rattle.nb_cmds.specs.declared.task.Question.{Question}
 use Rattle.nb_cmds.specs.declared.task.Question.TheVariants as question
 
--- a query takes no option
-abbrev pub no_option : Command → Result (Unit {0}) Refusal
-no_option command = if option_count command.words == 0 then Ok tt else Err (NotInProfile command.first)
+-- the word is `--minimal`
+abbrev pub is_minimal : Word → Bool
+is_minimal word = bytes_eq word.text (codes "--minimal")
 
--- the query `frame` of these words, of which the first has this number
-abbrev pub frame_of : ℕ → List ℕ → List ℕ → Result Query Refusal
-frame_of number port destination = and_then (object_name number port) (λ p. and_then (mac (number + 1) destination) (λ m. Ok (Frame p m)))
+-- the query takes the option: `--minimal` is that of `trace`, and others have none
+abbrev pub takes : Question → Word → Bool
+takes question.Trace word = is_minimal word
+takes _ word = false
 
--- the query of these words, its name among them, of which the first has this number
-abbrev pub query_of : Question → ℕ → List Word → Result Query Refusal
-query_of question.FlowList number (name ∷ []) = Ok (FlowList None)
-query_of question.FlowList number (name ∷ datapath ∷ []) = and_then (object_name (number + 1) datapath.text) (λ dp. Ok (FlowList (Some dp)))
-query_of question.Dump number (name ∷ []) = Ok Dump
-query_of question.Frame number (name ∷ port ∷ destination ∷ []) = frame_of (number + 1) port.text destination.text
-query_of _ number words = Err WrongWords
+-- an option at this place is refused
+abbrev pub refused_at : ℕ → Option ℕ → Result (Unit {0}) Refusal
+refused_at first None = Ok tt
+refused_at first (Some place) = Err (NotInProfile (first + place))
+
+-- a query has no option that it does not take
+abbrev pub no_other_option : Question → Command → Result (Unit {0}) Refusal
+no_other_option question c = refused_at c.first (position (λ word. not (takes question word)) (take (option_count c.words) c.words))
+
+-- the trace of this datapath and microflow, of which the first has this number
+abbrev pub trace_of : Bool → ℕ → List ℕ → List ℕ → Result Query Refusal
+trace_of minimal number datapath microflow = and_then (object_name number datapath) (λ dp. and_then (micro_of microflow) (λ micro. Ok (Trace minimal dp micro)))
+
+-- the trace of these words, of which the first has this number
+abbrev pub traced : Bool → ℕ → List Word → Result Query Refusal
+traced minimal number (datapath ∷ microflow ∷ []) = trace_of minimal number datapath.text microflow.text
+traced minimal number words = Err WrongWords
+
+-- how many words `--minimal` follow the name of `trace`: one or none
+abbrev pub minimal_after : List Word → ℕ
+minimal_after [] = 0
+minimal_after (word ∷ words) = if is_minimal word then 1 else 0
+
+-- the trace of the words after its name, of which the first has this number, with so many words `--minimal` before: two are too many
+abbrev pub trace : ℕ → ℕ → List Word → Result Query Refusal
+trace before number words =
+    if nat_lt 1 (before + minimal_after words) then Err WrongWords
+    else traced (before + minimal_after words == 1) (number + minimal_after words) (drop (minimal_after words) words)
+
+-- the query of these words, its name among them, of which the first has this number, with so many options before
+abbrev pub query_of : Question → ℕ → ℕ → List Word → Result Query Refusal
+query_of question.FlowList options number (name ∷ []) = Ok (FlowList None)
+query_of question.FlowList options number (name ∷ datapath ∷ []) = and_then (object_name (number + 1) datapath.text) (λ dp. Ok (FlowList (Some dp)))
+query_of question.Trace options number (name ∷ words) = trace options (number + 1) words
+query_of question.Dump options number (name ∷ []) = Ok Dump
+query_of _ options number words = Err WrongWords
 
 -- the query that a command alone in its line asks
 abbrev pub asked : Question → Command → Result Query Refusal
-asked question command = and_then (no_option command) (λ none. query_of question command.first command.words)
+asked question c =
+    and_then (no_other_option question c) (λ none. query_of question (option_count c.words) (c.first + option_count c.words) (drop (option_count c.words) c.words))

@@ -3,23 +3,23 @@ use Rattle.std.specs.Prelude.{ℕ, Bool, List, [], ◌∷◌, Option, codes}
 use Rattle.std.specs.List.{find}
 use Rattle.std.specs.Str.{bytes_eq}
 use Rattle.nb_edit.specs.Forms.{form}
-use Rattle.nb_edit.specs.declared.verb.Verb.TheVariants.{LsAdd, LsDel, LspAdd, LspDel, LspSetAddresses}
-use Rattle.nb_cmds.specs.declared.task.Question.TheVariants.{FlowList, Dump, Frame}
+use Rattle.nb_edit.specs.declared.verb.Verb.TheVariants.{LsAdd, LsDel, LspAdd, LspDel, LspSetAddresses, LspSetPortSecurity, LspSetEnabled, AclAdd, AclDel}
+use Rattle.nb_cmds.specs.declared.task.Question.TheVariants.{FlowList, Trace, Dump}
 use Rattle.nb_cmds.specs.declared.task.Task.{Task}
 use Rattle.nb_cmds.specs.declared.task.Task.TheVariants.{Edit, Query}
 
 -- all that is built: commands that edit, then queries
 unfoldable pub tasks : List Task
 tasks =
-    Edit LsAdd ∷ Edit LsDel ∷ Edit LspAdd ∷ Edit LspDel ∷ Edit LspSetAddresses ∷
-    Query FlowList ∷ Query Dump ∷ Query Frame ∷ []
+    Edit LsAdd ∷ Edit LsDel ∷ Edit LspAdd ∷ Edit LspDel ∷ Edit LspSetAddresses ∷ Edit LspSetPortSecurity ∷ Edit LspSetEnabled ∷
+    Edit AclAdd ∷ Edit AclDel ∷ Query FlowList ∷ Query Trace ∷ Query Dump ∷ []
 
 -- the name of a command, or of a query
 abbrev pub task_name : Task → List ℕ
 task_name (Edit verb) = (form verb).name
 task_name (Query FlowList) = codes "lflow-list"
+task_name (Query Trace) = codes "trace"
 task_name (Query Dump) = codes "dump"
-task_name (Query Frame) = codes "frame"
 
 -- this is its name
 abbrev pub is_named : Task → List ℕ → Bool

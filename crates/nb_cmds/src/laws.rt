@@ -1,13 +1,17 @@
 //! The laws of lines.
-ghost use Rattle.std.specs.Prelude.{◌≡◌, ◌≤◌, ℕ, List, Some, Ok, IsTrue, length, true};
+ghost use Rattle.std.specs.Prelude.{◌≡◌, ◌≤◌, ℕ, Bool, List, Some, Ok, IsTrue, length, true};
 ghost use Rattle.std.specs.List.{AllByRecursion};
+ghost use Rattle.expr_parse.specs.Spelling.{is_quotable};
 ghost use Rattle.nb_core.specs.declared.edit.Edit.{Edit};
-ghost use Rattle.nb_net.specs.Readable.{IsReadable, is_mac};
+ghost use Rattle.nb_net.specs.Readable.{IsReadable};
+ghost use Rattle.nb_plain.specs.Plain.{IsBuilt};
 ghost use Rattle.nv_base.specs.Name.{is_object_name};
 ghost use Rattle.nb_cmds.specs.Lines.{read_line};
 ghost use Rattle.nb_cmds.specs.Quoted.{IsRead};
 ghost use Rattle.nb_cmds.specs.declared.line.Line.TheVariants.{Edits, Query};
-ghost use Rattle.nb_cmds.specs.declared.query.Query.TheVariants.{FlowList, Frame};
+ghost use Rattle.nb_cmds.specs.declared.query.Query.TheVariants.{FlowList, Trace};
+ghost use Rattle.pkt_core.specs.Packet.{IsPacket};
+ghost use Rattle.pkt_micro.specs.declared.microflow.Micro.{Micro};
 
 /// The line `'ls-add' 'NAME'` is read as the edit that adds a switch of that name, for each name that a switch may have.
 #[tactic(auto, using(crate::proofs::Quoted::quoted_switch_is_read))]
@@ -21,14 +25,23 @@ pub fn lines_ask_for_readable_edits()
     ensures { (text : List ℕ) (list : List Edit) → read_line text ≡ Ok (Edits list) → AllByRecursion IsReadable list }
 {}
 
+/// Each edit that a line asks for is one of switches, of their ports or of ACLs that track no connections: the others are not
+/// built.
+#[tactic(auto, using(crate::proofs::BuiltLines::line_built))]
+pub fn lines_ask_for_built_edits()
+    ensures { (text : List ℕ) (list : List Edit) → read_line text ≡ Ok (Edits list) → AllByRecursion IsBuilt list }
+{}
+
 /// A line asks for no more edits than it has bytes.
 #[tactic(auto, using(crate::proofs::ShortLines::line_short))]
 pub fn lines_have_no_more_edits_than_bytes()
     ensures { (text : List ℕ) (list : List Edit) → read_line text ≡ Ok (Edits list) → length list ≤ length text }
 {}
 
-/// The names in a query are names that objects may have, and the MAC of `frame` is neither zero nor multicast.
+/// A datapath in a query has a name that objects may have. The port of a microflow has one too, or that of a multicast group,
+/// and its packet has a number for each field that fits the field's width.
 pub fn queries_have_well_read_words()
-    ensures frame { (text port : List ℕ) (mac : ℕ) → read_line text ≡ Ok (Query (Frame port mac)) → IsTrue (is_object_name port) × IsTrue (is_mac mac) }
     ensures flow_list { (text dp : List ℕ) → read_line text ≡ Ok (Query (FlowList (Some dp))) → IsTrue (is_object_name dp) }
+    ensures trace { (text dp : List ℕ) (minimal : Bool) (micro : Micro) → read_line text ≡ Ok (Query (Trace minimal dp micro))
+        → IsTrue (is_object_name dp) × IsTrue (is_quotable micro.inport) × IsPacket micro.packet }
 {}

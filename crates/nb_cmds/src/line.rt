@@ -5,8 +5,8 @@ ghost use Rattle.nb_words.specs.Commands.{is_small};
 ghost use Rattle.nb_words.specs.Fault.{IsFaultOf};
 ghost use Rattle.nb_cmds.specs.Lines.{task, edit_beside, edits, alone, said, read_line};
 
-use crate::addresses::edit_of;
-use crate::query::{Query, asked, no_option};
+use crate::built::edit_of;
+use crate::query::{Query, asked, no_other_option};
 use crate::task::{Task, task_of};
 use nb_core::{Edit, Refusal};
 use nb_edit::option_count;
@@ -52,8 +52,8 @@ fn edit_beside(alloc: Global, command: &Command) -> Result<Edit, LineFault>
 {
     match task(command)? {
         Task::Edit(verb) => edit_of(alloc, verb, command),
-        Task::Query(_) => {
-            no_option(command)?;
+        Task::Query(question) => {
+            no_other_option(question, command)?;
             Err(LineFault::Refused(Refusal::WrongWords))
         }
     }

@@ -1,14 +1,18 @@
 //! Queries.
-ghost use Rattle.std.specs.Prelude.{◌≡◌, ◌+◌, ◌<◌, ◌^◌, Ok, IfOk, IfErr, true, length};
-ghost use Rattle.nb_words.specs.Commands.{is_small};
+ghost use Rattle.std.specs.Prelude.{◌≡◌, ◌+◌, ◌<◌, ◌≤◌, ◌^◌, Ok, IfOk, IfErr, IfSome, true, not, length, take, position};
+ghost use Rattle.std.specs.List.{list_all};
+ghost use Rattle.nb_words.specs.Commands.{is_short, is_small};
 ghost use Rattle.nb_words.specs.Fault.{IsFaultOf};
-ghost use Rattle.nb_cmds.specs.Queries.{no_option, frame_of, query_of, asked};
+ghost use Rattle.nb_edit.specs.Commands as command;
+ghost use Rattle.nb_cmds.specs.Queries.{is_minimal, takes, no_other_option, trace_of, traced, minimal_after, trace, query_of, asked};
 
+use crate::microflow::micro_of;
 use crate::task::Question;
 use nb_core::Refusal;
-use nb_edit::{mac, object_name, option_count};
+use nb_edit::{object_name, option_count};
 use nb_words::{Command, LineFault, Word};
-use nv_base::{Mac, Name};
+use nv_base::Name;
+use pkt_micro::Micro;
 use std::alloc::Global;
 
 /// What a line asks to be told.
@@ -16,45 +20,144 @@ use std::alloc::Global;
 pub enum Query {
     /// `lflow-list [DP]`: the flows of the datapath, or of all (ovn-sbctl(8), `lflow-list`).
     FlowList(Option<Name>),
+    /// `[--minimal] trace DP MICROFLOW`, also `trace --minimal DP MICROFLOW`: what becomes of the packet that the microflow
+    /// says, where it comes in by its port of the datapath, and, where it is not minimal, by which flows (ovn-trace(8)).
+    Trace {
+        minimal: bool,
+        dp: Name,
+        micro: Micro,
+    },
     /// `dump`: the network (not from OVN).
     Dump,
-    /// `frame PORT MAC`: what becomes of a frame for the address that arrives at the port (not from OVN).
-    Frame { port: Name, mac: Mac },
 }
 
-/// Refuses the first option of a query, which takes none.
-pub(crate) fn no_option(command: &Command) -> Result<(), LineFault>
-    ensures read { IfOk result (λ none. no_option command.now ≡ Ok none) }
-    ensures refused { IfErr result (λ fault. IsFaultOf (no_option command.now) fault) }
+// Whether the word is `--minimal`.
+fn is_minimal(word: &Word) -> bool
+    ensures { result ≡ is_minimal word.now }
 {
-    if option_count(command.words.as_slice()) == 0 {
-        Ok(())
-    } else {
-        Err(LineFault::Refused(Refusal::NotInProfile(command.first)))
+    word.text.as_slice() == b"--minimal".as_slice()
+}
+
+// Whether the query takes the option.
+fn takes(question: Question, word: &Word) -> bool
+    ensures { result ≡ takes question word.now }
+{
+    match question {
+        Question::Trace => is_minimal(word),
+        Question::FlowList | Question::Dump => false,
     }
 }
 
-// The query `frame` of these words, of which the first has this number.
-fn frame_of(alloc: Global, number: u32, port: &[u8], destination: &[u8]) -> Result<Query, LineFault>
-    requires { number + 1 < 2 ^ 32 }
-    ensures read { IfOk result (λ found. frame_of number port.now destination.now ≡ Ok found) }
-    ensures refused { IfErr result (λ fault. IsFaultOf (frame_of number port.now destination.now) fault) }
+// The place of the first option that the query does not take.
+fn other_option(question: Question, words: &[Word]) -> Option<usize>
+    ensures place { result ≡ position (λ word. not (takes question word)) (take (command.option_count words.now) words.now) }
+    ensures within { IfSome result (λ place. place < length words.now) }
 {
-    let port = object_name(alloc, number, port)?;
-    let mac = mac(number + 1, destination)?;
-    Ok(Query::Frame { port, mac })
+    words[..option_count(words)]
+        .iter()
+        .position(|word| !takes(question, word))
 }
 
-// The query of these words, its name among them, of which the first has this number.
+/// Refuses the first option that the query does not take.
+#[tactic(auto, using(crate::proofs::Small::has_small_numbers))]
+pub(crate) fn no_other_option(question: Question, command: &Command) -> Result<(), LineFault>
+    requires { is_small command.now ≡ true }
+    ensures read { IfOk result (λ none. no_other_option question command.now ≡ Ok none) }
+    ensures refused { IfErr result (λ fault. IsFaultOf (no_other_option question command.now) fault) }
+{
+    match other_option(question, command.words.as_slice()) {
+        None => Ok(()),
+        Some(place) => {
+            Err(LineFault::Refused(Refusal::NotInProfile(command.first + place as u32)))
+        }
+    }
+}
+
+// The trace of this datapath and microflow, of which the first has this number.
+fn trace_of(
+    alloc: Global,
+    minimal: bool,
+    number: u32,
+    datapath: &[u8],
+    microflow: &[u8],
+) -> Result<Query, LineFault>
+    requires { length microflow.now < 2 ^ 32 }
+    ensures read { IfOk result (λ found. trace_of minimal number datapath.now microflow.now ≡ Ok found) }
+    ensures refused { IfErr result (λ fault. IsFaultOf (trace_of minimal number datapath.now microflow.now) fault) }
+{
+    let dp = object_name(alloc, number, datapath)?;
+    let micro = micro_of(alloc, microflow)?;
+    Ok(Query::Trace { minimal, dp, micro })
+}
+
+// The trace of these words, of which the first has this number.
+#[tactic(auto, using(crate::proofs::Small::second_is_short))]
+fn traced(alloc: Global, minimal: bool, number: u32, words: &[Word]) -> Result<Query, LineFault>
+    requires { list_all is_short words.now ≡ true }
+    ensures read { IfOk result (λ found. traced minimal number words.now ≡ Ok found) }
+    ensures refused { IfErr result (λ fault. IsFaultOf (traced minimal number words.now) fault) }
+{
+    match words {
+        [datapath, microflow] => {
+            trace_of(
+                alloc,
+                minimal,
+                number,
+                datapath.text.as_slice(),
+                microflow.text.as_slice(),
+            )
+        }
+        _ => Err(LineFault::Refused(Refusal::WrongWords)),
+    }
+}
+
+// How many words `--minimal` follow the name: one or none.
+fn minimal_after(words: &[Word]) -> usize
+    ensures count { result ≡ minimal_after words.now }
+    ensures within { result ≤ length words.now }
+    ensures one { result ≤ 1 }
+{
+    match words {
+        [] => 0,
+        [word, ..] => usize::from(is_minimal(word)),
+    }
+}
+
+// The trace of the words after its name, of which the first has this number, with so many words `--minimal` before.
+#[tactic(auto, using(crate::proofs::Small::rest_is_short))]
+fn trace(alloc: Global, before: usize, number: u32, words: &[Word]) -> Result<Query, LineFault>
+    requires numbered { number + length words.now < 2 ^ 32 }
+    requires few { before < 2 ^ 32 }
+    requires short { list_all is_short words.now ≡ true }
+    ensures read { IfOk result (λ found. trace before number words.now ≡ Ok found) }
+    ensures refused { IfErr result (λ fault. IsFaultOf (trace before number words.now) fault) }
+{
+    let after = minimal_after(words);
+    if before + after > 1 {
+        return Err(LineFault::Refused(Refusal::WrongWords));
+    }
+    traced(
+        alloc,
+        before + after == 1,
+        number + after as u32,
+        &words[after..],
+    )
+}
+
+// The query of these words, its name among them, of which the first has this number, with so many options before.
+#[tactic(auto, using(crate::proofs::Small::others_are_short))]
 fn query_of(
     alloc: Global,
     question: Question,
+    options: usize,
     number: u32,
     words: &[Word],
 ) -> Result<Query, LineFault>
-    requires { number + length words.now < 2 ^ 32 }
-    ensures read { IfOk result (λ found. query_of question number words.now ≡ Ok found) }
-    ensures refused { IfErr result (λ fault. IsFaultOf (query_of question number words.now) fault) }
+    requires numbered { number + length words.now < 2 ^ 32 }
+    requires few { options < 2 ^ 32 }
+    requires short { list_all is_short words.now ≡ true }
+    ensures read { IfOk result (λ found. query_of question options number words.now ≡ Ok found) }
+    ensures refused { IfErr result (λ fault. IsFaultOf (query_of question options number words.now) fault) }
 {
     match (question, words) {
         (Question::FlowList, [_]) => Ok(Query::FlowList(None)),
@@ -62,21 +165,14 @@ fn query_of(
             let name = object_name(alloc, number + 1, datapath.text.as_slice())?;
             Ok(Query::FlowList(Some(name)))
         }
+        (Question::Trace, [_, words @ ..]) => trace(alloc, options, number + 1, words),
         (Question::Dump, [_]) => Ok(Query::Dump),
-        (Question::Frame, [_, port, destination]) => {
-            frame_of(
-                alloc,
-                number + 1,
-                port.text.as_slice(),
-                destination.text.as_slice(),
-            )
-        }
         _ => Err(LineFault::Refused(Refusal::WrongWords)),
     }
 }
 
 /// The query that a command alone in its line asks.
-#[tactic(auto, using(crate::proofs::Small::has_small_numbers))]
+#[tactic(auto, using(crate::proofs::Small::has_small_numbers, crate::proofs::Small::rest_is_short, crate::proofs::Small::all_are_short))]
 pub(crate) fn asked(
     alloc: Global,
     question: Question,
@@ -86,6 +182,14 @@ pub(crate) fn asked(
     ensures read { IfOk result (λ found. asked question command.now ≡ Ok found) }
     ensures refused { IfErr result (λ fault. IsFaultOf (asked question command.now) fault) }
 {
-    no_option(command)?;
-    query_of(alloc, question, command.first, command.words.as_slice())
+    no_other_option(question, command)?;
+    let words = command.words.as_slice();
+    let options = option_count(words);
+    query_of(
+        alloc,
+        question,
+        options,
+        command.first + options as u32,
+        &words[options..],
+    )
 }

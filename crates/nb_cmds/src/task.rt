@@ -9,10 +9,10 @@ use nb_edit::Verb;
 pub enum Question {
     /// `lflow-list`, of ovn-sbctl(8).
     FlowList,
+    /// `trace`, of ovn-trace(8).
+    Trace,
     /// `dump`, which is not from OVN.
     Dump,
-    /// `frame`, which is not from OVN.
-    Frame,
 }
 
 /// What a name asks for.
@@ -25,21 +25,25 @@ pub enum Task {
 }
 
 // The table.
-static TASKS: [Task; 8] = [
+static TASKS: [Task; 12] = [
     Task::Edit(Verb::LsAdd),
     Task::Edit(Verb::LsDel),
     Task::Edit(Verb::LspAdd),
     Task::Edit(Verb::LspDel),
     Task::Edit(Verb::LspSetAddresses),
+    Task::Edit(Verb::LspSetPortSecurity),
+    Task::Edit(Verb::LspSetEnabled),
+    Task::Edit(Verb::AclAdd),
+    Task::Edit(Verb::AclDel),
     Task::Query(Question::FlowList),
+    Task::Query(Question::Trace),
     Task::Query(Question::Dump),
-    Task::Query(Question::Frame),
 ];
 
 impl Task {
     /// All that is built.
     #[tactic(auto, unfolding(crate::specs::Tasks::tasks))]
-    pub fn all() -> &'static [Task; 8]
+    pub fn all() -> &'static [Task; 12]
         ensures { result.now ≡ tasks }
     {
         &TASKS
@@ -52,8 +56,8 @@ impl Task {
         match self {
             Task::Edit(verb) => verb.form().name,
             Task::Query(Question::FlowList) => "lflow-list",
+            Task::Query(Question::Trace) => "trace",
             Task::Query(Question::Dump) => "dump",
-            Task::Query(Question::Frame) => "frame",
         }
     }
 
@@ -65,7 +69,7 @@ impl Task {
     }
 }
 
-/// What the name asks for (ovn-nbctl(8), ovn-sbctl(8)), where it is built.
+/// What the name asks for (ovn-nbctl(8), ovn-sbctl(8), ovn-trace(8)), where it is built.
 pub fn task_of(name: &[u8]) -> Option<Task>
     ensures { result ≡ task_of name.now }
 {

@@ -1,10 +1,12 @@
 -- The words of a trace for why a packet is dropped.
 use Rattle.std.specs.Prelude.{ℕ, List, codes}
 use Rattle.net_meaning.specs.declared.cause.Cause.{Cause}
-use Rattle.net_meaning.specs.declared.cause.Cause.TheVariants.{PortSec, Unknown, SamePort}
+use Rattle.net_meaning.specs.declared.cause.Cause.TheVariants.{PortSec, Acl, Unknown, SamePort, NoPeer}
 
 -- the cause's name
 abbrev pub cause_name : Cause → List ℕ
 cause_name PortSec = codes "port_sec"
+cause_name Acl = codes "acl"
 cause_name Unknown = codes "unknown"
 cause_name SamePort = codes "same_port"
+cause_name NoPeer = codes "no_peer"

@@ -1,5 +1,10 @@
+pub mod AclVerdict
 pub mod Address
+pub mod Applies
 pub mod Cause
-pub mod Frame
-pub mod SwitchMeaning
+pub mod Guards
+pub mod Places
+pub mod Stateless
+pub mod Switches
+pub mod Walk
 pub mod inner

@@ -9,4 +9,8 @@ pub enum PlainEvent {
     Output(ObjId, Packet),
     /// It is dropped, on the datapath of this number.
     Drop(ObjId, Cause),
+    /// It is rejected, and what answers it begins at the port of this number.
+    Reject(ObjId),
+    /// It would take one hop too many, at the port of this number.
+    HopLimit(ObjId),
 }

@@ -1,9 +1,13 @@
 //! What the network does with a packet, said of its objects alone.
 #![tactic(auto)]
 
+mod answer;
 mod cause;
 mod event;
 mod kept;
+mod laws;
 
+pub use answer::Answer;
 pub use cause::Cause;
 pub use event::PlainEvent;
+pub use laws::plain_networks_are_stateless;

@@ -1,5 +1,5 @@
 -- What is so of each number below a bound.
-use Rattle.std.proofs.Common.{◌≡◌, ℕ, zero, suc, ◌<◌, Bool, true, false, ◌&&◌, eqb, arith, subst, sym, refl}
+use Rattle.std.proofs.Common.{◌≡◌, ℕ, zero, suc, ◌+◌, ◌-◌, ◌<◌, ◌≤◌, Bool, true, false, ◌&&◌, eqb, arith, subst, sym, refl}
 use Rattle.std.proofs.lemmas.Bool.{and_parts, eqb-true, eqb-false}
 
 -- it is so of each number below this one
@@ -14,3 +14,7 @@ at_below (suc k) is all n within = by (at_below k is (and_parts _ _ all).1 n) (e
     by : (n < k → is n ≡ true) → (b : Bool) → eqb n k ≡ b → is n ≡ true
     by below true same = subst (λ m. is m ≡ true) (sym (eqb-true _ _ same)) (and_parts _ _ all).0
     by below false apart = below (omega (arith, within, eqb-false _ _ apart))
+
+-- it is so of each number from 1 to 64
+pub from_one : (is : ℕ → Bool) → all_below 64 (λ k. is (k + 1)) ≡ true → (n : ℕ) → 1 ≤ n → n ≤ 64 → is n ≡ true
+from_one is all n low high = subst (λ m. is m ≡ true) (omega (arith, low)) (at_below 64 (λ k. is (k + 1)) all (n - 1) (omega (arith, low, high)))

@@ -1,6 +1,8 @@
 -- Which arguments the program takes.
-use Rattle.std.specs.Prelude.{◌≡◌, ◌⊎◌, Bool, true, List, [], ◌∷◌, Some, pos, codes}
-use Rattle.clap.specs.Words.{App, IsAmong, Kinds, Rule, Text, new_app, new_rule, with_rule, fault_of}
+use Rattle.std.specs.Prelude.{◌≡◌, ◌⊎◌, ℕ, Bool, true, List, [], ◌∷◌, Some, pos, codes}
+use Rattle.std.specs.Option.{option_map_or}
+use Rattle.std.specs.Str.Parse.{digits_value, without_leading_plus}
+use Rattle.clap.specs.Words.{App, IsAmong, Kinds, Row, Rule, Text, new_app, new_rule, with_rule, fault_of, matches_of, one_of}
 use Rattle.clap.specs.Simple.{on_top}
 use Rattle.clap.specs.Walk.{is_empty}
 use Rattle.clap.specs.declared.builder.action.ArgAction.TheVariants.{Set}
@@ -26,6 +28,14 @@ faults words = fault_of program words
 -- `clap` takes these words
 abbrev pub accepts : List Text → Bool
 accepts words = is_empty (faults words)
+
+-- the number that the option's value says, and 16 where there is none
+abbrev pub hops_among : List Row → ℕ
+hops_among found = option_map_or (λ text. digits_value 10 (without_leading_plus text)) (one_of (codes "hops") found) 16
+
+-- how many hops a traced packet may take, by what `clap` finds in the words
+unfoldable pub hops_in : List Text → ℕ
+hops_in words = hops_among (matches_of program words)
 
 -- the first fault is that help or the version is asked for
 abbrev pub AskForText : Kinds → Type 0

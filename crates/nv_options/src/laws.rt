@@ -1,6 +1,6 @@
 ghost use Rattle.std.specs.Prelude.{◌≡◌, ◌≤◌, ◌++◌, ℕ, List, [], ◌∷◌, true, false, codes, decimal};
 ghost use Rattle.clap.specs.declared.error.kind.ErrorKind.TheVariants.{DisplayHelp, DisplayVersion};
-ghost use Rattle.nv_options.specs.Options.{accepts, faults};
+ghost use Rattle.nv_options.specs.Options.{accepts, faults, hops_in};
 
 /// No argument is accepted, and so is `--hops N` or `--hops=N` for each decimal from 1 to 64. Other numbers are not.
 pub fn arguments_of_the_manual_are_accepted()
@@ -9,6 +9,13 @@ pub fn arguments_of_the_manual_are_accepted()
     ensures joined { (name : List ℕ) (n : ℕ) → 1 ≤ n → n ≤ 64 → accepts (name ∷ (codes "--hops=" ++ decimal n) ∷ []) ≡ true }
     ensures zero { (name : List ℕ) → accepts (name ∷ codes "--hops" ∷ codes "0" ∷ []) ≡ false }
     ensures above { (name : List ℕ) → accepts (name ∷ codes "--hops" ∷ codes "65" ∷ []) ≡ false }
+{}
+
+/// A traced packet may take 16 hops where no argument says so, and N where `--hops N` or `--hops=N` does.
+pub fn hops_are_read()
+    ensures none { (name : List ℕ) → hops_in (name ∷ []) ≡ 16 }
+    ensures apart { (name : List ℕ) (n : ℕ) → 1 ≤ n → n ≤ 64 → hops_in (name ∷ codes "--hops" ∷ decimal n ∷ []) ≡ n }
+    ensures joined { (name : List ℕ) (n : ℕ) → 1 ≤ n → n ≤ 64 → hops_in (name ∷ (codes "--hops=" ++ decimal n) ∷ []) ≡ n }
 {}
 
 /// `--help` and `-h` ask only for the help, and `--version` and `-V` only for the version.

@@ -1,12 +1,16 @@
 //! The program's arguments, read by `clap`.
-ghost use Rattle.std.specs.Prelude.{◌≡◌, ◌≢◌, true, false, Err, map, OnOk, IfOk, IfSome, IfNone};
+ghost use Rattle.std.specs.Prelude.{◌≡◌, ◌≢◌, ◌≤◌, true, false, Err, map, codes, OnOk, IfOk, IfSome, IfNone};
 ghost use Rattle.std.specs.String.{string_bytes};
-ghost use Rattle.clap.specs.Words.{app_of, kind_of};
-ghost use Rattle.nv_options.specs.Options.{program, faults, accepts, AskForText, AskOnlyForText};
+ghost use Rattle.clap.specs.Words.{app_of, found_of, kind_of, one_text, rows_of};
+ghost use Rattle.nv_options.specs.Options.{program, faults, accepts, hops_among, hops_in, AskForText, AskOnlyForText};
+ghost use Rattle.nv_options.specs.inner.Passed.{HasPassed};
 
 use clap::error::ErrorKind;
-use clap::{Arg, ArgAction, Command, Error};
+use clap::{Arg, ArgAction, ArgMatches, Command, Error};
 use std::alloc::{AllocError, Global};
+
+// How many hops a traced packet may take where no argument says so.
+const DEFAULT_HOPS: u8 = 16;
 
 /// Why arguments are not accepted.
 #[derive(Clone, Copy, Debug, PartialEq, Eq)]
@@ -28,16 +32,29 @@ impl From<AllocError> for ArgumentFault {
     }
 }
 
-/// Accepts the arguments, of which the first is the program's name, exactly where `clap` finds no fault in them.
-pub fn accept_arguments(alloc: Global, arguments: &[String]) -> Result<(), ArgumentFault>
+/// Accepts the arguments, of which the first is the program's name, exactly where `clap` finds no fault in them. The answer
+/// is how many hops a traced packet may take, from 1 to 64: what `--hops` says, and 16 where it is not given (not from OVN).
+#[tactic(auto, unfolding(crate::specs::Options::hops_in))]
+pub fn accept_arguments(alloc: Global, arguments: &[String]) -> Result<u8, ArgumentFault>
     ensures accepted { OnOk result (accepts (map string_bytes arguments.now) ≡ true) }
+    ensures hops { IfOk result (λ hops. hops ≡ hops_in (map string_bytes arguments.now)) }
+    ensures within { IfOk result (λ hops. (1 ≤ hops) × (hops ≤ 64)) }
     ensures refused { result ≡ Err ArgumentFault.Refused → accepts (map string_bytes arguments.now) ≡ false }
 {
     let command = command(alloc)?;
     match command.try_get_matches_from(arguments) {
-        Ok(_) => Ok(()),
+        Ok(matches) => Ok(hops_of(&matches)),
         Err(error) => Err(fault_of(&error)),
     }
+}
+
+// The value of `--hops`, or the default.
+fn hops_of(matches: &ArgMatches<'_>) -> u8
+    requires { HasPassed (one_text (found_of matches.now) (codes "hops")) }
+    ensures value { result ≡ hops_among (rows_of (found_of matches.now)) }
+    ensures within { (1 ≤ result) × (result ≤ 64) }
+{
+    matches.get_one::<u8>("hops").unwrap_or(DEFAULT_HOPS)
 }
 
 // The fault that an error of `clap` is.

@@ -4,38 +4,41 @@ use Rattle.std.specs.Prelude.{◌↔◌, if◌then◌else◌}
 use Rattle.std.specs.Io.KnownBytes.{Consumes, IsAtEnd}
 use Rattle.std.proofs.lemmas.Bool.{true≢false}
 use Rattle.std.proofs.lemmas.List.{length-append}
+use Rattle.clap.specs.Words.{Text}
+use Rattle.nv_options.specs.Options.{accepts}
 use Rattle.nv_io.specs.Counts.{Rose, count_after}
 use Rattle.nv_io.specs.State.{SourceState, SinkState}
 use Rattle.nv_io.specs.declared.sink.SinkFailed.{SinkFailed}
 use Rattle.nv_io.specs.declared.source.SourceFailed.{SourceFailed}
 use Rattle.nv_serve.specs.declared.status.Status.{Status}
 use Rattle.nv_serve.specs.declared.status.Status.TheVariants.{Done, SomeRefused, Usage, ReadFault, WriteFault, InputTooLong, OutOfMemory}
-use Rattle.nv_serve.specs.Output.{output, output_for, complete_output, usage_line, is_refused, lines_of, input_limit}
-use Rattle.nv_serve.specs.Calls.{IsPrefix, BeginsDue, Moved, told_left, start_at, no_call, and_puts}
+use Rattle.nv_serve.specs.Output.{opened, output, complete_output, usage_line, is_refused, lines_of, input_limit}
+use Rattle.nv_serve.specs.Reply.{replies}
+use Rattle.nv_serve.specs.Session.{Session}
+use Rattle.nv_serve.specs.Calls.{IsPrefix, BeginsDue, Moved, told_left, start_at, no_call, and_puts, LastTakeGivesNothing}
 use Rattle.nv_serve.specs.Run.{IsFinished, NothingFollowsAFault}
-use Rattle.nv_serve.specs.Traced.{FramesAreMeant}
+use Rattle.nv_serve.specs.Traced.{TracesAreMeant}
 use Rattle.nv_serve.specs.inner.Writing.{Wrote, PutFailed}
 use Rattle.nv_serve.specs.declared.stop.Stop.{Stop}
 use Rattle.nv_serve.specs.declared.stop.Stop.TheVariants as stops
-use Rattle.nv_serve.specs.inner.Endings.{status_of, StopEnds, StopCalls, Ends, Refuses}
+use Rattle.nv_serve.specs.inner.Endings.{status_of, Finished, StopEnds, StopCalls, Ends, Refuses}
 use Rattle.nv_serve.proofs.Writing.{gave_nothing, took_nothing}
 use Rattle.nv_serve.proofs.Lengths.{lines_longer}
-use Rattle.nv_serve.proofs.Traced.{frames_meant}
+use Rattle.nv_serve.proofs.Traced.{traces_meant}
 
--- what is due where the arguments are not accepted
-due_of_many : (accepted : Bool) → accepted ≡ false → (given : List ℕ) → output_for accepted given ≡ usage_line
-due_of_many accepted many given = ap (λ b. if b then output given else usage_line) many
+-- what is due where the arguments are accepted, and where they are not
+output_is : (words : List Text) → accepts words ≡ true → (given : List ℕ) → replies (opened words) (lines_of given) ≡ output words given
+output_is words few given = sym (ap (λ b. if b then replies (opened words) (lines_of given) else usage_line) few)
 
--- and where they are
-due_of_few : (accepted : Bool) → accepted ≡ true → (given : List ℕ) → output given ≡ output_for accepted given
-due_of_few accepted few given = sym (ap (λ b. if b then output given else usage_line) few)
+usage_is : (words : List Text) → accepts words ≡ false → (given : List ℕ) → usage_line ≡ output words given
+usage_is words many given = sym (ap (λ b. if b then replies (opened words) (lines_of given) else usage_line) many)
 
 -- a part of what is due
-usage_part : (accepted : Bool) → accepted ≡ false → (given part : List ℕ) → IsPrefix part usage_line → IsPrefix part (output_for accepted given)
-usage_part accepted many given part begins = subst (λ due. IsPrefix part due) (sym (due_of_many accepted many given)) begins
+usage_part : (words : List Text) → accepts words ≡ false → (given part : List ℕ) → IsPrefix part usage_line → IsPrefix part (output words given)
+usage_part words many given part begins = subst (λ due. IsPrefix part due) (usage_is words many given) begins
 
-output_part : (accepted : Bool) → accepted ≡ true → (given part : List ℕ) → IsPrefix part (output given) → IsPrefix part (output_for accepted given)
-output_part accepted few given part begins = subst (λ due. IsPrefix part due) (due_of_few accepted few given) begins
+output_part : (words : List Text) → accepts words ≡ true → (given part : List ℕ) → IsPrefix part (replies (opened words) (lines_of given)) → IsPrefix part (output words given)
+output_part words few given part begins = subst (λ due. IsPrefix part due) (output_is words few given) begins
 
 -- no more is given than was left
 given_within : (told still : Option (List ℕ)) (given : List ℕ) → Consumes told still given → IsSomeAnd told (λ input. length input ≤ input_limit) → length given ≤ input_limit
@@ -43,11 +46,11 @@ given_within None still given gave within = absurd within
 given_within (Some input) None given gave within = absurd gave
 given_within (Some input) (Some rest) given gave within = omega (arith, within, ap length gave, length-append given rest)
 
--- each frame of an input that is no longer than it may be
-all_meant : (given : List ℕ) → length given ≤ input_limit → FramesAreMeant (lines_of given)
-all_meant given within = frames_meant (lines_of given) (omega (arith, within, lines_longer given))
+-- each trace of an input that is no longer than it may be
+all_meant : (words : List Text) (given : List ℕ) → length given ≤ input_limit → TracesAreMeant words (lines_of given)
+all_meant words given within = traces_meant words (lines_of given) (omega (arith, within, lines_longer given))
 
-module _ {S K : Type 0} (takes : S → List ℕ → Result ℕ SourceFailed → S → Type 0) (source_state : S → SourceState) (puts : K → List ℕ → Result ℕ SinkFailed → K → Type 0) (sink_state : K → SinkState) (accepted : Bool) where
+module _ {S K : Type 0} (takes : S → List ℕ → Result ℕ SourceFailed → S → Type 0) (source_state : S → SourceState) (puts : K → List ℕ → Result ℕ SinkFailed → K → Type 0) (sink_state : K → SinkState) (words : List Text) where
   -- what was moved, with what is true of it
   abbrev MovedTo : S → K → S → K → (List ℕ → List ℕ → Type 0) → Type 0
   MovedTo s k t l P = Moved source_state sink_state (s, k) (t, l) P
@@ -55,12 +58,12 @@ module _ {S K : Type 0} (takes : S → List ℕ → Result ℕ SourceFailed → 
   abbrev EndedAt : S → K → S → K → Status → Type 0
   EndedAt s k t l status =
       Moved source_state sink_state (s, k) (t, l) (λ given written.
-      Ends accepted (source_state s, sink_state k) (source_state t, sink_state l) (given, written) status
-      × NothingFollowsAFault takes puts (start_at s k) (record { source = t; sink = l; given = given; written = written }) status)
+      Ends words (source_state s, sink_state k) (source_state t, sink_state l) (given, written) status
+      × NothingFollowsAFault takes puts (start_at (opened words) s k) (record { first = opened words; source = t; sink = l; given = given; written = written }) status)
 
   -- the line of usage was put, or a part of it
-  pub refuses : (s : S) (k l : K) (status : Status) → accepted ≡ false → Refuses (Wrote puts sink_state k l) (PutFailed puts sink_state k l) status
-      → EndedAt s k s l status × ((accepted ≡ false → (s ≡ s) × ((status ≡ Usage) ⊎ (status ≡ WriteFault) ⊎ (status ≡ OutOfMemory))) × Unit {0})
+  pub refuses : (s : S) (k l : K) (status : Status) → accepts words ≡ false → Refuses (Wrote puts sink_state k l) (PutFailed puts sink_state k l) status
+      → EndedAt s k s l status × ((accepts words ≡ false → (s ≡ s) × ((status ≡ Usage) ⊎ (status ≡ WriteFault) ⊎ (status ≡ OutOfMemory))) × Unit {0})
   refuses s k l Usage many wrote = (
     ([], usage_line, gave_nothing (source_state s), wrote.took, ((many, refl, refl, refl), and_puts usage_line no_call wrote.puts)),
     (λ more. (refl, inl refl), tt),
@@ -72,8 +75,8 @@ module _ {S K : Type 0} (takes : S → List ℕ → Result ℕ SourceFailed → 
       gave_nothing (source_state s),
       failed.took,
       (
-        record { rose = failed.rose; begins = (usage_part accepted many [] part begins, usage_part accepted many (told_left (source_state s).left) part begins) },
-        record { last = record { source = s; sink = failed.before; given = []; written = part }; calls = and_puts part no_call failed.puts; offered = failed.offered; failed = failed.failed; same = refl },
+        record { rose = failed.rose; begins = (usage_part words many [] part begins, usage_part words many (told_left (source_state s).left) part begins) },
+        record { last = record { first = opened words; source = s; sink = failed.before; given = []; written = part }; calls = and_puts part no_call failed.puts; offered = failed.offered; failed = failed.failed; same = refl },
       ),
     ),
     (λ more. (refl, inr (inl refl)), tt),
@@ -85,44 +88,77 @@ module _ {S K : Type 0} (takes : S → List ℕ → Result ℕ SourceFailed → 
   refuses s k l OutOfMemory many none = absurd none
 
   -- memory ran out before the first call
-  pub no_memory : (s : S) (k : K) → EndedAt s k s k OutOfMemory × ((accepted ≡ false → (s ≡ s) × ((OutOfMemory ≡ Usage) ⊎ (OutOfMemory ≡ WriteFault) ⊎ (OutOfMemory ≡ OutOfMemory))) × Unit {0})
+  pub no_memory : (s : S) (k : K) → EndedAt s k s k OutOfMemory × ((accepts words ≡ false → (s ≡ s) × ((OutOfMemory ≡ Usage) ⊎ (OutOfMemory ≡ WriteFault) ⊎ (OutOfMemory ≡ OutOfMemory))) × Unit {0})
   no_memory s k = (
     ([], [], gave_nothing (source_state s), took_nothing (sink_state k), (record { quiet = record { source = refl; sink = refl }; begins = ((_, refl), (_, refl)) }, no_call)),
     (λ more. (refl, inr (inr refl)), tt),
   )
 
   module _ (s : S) (k : K) (t : S) (l : K) where
-    -- a run that is stopped
-    pub stopped : (stop : Stop) → accepted ≡ true
-        → Moved source_state sink_state (s, k) (t, l) (λ given written.
-        StopEnds (source_state s, sink_state k) (source_state t, sink_state l) given written stop
-        × StopCalls takes puts (start_at s k) (record { source = t; sink = l; given = given; written = written }) stop)
-        → EndedAt s k t l (status_of stop)
-    stopped stops.ReadFault few (given, written, gave, took, (ends, calls)) = (given, written, gave, took, ((few, ends), calls))
-    stopped stops.WriteFault few (given, written, gave, took, (ends, calls)) = (
+    -- a run from a session before the first line that is stopped
+    abbrev pub StoppedFrom : Session → Stop → Type 0
+    StoppedFrom first stop =
+        Moved source_state sink_state (s, k) (t, l) (λ given written.
+        StopEnds first (source_state s, sink_state k) (source_state t, sink_state l) (given, written) stop
+        × StopCalls takes puts (start_at first s k) (record { first = first; source = t; sink = l; given = given; written = written }) stop)
+
+    stopped_so : (stop : Stop) → accepts words ≡ true → StoppedFrom (opened words) stop → EndedAt s k t l (status_of stop)
+    stopped_so stops.ReadFault few (given, written, gave, took, (ends, calls)) = (given, written, gave, took, ((few, ends), calls))
+    stopped_so stops.WriteFault few (given, written, gave, took, (ends, calls)) = (
       given,
       written,
       gave,
       took,
       (
-        record { rose = ends.rose; begins = (output_part accepted few given written ends.begins.0, output_part accepted few (given ++ told_left (source_state t).left) written ends.begins.1) },
+        record { rose = ends.rose; begins = (output_part words few given written ends.begins.0, output_part words few (given ++ told_left (source_state t).left) written ends.begins.1) },
         calls,
       ),
     )
-    stopped stops.InputTooLong few (given, written, gave, took, (ends, calls)) = (given, written, gave, took, ((few, ends), calls))
-    stopped stops.OutOfMemory few (given, written, gave, took, (ends, calls)) = (given, written, gave, took, (ends, calls))
+    stopped_so stops.InputTooLong few (given, written, gave, took, (ends, calls)) = (given, written, gave, took, ((few, ends), calls))
+    stopped_so stops.OutOfMemory few (given, written, gave, took, (ends, calls)) = (
+      given,
+      written,
+      gave,
+      took,
+      (
+        record { quiet = ends.quiet; begins = (output_part words few given written ends.begins.0, output_part words few (given ++ told_left (source_state t).left) written ends.begins.1) },
+        calls,
+      ),
+    )
+
+    pub stopped : (first : Session) (stop : Stop) → first ≡ opened words → accepts words ≡ true → StoppedFrom first stop → EndedAt s k t l (status_of stop)
+    stopped first stop is few ends = stopped_so stop few (subst (λ from. StoppedFrom from stop) is ends)
+
+    -- a run from a session before the first line that reads its input to the end
+    abbrev pub FinishedFrom : Session → Bool → Type 0
+    FinishedFrom first refused =
+        Moved source_state sink_state (s, k) (t, l) (λ given written.
+        Finished first (source_state s, sink_state k) (source_state t, sink_state l) (given, written) refused
+        × LastTakeGivesNothing takes puts (start_at first s k) (record { first = first; source = t; sink = l; given = given; written = written }))
+
+    pub all_done : (first : Session) (refused : Bool) → first ≡ opened words → accepts words ≡ true → refused ≡ false → FinishedFrom first refused → EndedAt s k t l Done
+    all_done first refused is few none ends = by (subst (λ some. FinishedFrom (opened words) some) none (subst (λ from. FinishedFrom from refused) is ends))
+      where
+        by : FinishedFrom (opened words) false → EndedAt s k t l Done
+        by (given, written, gave, took, (finished, last)) = (given, written, gave, took, ((few, finished), last))
+
+    pub done_but_some : (first : Session) (refused : Bool) → first ≡ opened words → accepts words ≡ true → refused ≡ true → FinishedFrom first refused → EndedAt s k t l SomeRefused
+    done_but_some first refused is few some ends = by (subst (λ some. FinishedFrom (opened words) some) some (subst (λ from. FinishedFrom from refused) is ends))
+      where
+        by : FinishedFrom (opened words) true → EndedAt s k t l SomeRefused
+        by (given, written, gave, took, (finished, last)) = (given, written, gave, took, ((few, finished), last))
 
     -- the input was read to its end
-    pub done : (status : Status) → EndedAt s k t l status → IsFinished status → MovedTo s k t l (λ given written. IsAtEnd (source_state t).left × (written ≡ output given))
-    done Done (given, written, gave, took, ((few, ends), calls)) finished = (given, written, gave, took, (ends.at_end, ends.whole))
-    done SomeRefused (given, written, gave, took, ((few, ends), calls)) finished = (given, written, gave, took, (ends.at_end, ends.whole))
+    pub done : (status : Status) → EndedAt s k t l status → IsFinished status → MovedTo s k t l (λ given written. IsAtEnd (source_state t).left × (written ≡ output words given))
+    done Done (given, written, gave, took, ((few, ends), calls)) finished = (given, written, gave, took, (ends.at_end, ends.whole ∙ output_is words few given))
+    done SomeRefused (given, written, gave, took, ((few, ends), calls)) finished = (given, written, gave, took, (ends.at_end, ends.whole ∙ output_is words few given))
     done Usage ends finished = absurd finished
     done ReadFault ends finished = absurd finished
     done WriteFault ends finished = absurd finished
     done InputTooLong ends finished = absurd finished
     done OutOfMemory ends finished = absurd finished
 
-    pub some_refused : (status : Status) → EndedAt s k t l status → IsFinished status → MovedTo s k t l (λ given written. IsAtEnd (source_state t).left × ((status ≡ SomeRefused) ↔ (is_refused given ≡ true)))
+    pub some_refused : (status : Status) → EndedAt s k t l status → IsFinished status → MovedTo s k t l (λ given written. IsAtEnd (source_state t).left × ((status ≡ SomeRefused) ↔ (is_refused words given ≡ true)))
     some_refused Done (given, written, gave, took, ((few, ends), calls)) finished = (given, written, gave, took, (ends.at_end, (λ is. cc, λ is. let known = ends.refused_is in cc)))
     some_refused SomeRefused (given, written, gave, took, ((few, ends), calls)) finished = (given, written, gave, took, (ends.at_end, (λ is. sym ends.refused_is, λ is. refl)))
     some_refused Usage ends finished = absurd finished
@@ -131,9 +167,9 @@ module _ {S K : Type 0} (takes : S → List ℕ → Result ℕ SourceFailed → 
     some_refused InputTooLong ends finished = absurd finished
     some_refused OutOfMemory ends finished = absurd finished
 
-    pub refinement : (status : Status) → EndedAt s k t l status → IsFinished status → MovedTo s k t l (λ given written. (written ≡ output given) × FramesAreMeant (lines_of given))
-    refinement Done (given, written, gave, took, ((few, ends), calls)) finished = (given, written, gave, took, (ends.whole, all_meant given ends.within))
-    refinement SomeRefused (given, written, gave, took, ((few, ends), calls)) finished = (given, written, gave, took, (ends.whole, all_meant given ends.within))
+    pub refinement : (status : Status) → EndedAt s k t l status → IsFinished status → MovedTo s k t l (λ given written. (written ≡ output words given) × TracesAreMeant words (lines_of given))
+    refinement Done (given, written, gave, took, ((few, ends), calls)) finished = (given, written, gave, took, (ends.whole ∙ output_is words few given, all_meant words given ends.within))
+    refinement SomeRefused (given, written, gave, took, ((few, ends), calls)) finished = (given, written, gave, took, (ends.whole ∙ output_is words few given, all_meant words given ends.within))
     refinement Usage ends finished = absurd finished
     refinement ReadFault ends finished = absurd finished
     refinement WriteFault ends finished = absurd finished
@@ -154,28 +190,28 @@ module _ {S K : Type 0} (takes : S → List ℕ → Result ℕ SourceFailed → 
     within_the_limit OutOfMemory ends (inr fault) = cc
 
     -- at each other status
-    pub read_fault : (status : Status) → EndedAt s k t l status → status ≡ ReadFault → MovedTo s k t l (λ given written. written ≡ complete_output given)
+    pub read_fault : (status : Status) → EndedAt s k t l status → status ≡ ReadFault → MovedTo s k t l (λ given written. written ≡ complete_output words given)
     read_fault status ends is = by (subst (EndedAt s k t l) is ends)
       where
-        by : EndedAt s k t l ReadFault → MovedTo s k t l (λ given written. written ≡ complete_output given)
+        by : EndedAt s k t l ReadFault → MovedTo s k t l (λ given written. written ≡ complete_output words given)
         by (given, written, gave, took, ((few, ends), calls)) = (given, written, gave, took, ends.whole)
 
     pub read_fault_cause : (status : Status) → EndedAt s k t l status → status ≡ ReadFault → Rose (source_state s).faults (source_state t).faults
     read_fault_cause status ends is = (subst (EndedAt s k t l) is ends).4.0.1.rose
 
-    pub write_fault : (status : Status) → EndedAt s k t l status → status ≡ WriteFault → MovedTo s k t l (λ given written. BeginsDue (output_for accepted) given (told_left (source_state t).left) written)
+    pub write_fault : (status : Status) → EndedAt s k t l status → status ≡ WriteFault → MovedTo s k t l (λ given written. BeginsDue (output words) given (told_left (source_state t).left) written)
     write_fault status ends is = by (subst (EndedAt s k t l) is ends)
       where
-        by : EndedAt s k t l WriteFault → MovedTo s k t l (λ given written. BeginsDue (output_for accepted) given (told_left (source_state t).left) written)
+        by : EndedAt s k t l WriteFault → MovedTo s k t l (λ given written. BeginsDue (output words) given (told_left (source_state t).left) written)
         by (given, written, gave, took, (ends, calls)) = (given, written, gave, took, ends.begins)
 
     pub write_fault_cause : (status : Status) → EndedAt s k t l status → status ≡ WriteFault → Rose (sink_state k).faults (sink_state l).faults
     write_fault_cause status ends is = (subst (EndedAt s k t l) is ends).4.0.rose
 
-    pub input_too_long : (status : Status) → EndedAt s k t l status → status ≡ InputTooLong → MovedTo s k t l (λ given written. (input_limit < length given) × (written ≡ complete_output (take input_limit given)))
+    pub input_too_long : (status : Status) → EndedAt s k t l status → status ≡ InputTooLong → MovedTo s k t l (λ given written. (input_limit < length given) × (written ≡ complete_output words (take input_limit given)))
     input_too_long status ends is = by (subst (EndedAt s k t l) is ends)
       where
-        by : EndedAt s k t l InputTooLong → MovedTo s k t l (λ given written. (input_limit < length given) × (written ≡ complete_output (take input_limit given)))
+        by : EndedAt s k t l InputTooLong → MovedTo s k t l (λ given written. (input_limit < length given) × (written ≡ complete_output words (take input_limit given)))
         by (given, written, gave, took, ((few, ends), calls)) = (given, written, gave, took, (ends.over, ends.whole))
 
     pub input_too_long_cause : (status : Status) → EndedAt s k t l status → status ≡ InputTooLong → count_after (source_state s).given (input_limit + 1) ≤ (source_state t).given
@@ -184,10 +220,10 @@ module _ {S K : Type 0} (takes : S → List ℕ → Result ℕ SourceFailed → 
         by : EndedAt s k t l InputTooLong → count_after (source_state s).given (input_limit + 1) ≤ (source_state t).given
         by (given, written, gave, took, ((few, ends), calls)) = omega (arith, gave.amount, ends.over)
 
-    pub out_of_memory : (status : Status) → EndedAt s k t l status → status ≡ OutOfMemory → MovedTo s k t l (λ given written. BeginsDue output given (told_left (source_state t).left) written)
+    pub out_of_memory : (status : Status) → EndedAt s k t l status → status ≡ OutOfMemory → MovedTo s k t l (λ given written. BeginsDue (output words) given (told_left (source_state t).left) written)
     out_of_memory status ends is = by (subst (EndedAt s k t l) is ends)
       where
-        by : EndedAt s k t l OutOfMemory → MovedTo s k t l (λ given written. BeginsDue output given (told_left (source_state t).left) written)
+        by : EndedAt s k t l OutOfMemory → MovedTo s k t l (λ given written. BeginsDue (output words) given (told_left (source_state t).left) written)
         by (given, written, gave, took, (ends, calls)) = (given, written, gave, took, ends.begins)
 
     pub usage : (status : Status) → EndedAt s k t l status → status ≡ Usage → MovedTo s k t l (λ given written. (given ≡ []) × (written ≡ usage_line))
@@ -196,14 +232,14 @@ module _ {S K : Type 0} (takes : S → List ℕ → Result ℕ SourceFailed → 
         by : EndedAt s k t l Usage → MovedTo s k t l (λ given written. (given ≡ []) × (written ≡ usage_line))
         by (given, written, gave, took, ((many, same, none, line), calls)) = (given, written, gave, took, (none, line))
 
-    pub usage_cause : (status : Status) → EndedAt s k t l status → status ≡ Usage → accepted ≡ false
+    pub usage_cause : (status : Status) → EndedAt s k t l status → status ≡ Usage → accepts words ≡ false
     usage_cause status ends is = (subst (EndedAt s k t l) is ends).4.0.0
 
-    pub calls_made : (status : Status) → EndedAt s k t l status → MovedTo s k t l (λ given written. NothingFollowsAFault takes puts (start_at s k) (record { source = t; sink = l; given = given; written = written }) status)
+    pub calls_made : (status : Status) → EndedAt s k t l status → MovedTo s k t l (λ given written. NothingFollowsAFault takes puts (start_at (opened words) s k) (record { first = opened words; source = t; sink = l; given = given; written = written }) status)
     calls_made status (given, written, gave, took, (ends, calls)) = (given, written, gave, took, calls)
 
     -- where no call failed and the input is no longer than it may be, only memory keeps a run from the end of its input
-    pub complete : (status : Status) → EndedAt s k t l status → accepted ≡ true → (Rose (source_state s).faults (source_state t).faults → ⊥) → (Rose (sink_state k).faults (sink_state l).faults → ⊥)
+    pub complete : (status : Status) → EndedAt s k t l status → accepts words ≡ true → (Rose (source_state s).faults (source_state t).faults → ⊥) → (Rose (sink_state k).faults (sink_state l).faults → ⊥)
         → IsSomeAnd (source_state s).left (λ input. length input ≤ input_limit) ⊎ ((source_state t).given < count_after (source_state s).given (input_limit + 1)) → IsFinished status ⊎ (status ≡ OutOfMemory)
     complete Done ends few quiet_source quiet_sink within = inl tt
     complete SomeRefused ends few quiet_source quiet_sink within = inl tt

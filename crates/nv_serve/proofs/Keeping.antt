@@ -10,7 +10,7 @@ use Rattle.nb_cmds.specs.declared.query.Query.TheVariants as query
 use Rattle.nb_net.specs.Network.{Network}
 use Rattle.nb_net.specs.Transactions.{edited}
 use Rattle.nv_serve.specs.Session.{Session}
-use Rattle.nv_serve.specs.Reply.{Reply, answered, wanted_datapath, wanted_port, reply_to, reply_to_query, reply}
+use Rattle.nv_serve.specs.Reply.{Reply, answered, wanted_datapath, traced_port, reply_to, reply_to_query, reply}
 
 -- what holds of the session, and after each reply for what may be found
 pub answered_keeps : {X : Type 0} (P : Session → Type 0) (session : Session) (found : Result X Refusal) (reply_for : X → Reply) → P session → ((x : X) → found ≡ Ok x → P (reply_for x).after) → P (answered session found reply_for).after
@@ -22,7 +22,7 @@ pub query_keeps : (P : Session → Type 0) (session : Session) (q : Query) → P
 query_keeps P session (query.FlowList None) here = here
 query_keeps P session (query.FlowList (Some name)) here = answered_keeps P session (wanted_datapath session.network name) _ here (λ number found. here)
 query_keeps P session query.Dump here = here
-query_keeps P session (query.Frame name mac) here = answered_keeps P session (wanted_port session.network name) _ here (λ arrival found. here)
+query_keeps P session (query.Trace minimal dp micro) here = answered_keeps P session (traced_port session.network dp micro.inport) _ here (λ port found. here)
 
 -- what holds of the session, and after the edits of the line, if it asks for edits and none is refused
 pub reply_keeps : (P : Session → Type 0) (session : Session) (text : List ℕ) → P session

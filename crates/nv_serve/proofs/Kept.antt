@@ -12,7 +12,7 @@ use Rattle.nb_words.specs.Words.{words_of}
 use Rattle.nb_edit.specs.Call.{and_then}
 use Rattle.nb_cmds.specs.Lines.{said, read_line}
 use Rattle.nb_cmds.specs.declared.line.Line.TheVariants.{Nothing}
-use Rattle.nv_serve.specs.Session.{Session, new_session}
+use Rattle.nv_serve.specs.Session.{Session}
 use Rattle.nv_serve.specs.Reply.{answered, reply, reply_to}
 use Rattle.nv_serve.specs.inner.StateAfter.{IsKeptAfter, kept_limit, and_kept}
 use Rattle.nv_serve.proofs.StateAfter.{stands_first}
@@ -55,8 +55,8 @@ pub kept_longer : (kept bytes : List ℕ) → length (and_kept kept bytes) ≤ l
 kept_longer kept bytes = omega (arith, length-append kept (take (kept_limit - length kept) bytes), length-take (kept_limit - length kept) bytes)
 
 -- before the first byte
-pub kept_first : IsKeptAfter new_session [] false []
-kept_first = record { line = []; stands = stands_first; kept_is = refl }
+pub kept_first : (first : Session) → IsKeptAfter first first [] false []
+kept_first first = record { line = []; stands = stands_first first; kept_is = refl }
 
 -- an empty line
 read_nothing : read_line [] ≡ Ok Nothing

@@ -1,5 +1,4 @@
 pub mod Answering
-pub mod Arrivals
 pub mod Conversing
 pub mod Cuts
 pub mod Endings

@@ -1,9 +1,12 @@
 -- How the output of an input goes on with the input.
-use Rattle.std.proofs.Common.{◌≡◌, ℕ, ◌-◌, List, [], ◌∷◌, ◌++◌, length, take, refl, sym, ap, ◌∙◌, subst}
+use Rattle.std.proofs.Common.{◌≡◌, ℕ, ◌-◌, Bool, true, false, List, [], ◌∷◌, ◌++◌, length, take, refl, sym, ap, ◌∙◌, subst}
+use Rattle.std.specs.Prelude.{if◌then◌else◌}
 use Rattle.std.proofs.lemmas.List.{append-nil}
-use Rattle.nv_serve.specs.Session.{Session, new_session}
-use Rattle.nv_serve.specs.Reply.{reply, session_after, some_refused}
-use Rattle.nv_serve.specs.Output.{is_newline, lines_of, complete_lines, output, complete_output}
+use Rattle.clap.specs.Words.{Text}
+use Rattle.nv_options.specs.Options.{accepts}
+use Rattle.nv_serve.specs.Session.{Session}
+use Rattle.nv_serve.specs.Reply.{reply, replies, session_after, some_refused}
+use Rattle.nv_serve.specs.Output.{is_newline, lines_of, complete_lines, opened, output, complete_output, usage_line}
 use Rattle.nv_serve.specs.Calls.{IsPrefix}
 use Rattle.nv_serve.specs.inner.StateAfter.{IsStateAfter}
 use Rattle.nv_serve.proofs.Splits.{split_has_first, take-butlast}
@@ -24,24 +27,42 @@ last_line input =
     let complete : complete_lines input ≡ parts.0 = ap (λ all. take (length all - 1) all) lines ∙ take-butlast parts.0 parts.1 in
     (parts.1, lines ∙ ap (λ all. all ++ parts.1 ∷ []) (sym complete))
 
--- the state after an input
-state_after : (input : List ℕ) → IsStateAfter (session_after new_session (complete_lines input)) (last_line input).0 (some_refused new_session (complete_lines input)) input
-state_after input = record { line_is = (last_line input).1; session_is = refl; refused_is = refl }
-
--- the replies to an input's complete lines begin the output of each input that begins with it
-pub begins : (input more : List ℕ) → IsPrefix (complete_output input) (output (input ++ more))
-begins input more = written_prefix _ _ _ input (state_after input) more
-
 -- an empty line has no reply
 nothing_said : (session : Session) → (reply session []).text ≡ []
 nothing_said session = ap (λ r. r.text) (reply_nothing session)
 
--- at a line's end these are all replies
-at_line_end : (input : List ℕ) → output (input ++ 10 ∷ []) ≡ complete_output (input ++ 10 ∷ [])
-at_line_end input =
-    written_end _ _ _ (input ++ 10 ∷ []) (stands_more _ _ _ input (state_after input))
-    ∙ ap (λ text. complete_output (input ++ 10 ∷ []) ++ text) (nothing_said (reply (session_after new_session (complete_lines input)) (last_line input).0).after)
-    ∙ append-nil (complete_output (input ++ 10 ∷ []))
+module _ (first : Session) where
+  -- the state after an input
+  state_after : (input : List ℕ) → IsStateAfter first (session_after first (complete_lines input)) (last_line input).0 (some_refused first (complete_lines input)) input
+  state_after input = record { line_is = (last_line input).1; session_is = refl; refused_is = refl }
 
-pub goes_on : (input more : List ℕ) → IsPrefix (output (input ++ 10 ∷ [])) (output ((input ++ 10 ∷ []) ++ more))
-goes_on input more = subst (λ text. IsPrefix text (output ((input ++ 10 ∷ []) ++ more))) (sym (at_line_end input)) (begins (input ++ 10 ∷ []) more)
+  -- the replies to an input's complete lines begin those to all lines of each input that begins with it
+  replies_begin : (input more : List ℕ) → IsPrefix (replies first (complete_lines input)) (replies first (lines_of (input ++ more)))
+  replies_begin input more = written_prefix first _ _ _ input (state_after input) more
+
+  -- at a line's end these are all replies
+  at_line_end : (input : List ℕ) → replies first (lines_of (input ++ 10 ∷ [])) ≡ replies first (complete_lines (input ++ 10 ∷ []))
+  at_line_end input =
+      written_end first _ _ _ (input ++ 10 ∷ []) (stands_more first _ _ _ input (state_after input))
+      ∙ ap (λ text. replies first (complete_lines (input ++ 10 ∷ [])) ++ text) (nothing_said (reply (session_after first (complete_lines input)) (last_line input).0).after)
+      ∙ append-nil (replies first (complete_lines (input ++ 10 ∷ [])))
+
+  replies_go_on : (input more : List ℕ) → IsPrefix (replies first (lines_of (input ++ 10 ∷ []))) (replies first (lines_of ((input ++ 10 ∷ []) ++ more)))
+  replies_go_on input more = subst (λ text. IsPrefix text (replies first (lines_of ((input ++ 10 ∷ []) ++ more)))) (sym (at_line_end input)) (replies_begin (input ++ 10 ∷ []) more)
+
+-- a text that is due where the arguments are accepted
+pub due_begins : (words : List Text) (input part : List ℕ) → accepts words ≡ true → IsPrefix part (replies (opened words) (lines_of input)) → IsPrefix part (output words input)
+due_begins words input part accepted begins = subst (λ due. IsPrefix part due) (sym (ap (λ b. if b then replies (opened words) (lines_of input) else usage_line) accepted)) begins
+
+pub begins : (words : List Text) (input more : List ℕ) → accepts words ≡ true → IsPrefix (complete_output words input) (output words (input ++ more))
+begins words input more accepted = due_begins words (input ++ more) (complete_output words input) accepted (replies_begin (opened words) input more)
+
+pub goes_on : (words : List Text) (input more : List ℕ) → IsPrefix (output words (input ++ 10 ∷ [])) (output words ((input ++ 10 ∷ []) ++ more))
+goes_on words input more = by (accepts words)
+  where
+    due : Bool → List ℕ → List ℕ
+    due accepted input = if accepted then replies (opened words) (lines_of input) else usage_line
+
+    by : (accepted : Bool) → IsPrefix (due accepted (input ++ 10 ∷ [])) (due accepted ((input ++ 10 ∷ []) ++ more))
+    by true = replies_go_on (opened words) input more
+    by false = ([], sym (append-nil usage_line))

@@ -1,12 +1,12 @@
 -- The networks that lines leave are sound, and the numbers of their objects are no more than the bytes of the lines.
-use Rattle.std.proofs.Common.{◌≡◌, ℕ, ◌+◌, ◌<◌, ◌≤◌, ◌⊎◌, inl, inr, Option, Some, None, List, [], ◌∷◌, length, sum_by, IfOk, refl, arith}
+use Rattle.std.proofs.Common.{◌≡◌, ℕ, ◌+◌, ◌<◌, ◌≤◌, ◌⊎◌, inl, inr, Option, Some, None, Ok, List, [], ◌∷◌, length, sum_by, IfOk, refl, arith}
 use Rattle.std.specs.List.{AllByRecursion}
 use Rattle.std.proofs.lemmas.List.Sums.{sum_by-cons}
 use Rattle.std.proofs.lemmas.Result.{IfOk-at_ok, IfOk-weaker}
 use Rattle.nb_core.specs.declared.edit.Edit.{Edit}
 use Rattle.nb_core.specs.declared.refusal.Refusal.{Refusal}
 use Rattle.nb_net.specs.Effect.{effect}
-use Rattle.nb_net.specs.Network.{Network}
+use Rattle.nb_net.specs.Network.{Network, empty_network}
 use Rattle.nb_net.specs.Readable.{IsReadable}
 use Rattle.nb_net.specs.Sound.{IsSound}
 use Rattle.nb_net.specs.Tests.{refusal}
@@ -16,8 +16,14 @@ use Rattle.nb_net.proofs.Reading.{goes_on}
 use Rattle.nb_net.proofs.Whole.{edit_sound}
 use Rattle.nb_cmds.proofs.ReadableLines.{line_readable}
 use Rattle.nb_cmds.proofs.ShortLines.{line_short}
-use Rattle.tr_walk.specs.Walk.{IsRefined}
-use Rattle.tr_walk.proofs.Refinement.{sound_refined}
+use Rattle.nb_cmds.proofs.BuiltLines.{line_built}
+use Rattle.nb_plain.specs.Plain.{IsBuilt, IsPlain}
+use Rattle.nb_plain.proofs.Plain.{edited_plain, empty_plain}
+use Rattle.net_meaning.proofs.Stateless as plain_networks
+use Rattle.tr_net.specs.Refined.{IsRefined}
+use Rattle.tr_net.proofs.Pipelines.{of_ingress, of_egress, of_late}
+use Rattle.tr_net.proofs.Refinement.{refined}
+use Rattle.tr_net.proofs.StageLaws.{stage_laws}
 use Rattle.nv_serve.specs.Reply.{reply, session_after}
 use Rattle.nv_serve.specs.Session.{Session, new_session}
 use Rattle.nv_serve.proofs.Keeping.{reply_keeps}
@@ -73,7 +79,7 @@ lines_sound session (line ∷ lines) sound room =
     let bytes = sum_by-cons length line lines in
     lines_sound (reply session line).after lines (reply_sound session line sound (omega (arith, bytes, room))) (omega (arith, bytes, room, reply_next session line))
 
-empty_sound : IsSound new_session.network
+empty_sound : IsSound empty_network
 empty_sound = record {
   numbered = record {
     order = record {
@@ -115,9 +121,33 @@ empty_sound = record {
 }
 
 -- each network that lines leave is sound, as long as the lines are no longer
-pub sound_after : (lines : List (List ℕ)) → 1 + sum_by length lines < 4294967294 → IsSound (session_after new_session lines).network
-sound_after lines room = lines_sound new_session lines empty_sound room
+pub sound_after : (hops : ℕ) (lines : List (List ℕ)) → 1 + sum_by length lines < 4294967294 → IsSound (session_after (new_session hops) lines).network
+sound_after hops lines room = lines_sound (new_session hops) lines empty_sound room
 
--- and the rows of each do what its switches do
-pub each_refined : (lines : List (List ℕ)) → 1 + sum_by length lines < 4294967294 → IsRefined (session_after new_session lines).network
-each_refined lines room = sound_refined (session_after new_session lines).network (sound_after lines room)
+-- built edits leave a plain network plain
+pub plain_edited : (old new : Network) (list : List Edit) → IsPlain old → AllByRecursion IsBuilt list → edited old list ≡ Ok new → IsPlain new
+plain_edited old new list plain built done = IfOk-at_ok IsPlain done (edited_plain old list plain built)
+
+-- a line leaves a plain network plain
+reply_plain : (session : Session) (line : List ℕ) → IsPlain session.network → IsPlain (reply session line).after.network
+reply_plain session line plain =
+    reply_keeps (λ after. IsPlain after.network) session line plain (λ list net said done.
+    plain_edited session.network net list plain (line_built line list said) done)
+
+lines_plain : (session : Session) (lines : List (List ℕ)) → IsPlain session.network → IsPlain (session_after session lines).network
+lines_plain session [] plain = plain
+lines_plain session (line ∷ lines) plain = lines_plain (reply session line).after lines (reply_plain session line plain)
+
+-- and plain
+pub plain_after : (hops : ℕ) (lines : List (List ℕ)) → IsPlain (session_after (new_session hops) lines).network
+plain_after hops lines = lines_plain (new_session hops) lines empty_plain
+
+-- the rows of a sound plain network do what the network does
+pub plain_refined : (net : Network) → IsSound net → IsPlain net → IsRefined net
+plain_refined net sound plain =
+    let stateless = plain_networks.stateless net plain in
+    refined net sound stateless (of_ingress stage_laws net sound stateless) (of_egress stage_laws net sound stateless) (of_late stage_laws net sound stateless)
+
+-- and so do those of each network that lines leave
+pub each_refined : (hops : ℕ) (lines : List (List ℕ)) → 1 + sum_by length lines < 4294967294 → IsRefined (session_after (new_session hops) lines).network
+each_refined hops lines room = plain_refined (session_after (new_session hops) lines).network (sound_after hops lines room) (plain_after hops lines)

@@ -2,9 +2,9 @@
 use Rattle.std.proofs.Common.{◌≡◌, ℕ, ◌-◌, Bool, true, false, ◌||◌, List, [], ◌∷◌, ◌++◌, length, take, refl, sym, ap, ◌∙◌, append_assoc}
 use Rattle.std.proofs.lemmas.List.{append-nil}
 use Rattle.std.specs.List.{slice_split}
-use Rattle.nv_serve.specs.Session.{Session, new_session}
+use Rattle.nv_serve.specs.Session.{Session}
 use Rattle.nv_serve.specs.Reply.{reply, replies, some_refused, session_after}
-use Rattle.nv_serve.specs.Output.{is_newline, lines_of, complete_lines, output, complete_output, is_refused}
+use Rattle.nv_serve.specs.Output.{is_newline, lines_of, complete_lines}
 use Rattle.nv_serve.specs.inner.StateAfter.{IsStateAfter}
 use Rattle.nv_serve.proofs.Splits.{joined, joined-last, split-append, take-butlast}
 
@@ -34,10 +34,10 @@ or_false true = refl
 or_false false = refl
 
 -- before the first byte
-pub stands_first : IsStateAfter new_session [] false []
-stands_first = record { line_is = refl; session_is = refl; refused_is = refl }
+pub stands_first : (first : Session) → IsStateAfter first first [] false []
+stands_first first = record { line_is = refl; session_is = refl; refused_is = refl }
 
-module _ (session : Session) (line : List ℕ) (refused : Bool) (before : List ℕ) (stands : IsStateAfter session line refused before) where
+module _ (first session : Session) (line : List ℕ) (refused : Bool) (before : List ℕ) (stands : IsStateAfter first session line refused before) where
   -- the lines of these bytes and of more
   lines-append : (more : List ℕ) → lines_of (before ++ more) ≡ complete_lines before ++ joined (line ∷ []) (lines_of more)
   lines-append more =
@@ -55,26 +55,26 @@ module _ (session : Session) (line : List ℕ) (refused : Bool) (before : List �
   pub whole-same : (bytes : List ℕ) → slice_split is_newline bytes ≡ bytes ∷ [] → complete_lines (before ++ bytes) ≡ complete_lines before
   whole-same bytes one = whole_from_lines (before ++ bytes) (complete_lines before) (line ++ bytes) (lines-same bytes one)
 
-  pub stands_same : (bytes : List ℕ) → slice_split is_newline bytes ≡ bytes ∷ [] → IsStateAfter session (line ++ bytes) refused (before ++ bytes)
+  pub stands_same : (bytes : List ℕ) → slice_split is_newline bytes ≡ bytes ∷ [] → IsStateAfter first session (line ++ bytes) refused (before ++ bytes)
   stands_same bytes one = record {
     line_is = lines-same bytes one ∙ ap (λ whole. whole ++ (line ++ bytes) ∷ []) (sym (whole-same bytes one));
-    session_is = stands.session_is ∙ ap (session_after new_session) (sym (whole-same bytes one));
-    refused_is = stands.refused_is ∙ ap (some_refused new_session) (sym (whole-same bytes one));
+    session_is = stands.session_is ∙ ap (session_after first) (sym (whole-same bytes one));
+    refused_is = stands.refused_is ∙ ap (some_refused first) (sym (whole-same bytes one));
   }
 
-  pub written_same : (bytes : List ℕ) → slice_split is_newline bytes ≡ bytes ∷ [] → complete_output (before ++ bytes) ≡ complete_output before
-  written_same bytes one = ap (replies new_session) (whole-same bytes one)
+  pub written_same : (bytes : List ℕ) → slice_split is_newline bytes ≡ bytes ∷ [] → replies first (complete_lines (before ++ bytes)) ≡ replies first (complete_lines before)
+  written_same bytes one = ap (replies first) (whole-same bytes one)
 
   -- the line that has no end yet, after the complete lines
-  replies-line : replies new_session (complete_lines before ++ line ∷ []) ≡ complete_output before ++ (reply session line).text
+  replies-line : replies first (complete_lines before ++ line ∷ []) ≡ replies first (complete_lines before) ++ (reply session line).text
   replies-line =
-      replies-append new_session (complete_lines before) (line ∷ [])
-      ∙ ap (λ text. complete_output before ++ text) (append-nil (reply (session_after new_session (complete_lines before)) line).text ∙ ap (λ session. (reply session line).text) (sym stands.session_is))
+      replies-append first (complete_lines before) (line ∷ [])
+      ∙ ap (λ text. replies first (complete_lines before) ++ text) (append-nil (reply (session_after first (complete_lines before)) line).text ∙ ap (λ session. (reply session line).text) (sym stands.session_is))
 
-  some_refused-line : some_refused new_session (complete_lines before ++ line ∷ []) ≡ (refused || (reply session line).refused)
+  some_refused-line : some_refused first (complete_lines before ++ line ∷ []) ≡ (refused || (reply session line).refused)
   some_refused-line =
-      some_refused-append new_session (complete_lines before) (line ∷ [])
-      ∙ ap (λ last. some_refused new_session (complete_lines before) || last) (or_false (reply (session_after new_session (complete_lines before)) line).refused ∙ ap (λ session. (reply session line).refused) (sym stands.session_is))
+      some_refused-append first (complete_lines before) (line ∷ [])
+      ∙ ap (λ last. some_refused first (complete_lines before) || last) (or_false (reply (session_after first (complete_lines before)) line).refused ∙ ap (λ session. (reply session line).refused) (sym stands.session_is))
       ∙ ap (λ some. some || (reply session line).refused) (sym stands.refused_is)
 
   -- a newline ends the line
@@ -84,28 +84,28 @@ module _ (session : Session) (line : List ℕ) (refused : Bool) (before : List �
   whole-more : complete_lines (before ++ 10 ∷ []) ≡ complete_lines before ++ line ∷ []
   whole-more = whole_from_lines (before ++ 10 ∷ []) (complete_lines before ++ line ∷ []) [] lines-more
 
-  pub stands_more : IsStateAfter (reply session line).after [] (refused || (reply session line).refused) (before ++ 10 ∷ [])
+  pub stands_more : IsStateAfter first (reply session line).after [] (refused || (reply session line).refused) (before ++ 10 ∷ [])
   stands_more = record {
     line_is = lines-more ∙ ap (λ whole. whole ++ [] ∷ []) (sym whole-more);
     session_is =
         ap (λ session. (reply session line).after) stands.session_is
-        ∙ sym (session_after-append new_session (complete_lines before) (line ∷ []))
-        ∙ ap (session_after new_session) (sym whole-more);
-    refused_is = sym some_refused-line ∙ ap (some_refused new_session) (sym whole-more);
+        ∙ sym (session_after-append first (complete_lines before) (line ∷ []))
+        ∙ ap (session_after first) (sym whole-more);
+    refused_is = sym some_refused-line ∙ ap (some_refused first) (sym whole-more);
   }
 
   -- the reply to the line that has no end yet
-  pub written_more : complete_output (before ++ 10 ∷ []) ≡ complete_output before ++ (reply session line).text
-  written_more = ap (replies new_session) whole-more ∙ replies-line
+  pub written_more : replies first (complete_lines (before ++ 10 ∷ [])) ≡ replies first (complete_lines before) ++ (reply session line).text
+  written_more = ap (replies first) whole-more ∙ replies-line
 
   -- at the end of the input the last line is run
-  pub written_end : output before ≡ complete_output before ++ (reply session line).text
-  written_end = ap (replies new_session) stands.line_is ∙ replies-line
+  pub written_end : replies first (lines_of before) ≡ replies first (complete_lines before) ++ (reply session line).text
+  written_end = ap (replies first) stands.line_is ∙ replies-line
 
-  pub refused_end : is_refused before ≡ (refused || (reply session line).refused)
-  refused_end = ap (some_refused new_session) stands.line_is ∙ some_refused-line
+  pub refused_end : some_refused first (lines_of before) ≡ (refused || (reply session line).refused)
+  refused_end = ap (some_refused first) stands.line_is ∙ some_refused-line
 
   -- what was written for the complete lines begins the output of any input that goes on from here
-  pub written_prefix : (more : List ℕ) → (rest : List ℕ) × (output (before ++ more) ≡ complete_output before ++ rest)
+  pub written_prefix : (more : List ℕ) → (rest : List ℕ) × (replies first (lines_of (before ++ more)) ≡ replies first (complete_lines before) ++ rest)
   written_prefix more =
-      (replies (session_after new_session (complete_lines before)) (joined (line ∷ []) (lines_of more)), ap (replies new_session) (lines-append more) ∙ replies-append new_session (complete_lines before) (joined (line ∷ []) (lines_of more)))
+      (replies (session_after first (complete_lines before)) (joined (line ∷ []) (lines_of more)), ap (replies first) (lines-append more) ∙ replies-append first (complete_lines before) (joined (line ∷ []) (lines_of more)))

@@ -1,43 +1,54 @@
--- Each frame is answered by what the switch does with it.
-use Rattle.std.proofs.Common.{◌≡◌, ℕ, ◌+◌, ◌<◌, ◌^◌, Bool, true, false, Some, Ok, ok_or, List, [], ◌∷◌, ◌++◌, length, sum_by, nat_lt, refl, sym, ap, subst, arith}
-use Rattle.std.specs.Prelude.{not, ◌==◌}
-use Rattle.std.specs.Bool.{IsTrue}
-use Rattle.std.proofs.lemmas.Bool.{false≢true, and_parts}
+-- Each trace is answered by what the network does with the packet.
+use Rattle.std.proofs.Common.{◌≡◌, ℕ, ◌+◌, ◌<◌, Bool, Ok, List, [], ◌∷◌, ◌++◌, length, sum_by, Some, refl, sym, ap, ◌∙◌, subst, arith}
+use Rattle.std.specs.Prelude.{map, Contains}
+use Rattle.clap.specs.Words.{Text}
+use Rattle.nv_options.specs.Options.{hops_in}
 use Rattle.nb_core.specs.declared.switch.Port.{Port}
 use Rattle.nb_cmds.specs.Lines.{read_line}
 use Rattle.nb_cmds.specs.declared.line.Line.TheVariants.{Query}
-use Rattle.nb_cmds.specs.declared.query.Query.TheVariants.{Frame}
+use Rattle.nb_cmds.specs.declared.query.Query.TheVariants.{Trace}
 use Rattle.nb_cmds.proofs.QueryWords.{query_well_read}
-use Rattle.nb_edit.specs.Readings.{is_unicast}
-use Rattle.nb_net.specs.Network.{Network, port_named}
-use Rattle.nb_net.specs.Readable.{is_mac}
-use Rattle.net_meaning.specs.Address.{is_multicast}
-use Rattle.nv_serve.specs.Reply.{accept, answered, no_port, frame_for, frame_lines, reply, reply_to, session_after}
-use Rattle.nv_serve.specs.Session.{Session, new_session}
-use Rattle.nv_serve.specs.Traced.{TellsMeaning, FramesAreMeant}
-use Rattle.nv_serve.proofs.Arrivals.{named_there}
+use Rattle.net_meaning.specs.Walk as walk
+use Rattle.net_meaning.specs.Walk.{Told, events}
+use Rattle.net_meaning.specs.Walk.Told.{Note, Happens}
+use Rattle.net_meaning.specs.declared.event.PlainEvent.{PlainEvent}
+use Rattle.net_meaning.specs.declared.event.PlainEvent.TheVariants as plain
+use Rattle.pkt_micro.specs.declared.microflow.Micro.{Micro}
+use Rattle.tr_net.specs.Events.{event_of, of_plain, plain_event, without_hits}
+use Rattle.tr_net.specs.Machine.{State, machine}
+use Rattle.tr_stage.specs.declared.outcome.Hit.{Hit}
+use Rattle.nv_serve.specs.Output.{opened}
+use Rattle.nv_serve.specs.Reply.{accept, answered, trace_lines, traced_port, reply, reply_to, session_after}
+use Rattle.nv_serve.specs.Session.{Session}
+use Rattle.nv_serve.specs.Traced.{TellsMeaning, TracesAreMeant}
 use Rattle.nv_serve.proofs.Lengths.{before_longer}
 use Rattle.nv_serve.proofs.Reached.{each_refined}
 
-not_false : (b : Bool) → not b ≡ true → b ≡ false
-not_false true e = absurd (false≢true e)
-not_false false e = refl
+-- what becomes of a packet is an event without a hit
+of_plain_is : (event : PlainEvent) → plain_event (of_plain event) ≡ Some event
+of_plain_is (plain.Output port packet) = refl
+of_plain_is (plain.Drop dp cause) = refl
+of_plain_is (plain.Reject port) = refl
+of_plain_is (plain.HopLimit port) = refl
 
--- a MAC that is read is not multicast
-to_one : (mac : ℕ) → IsTrue (is_mac mac) → is_multicast mac ≡ false
-to_one mac is = not_false (is_multicast mac) (and_parts (not (is_multicast mac)) (not (mac == 0)) (and_parts (nat_lt mac (2 ^ 48)) (is_unicast mac) is).1).0
+-- what is told by rows, hits left out, are the events that are told
+pub without_hits_is : (told : List (Told Hit)) → without_hits (map event_of told) ≡ events told
+without_hits_is [] = refl
+without_hits_is (Note hit ∷ told) = without_hits_is told
+without_hits_is (Happens event ∷ told) = rw (of_plain_is event) (ap (λ more. event ∷ more) (without_hits_is told))
 
-tells : (session : Session) (line : List ℕ) (name : List ℕ) (mac : ℕ) (arrival : Port) → read_line line ≡ Ok (Query (Frame name mac))
-    → TellsMeaning session.network arrival mac (reply_to session (Query (Frame name mac))).text → TellsMeaning session.network arrival mac (reply session line).text
+tells : (session : Session) (line : List ℕ) (minimal : Bool) (dp : List ℕ) (micro : Micro) (arrival : Port) → read_line line ≡ Ok (Query (Trace minimal dp micro))
+    → TellsMeaning session minimal arrival micro.packet (reply_to session (Query (Trace minimal dp micro))).text → TellsMeaning session minimal arrival micro.packet (reply session line).text
 unfolding reply
-tells session line name mac arrival is rest =
-    subst (λ text. TellsMeaning session.network arrival mac text) (sym (ap (λ read. (answered session read (reply_to session)).text) is)) rest
+tells session line minimal dp micro arrival is rest =
+    subst (λ text. TellsMeaning session minimal arrival micro.packet text) (sym (ap (λ read. (answered session read (reply_to session)).text) is)) rest
 
--- each frame is answered by what the switch does with it
-pub frames_meant : (lines : List (List ℕ)) → 1 + sum_by length lines < 4294967294 → FramesAreMeant lines
-frames_meant lines room before line later all name mac is arrival there =
-    let session = session_after new_session before in
-    tells session line name mac arrival is (record {
-      told = ap (λ found. (answered session (ok_or found (no_port session.network name)) (λ port. accept (frame_lines session.network port mac) session)).text) there;
-      meant = each_refined before (omega (arith, room, before_longer lines before line later all)) arrival (frame_for mac) (named_there session.network name arrival there) (to_one mac (query_well_read line (Frame name mac) is).1);
+-- each trace that begins at a port of a switch is answered by what the network does with the packet
+pub traces_meant : (words : List Text) (lines : List (List ℕ)) → 1 + sum_by length lines < 4294967294 → TracesAreMeant words lines
+traces_meant words lines room before line later all minimal dp micro is arrival there port =
+    let session = session_after (opened words) before in
+    let alike = each_refined (hops_in words) before (omega (arith, room, before_longer lines before line later all)) session.hops arrival micro.packet tt there (query_well_read line (Trace minimal dp micro) is).2 in
+    tells session line minimal dp micro arrival is (record {
+      told = ap (λ found. (answered session found (λ port. accept (trace_lines session minimal port micro.packet) session)).text) port;
+      meant = without_hits_is (machine {S = State} session.network session.hops arrival.id micro.packet tt).told ∙ alike.told;
     })

@@ -5,7 +5,9 @@ use Rattle.nv_io.specs.Counts.{count_after}
 use Rattle.nv_io.specs.State.{SourceState, SinkState}
 use Rattle.nv_io.specs.declared.sink.SinkFailed.{SinkFailed}
 use Rattle.nv_io.specs.declared.source.SourceFailed.{SourceFailed}
-use Rattle.nv_serve.specs.Output.{complete_output}
+use Rattle.nv_serve.specs.Output.{complete_lines}
+use Rattle.nv_serve.specs.Reply.{replies}
+use Rattle.nv_serve.specs.Session.{Session}
 
 -- a text that begins another
 abbrev pub IsPrefix : List ℕ → List ℕ → Type 0
@@ -35,16 +37,17 @@ abbrev pub told_left : Option (List ℕ) → List ℕ
 told_left None = []
 told_left (Some bytes) = bytes
 
--- how far a run is: its source and its sink, the bytes given so far, and those written so far
+-- how far a run is: the session before its first line, its source and its sink, the bytes given so far, and those written so far
 pub record Point (S K : Type 0) : Type 0 where
+  pub first : Session
   pub source : S
   pub sink : K
   pub given : List ℕ
   pub written : List ℕ
 
 -- before the first call
-abbrev pub start_at : {S K : Type 0} → S → K → Point S K
-start_at source sink = record { source = source; sink = sink; given = []; written = [] }
+abbrev pub start_at : {S K : Type 0} → Session → S → K → Point S K
+start_at first source sink = record { first = first; source = source; sink = sink; given = []; written = [] }
 
 -- no more bytes than this are read at a time
 abbrev pub piece_limit : ℕ
@@ -53,7 +56,7 @@ piece_limit = 4096
 -- A take may be made now, into a buffer of this size: each complete line of what was given is answered.
 pub record IsReady {S K : Type 0} (point : Point S K) (size : ℕ) : Type 0 where
   pub small : size ≤ piece_limit
-  pub answered : point.written ≡ complete_output point.given
+  pub answered : point.written ≡ replies point.first (complete_lines point.given)
 
 -- puts that all succeeded lead from one sink to another, and passed these bytes
 pub data Puts {K : Type 0} (put_gives : K → List ℕ → Result ℕ SinkFailed → K → Type 0) (old : K) : List ℕ → K → Type 0 where

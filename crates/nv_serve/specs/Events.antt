@@ -1,5 +1,6 @@
 -- How the events of a trace are written.
-use Rattle.std.specs.Prelude.{ℕ, List, [], ◌++◌, option_map, unwrap_or, codes, decimal}
+use Rattle.std.specs.Prelude.{ℕ, Bool, true, false, ◌&&◌, List, [], ◌++◌, option_map, unwrap_or, codes, decimal, if◌then◌else◌}
+use Rattle.std.specs.List.{flat_map}
 use Rattle.nv_base.specs.declared.object.ObjId.{ObjId}
 use Rattle.pkt_core.specs.Text.{packet_text}
 use Rattle.nb_net.specs.Belongs.{either}
@@ -7,8 +8,8 @@ use Rattle.nb_net.specs.Network.{Network}
 use Rattle.nb_table.specs.Table.{record_of}
 use Rattle.sb_model.specs.Stage.{stage_name}
 use Rattle.net_meaning.specs.Cause.{cause_name}
-use Rattle.tr_walk.specs.declared.event.Event.{Event}
-use Rattle.tr_walk.specs.declared.event.Event.TheVariants.{Hit, Output, Drop}
+use Rattle.tr_net.specs.declared.event.Event.{Event}
+use Rattle.tr_net.specs.declared.event.Event.TheVariants.{Hit, Output, Drop, Reject, HopLimit}
 
 -- the name of the switch or the router of this number, or nothing where there is none
 abbrev pub datapath_name : Network → ObjId → List ℕ
@@ -26,3 +27,18 @@ event_line net (Hit hit) =
     codes "hit " ++ datapath_name net hit.dp ++ codes " " ++ stage_name hit.stage ++ codes " " ++ decimal hit.priority ++ codes " " ++ decimal hit.hint.0 ++ codes "\n"
 event_line net (Output port packet) = codes "output " ++ port_name net port ++ codes " " ++ packet_text packet ++ codes "\n"
 event_line net (Drop dp cause) = codes "drop " ++ datapath_name net dp ++ codes " " ++ cause_name cause ++ codes "\n"
+event_line net (Reject port) = codes "reject " ++ port_name net port ++ codes "\n"
+event_line net (HopLimit port) = codes "hop-limit " ++ port_name net port ++ codes "\n"
+
+-- a line that `--minimal` leaves out
+abbrev pub is_hit : Event → Bool
+is_hit (Hit hit) = true
+is_hit _ = false
+
+-- an event's line, if it is not left out
+abbrev pub told_line : Network → Bool → Event → List ℕ
+told_line net minimal event = if minimal && is_hit event then [] else event_line net event
+
+-- the lines of events, of hits too or not
+abbrev pub event_lines : Network → Bool → List Event → List ℕ
+event_lines net minimal events = flat_map (told_line net minimal) events

@@ -1,27 +1,28 @@
 -- What a line is answered, and the session that it leaves.
 use Rattle.std.specs.Prelude.{ℕ, Bool, true, false, ◌||◌, List, [], ◌∷◌, ◌++◌, map, Option, Some, None, is_some, ok_or, Result, Ok, Err, if◌then◌else◌, codes}
-use Rattle.std.specs.List.{flat_map}
-use Rattle.nv_base.specs.declared.field.Field.TheVariants.{EthDst}
 use Rattle.nv_base.specs.declared.object.ObjId.{ObjId}
-use Rattle.pkt_core.specs.Packet.{Values, with_value, zero_packet}
+use Rattle.pkt_core.specs.Packet.{Values}
 use Rattle.nb_core.specs.declared.refusal.Refusal.{Refusal}
-use Rattle.nb_core.specs.declared.refusal.Refusal.TheVariants.{NoSuchObject, WrongKind}
-use Rattle.nb_core.specs.declared.switch.Port.{Port}
+use Rattle.nb_core.specs.declared.refusal.Refusal.TheVariants.{NoSuchObject, NotOnDatapath}
 use Rattle.nb_core.specs.declared.switch.Switch.{Switch}
 use Rattle.nb_core.specs.Refusal.{refusal_line}
 use Rattle.nb_cmds.specs.Lines.{read_line}
 use Rattle.nb_cmds.specs.declared.line.Line.{Line}
 use Rattle.nb_cmds.specs.declared.line.Line.TheVariants.{Nothing, Edits, Query}
 use Rattle.nb_cmds.specs.declared.query.Query as query
-use Rattle.nb_cmds.specs.declared.query.Query.TheVariants.{FlowList, Dump, Frame}
-use Rattle.nb_net.specs.Network.{Network, port_named, router_port_named}
+use Rattle.nb_cmds.specs.declared.query.Query.TheVariants.{FlowList, Dump, Trace}
+use Rattle.nb_edit.specs.Call.{and_then}
+use Rattle.nb_net.specs.Belongs.{is_number}
+use Rattle.nb_net.specs.Network.{Network}
 use Rattle.nb_net.specs.Transactions.{edited}
-use Rattle.nb_tables.specs.Places.{datapath_of}
+use Rattle.nb_tables.specs.Places.{datapath_of, on_datapath, port_of}
 use Rattle.nb_dump.specs.Dump.{dump}
 use Rattle.sb_rows.specs.Listing.{listing}
-use Rattle.nd_full.specs.FullBuild.{full_build}
-use Rattle.tr_walk.specs.Walk.{flows_at, machine}
-use Rattle.nv_serve.specs.Events.{event_line}
+use Rattle.net_rows.specs.Build.{rows}
+use Rattle.tr_net.specs.declared.event.Event.{Event}
+use Rattle.tr_net.specs.Events.{event_of}
+use Rattle.tr_net.specs.Machine.{State, machine}
+use Rattle.nv_serve.specs.Events.{event_lines}
 use Rattle.nv_serve.specs.Session.{Session}
 
 -- the text of a reply, whether it is a refusal, and the session after the line
@@ -53,34 +54,39 @@ datapaths switches = map (λ switch. (switch.id, switch.name)) switches
 
 -- the listing of the flows of one datapath, or of all
 unfoldable pub flows : Network → Option ObjId → List ℕ
-flows net only = listing (full_build net) (datapaths net.switches) only
+flows net only = listing (rows net) (datapaths net.switches) only
 
 -- the number of the switch or the router of this name
 abbrev pub wanted_datapath : Network → List ℕ → Result ObjId Refusal
 wanted_datapath net name = ok_or (datapath_of net name) (NoSuchObject name)
 
--- why no port of a switch has this name: one of a router has it, or none
-abbrev pub no_port : Network → List ℕ → Refusal
-no_port net name = if is_some (router_port_named net name) then WrongKind name else NoSuchObject name
+-- the number of the port of this name, of a switch or of a router
+abbrev pub wanted_port : Network → List ℕ → Result ObjId Refusal
+wanted_port net name = ok_or (port_of net name) (NoSuchObject name)
 
--- the port of a switch that has this name
-abbrev pub wanted_port : Network → List ℕ → Result Port Refusal
-wanted_port net name = ok_or (port_named net name) (no_port net name)
+-- the port is on the datapath
+abbrev pub on_wanted : Network → ObjId → List ℕ → ObjId → Result ObjId Refusal
+on_wanted net dp name port = if is_number (on_datapath net port) dp then Ok port else Err (NotOnDatapath name)
 
--- a frame for this address: all other header fields are zero
-abbrev pub frame_for : ℕ → Values
-frame_for mac = with_value zero_packet EthDst mac
+-- the port by which a traced packet comes into a datapath
+abbrev pub traced_port : Network → List ℕ → List ℕ → Result ObjId Refusal
+traced_port net datapath name = and_then (wanted_datapath net datapath) (λ dp. and_then (wanted_port net name) (on_wanted net dp name))
 
--- the lines of what happens to a frame for this address that arrives at the port
-abbrev pub frame_lines : Network → Port → ℕ → List ℕ
-frame_lines net arrival mac = flat_map (event_line net) (machine (flows_at net arrival.switch) arrival.id (frame_for mac))
+-- what the rows do with a packet that comes in by a port
+abbrev pub traced : Session → ObjId → Values → List Event
+traced session port packet = map event_of (machine {S = State} session.network session.hops port packet tt).told
+
+-- the lines of a trace
+abbrev pub trace_lines : Session → Bool → ObjId → Values → List ℕ
+trace_lines session minimal port packet = event_lines session.network minimal (traced session port packet)
 
 -- the reply to a query
 abbrev pub reply_to_query : Session → query.Query → Reply
 reply_to_query session (FlowList None) = accept (flows session.network None) session
 reply_to_query session (FlowList (Some name)) = answered session (wanted_datapath session.network name) (λ number. accept (flows session.network (Some number)) session)
 reply_to_query session Dump = accept (dump session.network) session
-reply_to_query session (Frame name mac) = answered session (wanted_port session.network name) (λ arrival. accept (frame_lines session.network arrival mac) session)
+reply_to_query session (Trace minimal dp micro) =
+    answered session (traced_port session.network dp micro.inport) (λ port. accept (trace_lines session minimal port micro.packet) session)
 
 -- the reply to what a line says
 abbrev pub reply_to : Session → Line → Reply

@@ -1,24 +1,31 @@
--- What the replies to frames tell.
-use Rattle.std.specs.Prelude.{◌≡◌, ℕ, List, ◌∷◌, ◌++◌, Some, Ok}
+-- What the replies to traces tell.
+use Rattle.std.specs.Prelude.{◌≡◌, ℕ, Bool, List, ◌∷◌, ◌++◌, Ok, Contains}
+use Rattle.clap.specs.Words.{Text}
+use Rattle.nv_base.specs.declared.object.ObjId.{ObjId}
+use Rattle.pkt_core.specs.Packet.{Values}
+use Rattle.pkt_micro.specs.declared.microflow.Micro.{Micro}
 use Rattle.nb_core.specs.declared.switch.Port.{Port}
 use Rattle.nb_cmds.specs.Lines.{read_line}
 use Rattle.nb_cmds.specs.declared.line.Line.TheVariants.{Query}
-use Rattle.nb_cmds.specs.declared.query.Query.TheVariants.{Frame}
-use Rattle.nb_net.specs.Network.{Network, port_named}
-use Rattle.net_meaning.specs.SwitchMeaning.{meaning}
-use Rattle.tr_walk.specs.Walk.{flows_at, machine, without_hits}
-use Rattle.nv_serve.specs.Reply.{frame_for, frame_lines, ok_line, reply, session_after}
-use Rattle.nv_serve.specs.Session.{new_session}
+use Rattle.nb_cmds.specs.declared.query.Query.TheVariants.{Trace}
+use Rattle.net_meaning.specs.Switches.{meaning}
+use Rattle.net_meaning.specs.Walk.{events}
+use Rattle.tr_net.specs.Events.{without_hits}
+use Rattle.tr_net.specs.Machine.{State}
+use Rattle.nv_serve.specs.Output.{opened}
+use Rattle.nv_serve.specs.Reply.{traced, traced_port, trace_lines, ok_line, reply, session_after}
+use Rattle.nv_serve.specs.Session.{Session}
 
--- the text is the lines of the machine's events, and `ok`; and the events are, hits left out, what the switch does with the frame
-pub record TellsMeaning (net : Network) (arrival : Port) (mac : ℕ) (text : List ℕ) : Type 0 where
-  pub told : text ≡ frame_lines net arrival mac ++ ok_line
-  pub meant : without_hits (machine (flows_at net arrival.switch) arrival.id (frame_for mac)) ≡ meaning net arrival (frame_for mac)
+-- The text is the lines of the events of the rows, and `ok`; and these events are, hits left out, what the network does with the packet.
+pub record TellsMeaning (session : Session) (minimal : Bool) (arrival : Port) (packet : Values) (text : List ℕ) : Type 0 where
+  pub told : text ≡ trace_lines session minimal arrival.id packet ++ ok_line
+  pub meant : without_hits (traced session arrival.id packet) ≡ events (meaning {S = State} session.network session.hops arrival.id packet tt).told
 
--- each frame of these lines that arrives at a port is answered so, in the network that the lines before it left
-abbrev pub FramesAreMeant : List (List ℕ) → Type 0
-FramesAreMeant lines =
+-- each trace among these lines, of a packet that arrives at a port of a switch, is answered so, in the session that the lines before it left
+abbrev pub TracesAreMeant : List Text → List (List ℕ) → Type 0
+TracesAreMeant words lines =
     (before : List (List ℕ)) (line : List ℕ) (later : List (List ℕ)) → lines ≡ before ++ line ∷ later
-    → (name : List ℕ) (mac : ℕ) → read_line line ≡ Ok (Query (Frame name mac))
-    → (arrival : Port) → port_named (session_after new_session before).network name ≡ Some arrival
-    → TellsMeaning (session_after new_session before).network arrival mac (reply (session_after new_session before) line).text
+    → (minimal : Bool) (dp : List ℕ) (micro : Micro) → read_line line ≡ Ok (Query (Trace minimal dp micro))
+    → (arrival : Port) → Contains (session_after (opened words) before).network.ports arrival
+    → traced_port (session_after (opened words) before).network dp micro.inport ≡ Ok arrival.id
+    → TellsMeaning (session_after (opened words) before) minimal arrival micro.packet (reply (session_after (opened words) before) line).text

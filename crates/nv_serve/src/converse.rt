@@ -21,16 +21,16 @@ pub fn converse<S: Source, K: Sink>(
     source: &mut S,
     sink: &mut K,
 ) -> Result<(), Stop>
-    requires first { IsKeptAfter server.old.session server.old.line.items server.old.some_refused [] }
+    requires first { IsKeptAfter server.old.session server.old.session server.old.line.items server.old.some_refused [] }
     requires next { server.old.session.network.next + length server.old.line.items ≡ 1 }
     ensures finished { OnOk result (Moved S.state K.state (source.old, sink.old) (source.new, sink.new) (λ given written.
-        Finished (S.state source.old, K.state sink.old) (S.state source.new, K.state sink.new) given written server.new.some_refused
-        × LastTakeGivesNothing S.take_gives K.put_gives (start_at source.old sink.old)
-        (record { source = source.new; sink = sink.new; given = given; written = written }))) }
+        Finished server.old.session (S.state source.old, K.state sink.old) (S.state source.new, K.state sink.new) (given, written) server.new.some_refused
+        × LastTakeGivesNothing S.take_gives K.put_gives (start_at server.old.session source.old sink.old)
+        (record { first = server.old.session; source = source.new; sink = sink.new; given = given; written = written }))) }
     ensures stopped { IfErr result (λ stop. Moved S.state K.state (source.old, sink.old) (source.new, sink.new) (λ given written.
-        StopEnds (S.state source.old, K.state sink.old) (S.state source.new, K.state sink.new) given written stop
-        × StopCalls S.take_gives K.put_gives (start_at source.old sink.old)
-        (record { source = source.new; sink = sink.new; given = given; written = written }) stop)) }
+        StopEnds server.old.session (S.state source.old, K.state sink.old) (S.state source.new, K.state sink.new) (given, written) stop
+        × StopCalls S.take_gives K.put_gives (start_at server.old.session source.old sink.old)
+        (record { first = server.old.session; source = source.new; sink = sink.new; given = given; written = written }) stop)) }
 {
     let mut piece = [0u8; PIECE];
     let mut room = INPUT_LIMIT;

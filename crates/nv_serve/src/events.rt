@@ -1,22 +1,46 @@
 ghost use Rattle.std.specs.Prelude.{◌≡◌, ◌++◌, List, ℕ, OnOk};
-ghost use Rattle.std.specs.List.{flat_map};
-ghost use Rattle.nv_serve.specs.Events.{datapath_name, port_name, event_line};
-ghost use Rattle.tr_walk.specs.declared.event.Event.TheVariants.{Hit, Output, Drop};
+ghost use Rattle.nv_serve.specs.Events.{datapath_name, port_name, event_line, is_hit, told_line, event_lines};
+ghost use Rattle.tr_net.specs.declared.event.Event.TheVariants.{Hit, Output, Drop, Reject, HopLimit};
 
 use nb_tables::Records;
 use net_meaning::Cause;
 use nv_base::{ObjId, OutOfMemory, put_dec};
 use pkt_core::{Packet, put_packet};
-use tr_walk::Event;
+use tr_net::Event;
 
-// Writes the lines of events.
-pub fn put_events(records: &Records, events: &[Event], out: &mut Vec<u8>) -> Result<(), OutOfMemory>
-    ensures { OnOk result (out.new.items ≡ out.old.items ++ flat_map (event_line records.now) events.now) }
+// Writes the lines of events, and leaves out those of hits where it is minimal.
+pub fn put_events(
+    records: &Records,
+    minimal: bool,
+    events: &[Event],
+    out: &mut Vec<u8>,
+) -> Result<(), OutOfMemory>
+    ensures { OnOk result (out.new.items ≡ out.old.items ++ event_lines records.now minimal events.now) }
 {
     for event in events {
-        put_event(records, event, out)?;
+        put_told(records, minimal, event, out)?;
     }
     Ok(())
+}
+
+fn put_told(
+    records: &Records,
+    minimal: bool,
+    event: &Event,
+    out: &mut Vec<u8>,
+) -> Result<(), OutOfMemory>
+    ensures { OnOk result (out.new.items ≡ out.old.items ++ told_line records.now minimal event.now) }
+{
+    if minimal && is_hit(event) {
+        return Ok(());
+    }
+    put_event(records, event, out)
+}
+
+fn is_hit(event: &Event) -> bool
+    ensures { result ≡ is_hit event.now }
+{
+    matches!(event, Event::Hit(_))
 }
 
 fn put_event(records: &Records, event: &Event, out: &mut Vec<u8>) -> Result<(), OutOfMemory>
@@ -26,6 +50,8 @@ fn put_event(records: &Records, event: &Event, out: &mut Vec<u8>) -> Result<(), 
         Event::Hit(hit) => put_hit(records, hit, out),
         Event::Output(port, packet) => put_output(records, *port, packet, out),
         Event::Drop(dp, cause) => put_drop(records, *dp, *cause, out),
+        Event::Reject(port) => put_reject(records, *port, out),
+        Event::HopLimit(port) => put_hop_limit(records, *port, out),
     }
 }
 
@@ -72,6 +98,24 @@ fn put_drop(
     put_datapath_name(records, dp, out)?;
     out.push(b' ')?;
     out.extend_from_slice(cause.name().as_bytes())?;
+    out.push(b'\n')?;
+    Ok(())
+}
+
+fn put_reject(records: &Records, port: ObjId, out: &mut Vec<u8>) -> Result<(), OutOfMemory>
+    ensures { OnOk result (out.new.items ≡ out.old.items ++ event_line records.now (Reject port)) }
+{
+    out.extend_from_slice(b"reject ")?;
+    put_port_name(records, port, out)?;
+    out.push(b'\n')?;
+    Ok(())
+}
+
+fn put_hop_limit(records: &Records, port: ObjId, out: &mut Vec<u8>) -> Result<(), OutOfMemory>
+    ensures { OnOk result (out.new.items ≡ out.old.items ++ event_line records.now (HopLimit port)) }
+{
+    out.extend_from_slice(b"hop-limit ")?;
+    put_port_name(records, port, out)?;
     out.push(b'\n')?;
     Ok(())
 }

@@ -17,7 +17,7 @@ mod status;
 mod stop;
 
 pub use laws::{
-    frames_want_ports_as_edits_do, lines_leave_sound_networks, output_goes_on, refusals_say_so,
+    lines_leave_plain_networks, lines_leave_sound_networks, output_goes_on, refusals_say_so,
 };
 pub use serve::run;
 pub use status::Status;

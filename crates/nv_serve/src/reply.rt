@@ -1,9 +1,12 @@
 ghost use Rattle.std.specs.Prelude.{◌≡◌, ◌++◌, ◌+◌, ◌<◌, IfOk, OnOk, length, true, false};
 ghost use Rattle.std.specs.List.{AllByRecursion};
 ghost use Rattle.nb_core.specs.Refusal.{refusal_line};
+ghost use Rattle.nb_net.specs.Belongs.{is_number};
 ghost use Rattle.nb_net.specs.Readable.{IsReadable};
+ghost use Rattle.nb_plain.specs.Plain.{IsBuilt};
+ghost use Rattle.nb_tables.specs.Places.{on_datapath};
 ghost use Rattle.nv_serve.specs.declared.answer.Answer.TheVariants as answers;
-ghost use Rattle.nv_serve.specs.Reply.{no_port, frame_for, ok_line, reply_to_query, reply_to, reply};
+ghost use Rattle.nv_serve.specs.Reply.{accept, ok_line, trace_lines, traced_port, reply_to_query, reply_to, reply};
 ghost use Rattle.nv_serve.specs.inner.Answer.{IsAnswered};
 
 use crate::answer::Answer;
@@ -15,8 +18,9 @@ use nb_core::{Edit, Refusal};
 use nb_dump::put_dump;
 use nb_tables::Records;
 use nb_words::LineFault;
-use nv_base::{Field, Items, Mac, Name, OutOfMemory};
+use nv_base::{Items, Name, ObjId, OutOfMemory};
 use pkt_core::Packet;
+use pkt_micro::Micro;
 use std::alloc::Global;
 
 // Runs a line, and writes its reply, but not a listing.
@@ -47,6 +51,7 @@ fn run_edits(
     out: &mut Vec<u8>,
 ) -> Result<Answer, OutOfMemory>
     requires readable { AllByRecursion IsReadable edits }
+    requires built { AllByRecursion IsBuilt edits }
     requires room { session.old.network.next + length edits < 4294967294 }
     ensures answer { IfOk result (λ answer. IsAnswered (reply_to session.old (Line.Edits edits)) out.old.items out.new.items answer) }
     ensures after { OnOk result (session.new ≡ (reply_to session.old (Line.Edits edits)).after) }
@@ -71,7 +76,7 @@ fn run_query(
         Query::FlowList(None) => Ok(Answer::Listing(None)),
         Query::FlowList(Some(name)) => list_datapath(session, name, out),
         Query::Dump => dump(session, out),
-        Query::Frame { port, mac } => run_frame(alloc, session, port, mac, out),
+        Query::Trace { minimal, dp, micro } => run_trace(alloc, session, minimal, dp, micro, out),
     }
 }
 
@@ -92,42 +97,65 @@ fn dump(session: &Session, out: &mut Vec<u8>) -> Result<Answer, OutOfMemory>
     accept(out)
 }
 
-fn run_frame(
+fn run_trace(
     alloc: Global,
     session: &mut Session,
-    name: Name,
-    mac: Mac,
+    minimal: bool,
+    datapath: Name,
+    micro: Micro,
     out: &mut Vec<u8>,
 ) -> Result<Answer, OutOfMemory>
-    ensures answer { IfOk result (λ answer. IsAnswered (reply_to_query session.old (Query.Frame name mac)) out.old.items out.new.items answer) }
-    ensures after { OnOk result (session.new ≡ (reply_to_query session.old (Query.Frame name mac)).after) }
+    ensures answer { IfOk result (λ answer. IsAnswered (reply_to_query session.old (Query.Trace minimal datapath micro)) out.old.items out.new.items answer) }
+    ensures after { OnOk result (session.new ≡ (reply_to_query session.old (Query.Trace minimal datapath micro)).after) }
 {
-    let (dp, port) = match session.records().port_named(&name) {
-        None => return refuse(&no_port(session.records(), name), out),
-        Some(port) => (port.switch, port.id),
-    };
-    let events = session.trace(alloc, dp, port, &frame_for(mac))?;
-    put_events(session.records(), &events, out)?;
+    let Micro { inport, packet } = micro;
+    match traced_port(session.records(), datapath, inport) {
+        Ok(port) => tell_trace(alloc, session, minimal, port, &packet, out),
+        Err(refusal) => refuse(&refusal, out),
+    }
+}
+
+// Tells the trace of a packet that comes in by a port.
+fn tell_trace(
+    alloc: Global,
+    session: &mut Session,
+    minimal: bool,
+    port: ObjId,
+    packet: &Packet,
+    out: &mut Vec<u8>,
+) -> Result<Answer, OutOfMemory>
+    ensures answer { IfOk result (λ answer. IsAnswered (accept (trace_lines session.old minimal port packet.now) session.old) out.old.items out.new.items answer) }
+    ensures same { OnOk result (session.new ≡ session.old) }
+{
+    let events = session.trace(alloc, port, packet)?;
+    put_events(session.records(), minimal, &events, out)?;
     accept(out)
 }
 
-// Why no port of a switch has the name.
-fn no_port(records: &Records, name: Name) -> Refusal
-    ensures { result ≡ no_port records.now name }
+// The port of this name by which a packet comes into the datapath of that name.
+fn traced_port(records: &Records, datapath: Name, name: Name) -> Result<ObjId, Refusal>
+    ensures { result ≡ traced_port records.now datapath name }
 {
-    if records.router_port_named(&name).is_some() {
-        return Refusal::WrongKind(name);
+    let Some(dp) = records.datapath_of(&datapath) else {
+        return Err(Refusal::NoSuchObject(datapath));
+    };
+    let Some(port) = records.port_of(&name) else {
+        return Err(Refusal::NoSuchObject(name));
+    };
+    if !is_on(records, port, dp) {
+        return Err(Refusal::NotOnDatapath(name));
     }
-    Refusal::NoSuchObject(name)
+    Ok(port)
 }
 
-// A frame for this address.
-fn frame_for(mac: Mac) -> Packet
-    ensures { result ≡ frame_for mac }
+// Whether the port is on the datapath.
+fn is_on(records: &Records, port: ObjId, dp: ObjId) -> bool
+    ensures { result ≡ is_number (on_datapath records.now port) dp }
 {
-    let mut packet = Packet::zero();
-    packet.set(Field::EthDst, u128::from(mac.0));
-    packet
+    match records.on_datapath(port) {
+        Some(own) => own.0 == dp.0,
+        None => false,
+    }
 }
 
 fn accept(out: &mut Vec<u8>) -> Result<Answer, OutOfMemory>

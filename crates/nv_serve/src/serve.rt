@@ -1,12 +1,13 @@
 ghost use Rattle.std.specs.Prelude.{◌≡◌, ◌<◌, ◌≤◌, ◌↔◌, ◌⊎◌, ◌+◌, ◌++◌, ℕ, List, [], IsTrue, IsSomeAnd, length, take, map, true, false};
 ghost use Rattle.std.specs.Io.KnownBytes.{IsAtEnd};
 ghost use Rattle.std.specs.String.{string_bytes};
-ghost use Rattle.nv_options.specs.Options.{accepts};
+ghost use Rattle.clap.specs.Words.{Text};
+ghost use Rattle.nv_options.specs.Options.{accepts, hops_in};
 ghost use Rattle.nv_io.specs.Counts.{Rose, count_after};
 ghost use Rattle.nv_serve.specs.Calls.{BeginsDue, Moved, told_left, start_at};
-ghost use Rattle.nv_serve.specs.Output.{lines_of, output, output_for, complete_output, usage_line, is_refused, input_limit};
+ghost use Rattle.nv_serve.specs.Output.{lines_of, opened, output, complete_output, usage_line, is_refused, input_limit};
 ghost use Rattle.nv_serve.specs.Run.{IsFinished, NothingFollowsAFault};
-ghost use Rattle.nv_serve.specs.Traced.{FramesAreMeant};
+ghost use Rattle.nv_serve.specs.Traced.{TracesAreMeant};
 ghost use Rattle.nv_serve.specs.inner.Endings.{Ends, Refuses};
 ghost use Rattle.nv_serve.specs.inner.Writing.{Wrote, PutFailed};
 
@@ -19,8 +20,8 @@ use nv_options::{ArgumentFault, accept_arguments};
 use std::alloc::Global;
 
 /// Runs the program: reads the input by pieces of at most 4,096 bytes, runs each line once its end is known, and
-/// writes its reply before it reads on. `arguments` begins with the program's name. Where they are not accepted, nothing is
-/// read, and what is written is the line `usage: ovn_nd [--hops N]`.
+/// writes its reply before it reads on. `arguments` begins with the program's name, and says how many hops a traced packet
+/// may take. Where they are not accepted, nothing is read, and what is written is the line `usage: ovn_nd [--hops N]`.
 ///
 /// Of a source or a sink that does not tell its bytes, the clauses on content say how many there are.
 pub fn run<S: Source, K: Sink>(
@@ -31,20 +32,20 @@ pub fn run<S: Source, K: Sink>(
 ) -> Status
     // The input was read to its end: what was written is the output of all of it.
     ensures done { IsFinished result → Moved S.state K.state (source.old, sink.old) (source.new, sink.new) (λ given written.
-        IsAtEnd (S.state source.new).left × (written ≡ output given)) }
+        IsAtEnd (S.state source.new).left × (written ≡ output (map string_bytes arguments.now) given)) }
     // Some line was refused exactly where the status says so.
     ensures some_refused { IsFinished result → Moved S.state K.state (source.old, sink.old) (source.new, sink.new) (λ given written.
-        IsAtEnd (S.state source.new).left × ((result ≡ Status.SomeRefused) ↔ (is_refused given ≡ true))) }
+        IsAtEnd (S.state source.new).left × ((result ≡ Status.SomeRefused) ↔ (is_refused (map string_bytes arguments.now) given ≡ true))) }
 
     // What was written at each other status.
     ensures read_fault { result ≡ Status.ReadFault → Moved S.state K.state (source.old, sink.old) (source.new, sink.new) (λ given written.
-        written ≡ complete_output given) }
+        written ≡ complete_output (map string_bytes arguments.now) given) }
     ensures write_fault { result ≡ Status.WriteFault → Moved S.state K.state (source.old, sink.old) (source.new, sink.new) (λ given written.
-        BeginsDue (output_for (accepts (map string_bytes arguments.now))) given (told_left (S.state source.new).left) written) }
+        BeginsDue (output (map string_bytes arguments.now)) given (told_left (S.state source.new).left) written) }
     ensures input_too_long { result ≡ Status.InputTooLong → Moved S.state K.state (source.old, sink.old) (source.new, sink.new) (λ given written.
-        (input_limit < length given) × (written ≡ complete_output (take input_limit given))) }
+        (input_limit < length given) × (written ≡ complete_output (map string_bytes arguments.now) (take input_limit given))) }
     ensures out_of_memory { result ≡ Status.OutOfMemory → Moved S.state K.state (source.old, sink.old) (source.new, sink.new) (λ given written.
-        BeginsDue output given (told_left (S.state source.new).left) written) }
+        BeginsDue (output (map string_bytes arguments.now)) given (told_left (S.state source.new).left) written) }
 
     ensures usage { result ≡ Status.Usage → Moved S.state K.state (source.old, sink.old) (source.new, sink.new) (λ given written.
         (given ≡ []) × (written ≡ usage_line)) }
@@ -63,15 +64,16 @@ pub fn run<S: Source, K: Sink>(
         → (result ≡ Status.Usage) ⊎ (result ≡ Status.WriteFault) ⊎ (result ≡ Status.OutOfMemory) }
     ensures usage_reads_nothing { accepts (map string_bytes arguments.now) ≡ false → source.new ≡ source.old }
 
-    // Each frame of the input is answered by events that are, hits left out, what the switch does with it.
+    // Each trace of the input that begins at a port of a switch is answered by the lines of events that are, hits left out,
+    // what the network does with the packet.
     ensures refinement { IsFinished result → Moved S.state K.state (source.old, sink.old) (source.new, sink.new) (λ given written.
-        (written ≡ output given) × FramesAreMeant (lines_of given)) }
+        (written ≡ output (map string_bytes arguments.now) given) × TracesAreMeant (map string_bytes arguments.now) (lines_of given)) }
 
     // The calls: pieces of at most 4,096 bytes are taken, each complete line is answered before the next take, an input is
     // at its end where a take gives nothing, and a call that fails is the last.
     ensures nothing_follows_a_fault { Moved S.state K.state (source.old, sink.old) (source.new, sink.new) (λ given written.
-        NothingFollowsAFault S.take_gives K.put_gives (start_at source.old sink.old)
-        (record { source = source.new; sink = sink.new; given = given; written = written }) result) }
+        NothingFollowsAFault S.take_gives K.put_gives (start_at (opened (map string_bytes arguments.now)) source.old sink.old)
+        (record { first = opened (map string_bytes arguments.now); source = source.new; sink = sink.new; given = given; written = written }) result) }
 
     // Completeness: with arguments that are accepted, no fault and no more input than may be, only memory keeps the run from its end.
     ensures complete { accepts (map string_bytes arguments.now) ≡ true
@@ -92,27 +94,28 @@ fn serve<S: Source, K: Sink>(
     sink: &mut K,
 ) -> Status
     ensures ends { Moved S.state K.state (source.old, sink.old) (source.new, sink.new) (λ given written.
-        Ends (accepts (map string_bytes arguments.now)) (S.state source.old, K.state sink.old) (S.state source.new, K.state sink.new) (given, written) result
-        × NothingFollowsAFault S.take_gives K.put_gives (start_at source.old sink.old)
-        (record { source = source.new; sink = sink.new; given = given; written = written }) result) }
+        Ends (map string_bytes arguments.now) (S.state source.old, K.state sink.old) (S.state source.new, K.state sink.new) (given, written) result
+        × NothingFollowsAFault S.take_gives K.put_gives (start_at (opened (map string_bytes arguments.now)) source.old sink.old)
+        (record { first = opened (map string_bytes arguments.now); source = source.new; sink = sink.new; given = given; written = written }) result) }
     ensures arguments { accepts (map string_bytes arguments.now) ≡ false
         → (source.new ≡ source.old) × ((result ≡ Status.Usage) ⊎ (result ≡ Status.WriteFault) ⊎ (result ≡ Status.OutOfMemory)) }
 {
     match accept_arguments(alloc, arguments) {
-        Ok(()) => answer_lines(alloc, source, sink),
+        Ok(hops) => answer_lines(alloc, hops, source, sink),
         Err(ArgumentFault::Refused) => refuse_arguments(sink),
         Err(ArgumentFault::Memory) => Status::OutOfMemory,
     }
 }
 
-// Answers the lines of the input.
-fn answer_lines<S: Source, K: Sink>(alloc: Global, source: &mut S, sink: &mut K) -> Status
-    ensures { Moved S.state K.state (source.old, sink.old) (source.new, sink.new) (λ given written.
-        Ends true (S.state source.old, K.state sink.old) (S.state source.new, K.state sink.new) (given, written) result
-        × NothingFollowsAFault S.take_gives K.put_gives (start_at source.old sink.old)
-        (record { source = source.new; sink = sink.new; given = given; written = written }) result) }
+// Answers the lines of the input, where these words are accepted and ask for so many hops.
+fn answer_lines<S: Source, K: Sink>(alloc: Global, hops: u8, source: &mut S, sink: &mut K) -> Status
+    ensures { (words : List Text) → accepts words ≡ true → hops ≡ hops_in words
+        → Moved S.state K.state (source.old, sink.old) (source.new, sink.new) (λ given written.
+        Ends words (S.state source.old, K.state sink.old) (S.state source.new, K.state sink.new) (given, written) result
+        × NothingFollowsAFault S.take_gives K.put_gives (start_at (opened words) source.old sink.old)
+        (record { first = opened words; source = source.new; sink = sink.new; given = given; written = written }) result) }
 {
-    let mut server = Server::new(alloc);
+    let mut server = Server::new(alloc, hops);
     match converse(alloc, &mut server, source, sink) {
         Ok(()) if server.some_refused => Status::SomeRefused,
         Ok(()) => Status::Done,

@@ -1,6 +1,7 @@
 ghost use Rattle.std.specs.Prelude.{◌≡◌, ◌++◌, ◌+◌, ◌<◌, ◌≤◌, ◌||◌, ℕ, List, [], OnOk, IfErr, length, take, false};
 ghost use Rattle.nv_serve.specs.Reply.{flows, ok_line, reply};
 ghost use Rattle.nv_serve.specs.Session.{new_session};
+ghost use Rattle.nv_serve.specs.Session as spec;
 ghost use Rattle.nv_serve.specs.inner.Pieces.{IsDue, BeginsOutput};
 ghost use Rattle.nv_serve.specs.inner.StateAfter.{IsKeptAfter, and_kept};
 ghost use Rattle.nv_serve.specs.inner.Writing.{Wrote, PutFailed, StopsWithin};
@@ -27,13 +28,13 @@ pub struct Server {
 }
 
 impl Server {
-    pub fn new(alloc: Global) -> Self
-        ensures session { result.session ≡ new_session }
+    pub fn new(alloc: Global, hops: u8) -> Self
+        ensures session { result.session ≡ new_session hops }
         ensures line { result.line.items ≡ [] }
         ensures refused { result.some_refused ≡ false }
     {
         Server {
-            session: Session::new(),
+            session: Session::new(hops),
             line: Vec::new(alloc),
             some_refused: false,
         }
@@ -110,13 +111,13 @@ impl Server {
         requires { self.old.session.network.next + length self.old.line.items + length bytes.now < 4294967294 }
         ensures next { OnOk result (self.new.session.network.next + length self.new.line.items
             ≤ self.old.session.network.next + length self.old.line.items + length bytes.now) }
-        ensures fed { OnOk result ((before : List ℕ)
-            → IsKeptAfter self.old.session self.old.line.items self.old.some_refused before
-            → IsKeptAfter self.new.session self.new.line.items self.new.some_refused (before ++ bytes.now)
-            × ((text : List ℕ) × IsDue before bytes.now text × Wrote K.put_gives K.state sink.old sink.new text)) }
-        ensures stop { IfErr result (λ stop. (before : List ℕ)
-            → IsKeptAfter self.old.session self.old.line.items self.old.some_refused before
-            → (text : List ℕ) × BeginsOutput before bytes.now text × StopsWithin
+        ensures fed { OnOk result ((first : spec.Session) (before : List ℕ)
+            → IsKeptAfter first self.old.session self.old.line.items self.old.some_refused before
+            → IsKeptAfter first self.new.session self.new.line.items self.new.some_refused (before ++ bytes.now)
+            × ((text : List ℕ) × IsDue first before bytes.now text × Wrote K.put_gives K.state sink.old sink.new text)) }
+        ensures stop { IfErr result (λ stop. (first : spec.Session) (before : List ℕ)
+            → IsKeptAfter first self.old.session self.old.line.items self.old.some_refused before
+            → (text : List ℕ) × BeginsOutput first before bytes.now text × StopsWithin
             (Wrote K.put_gives K.state sink.old sink.new) (PutFailed K.put_gives K.state sink.old sink.new) text stop) }
     {
         let mut rest = bytes;

@@ -1,11 +1,12 @@
 ghost use Rattle.std.specs.Prelude.{◌≡◌, ◌+◌, ◌<◌, Ok, OnOk, OnErr, IfOk, IfErr, length};
-ghost use Rattle.std.specs.List.{AllByRecursion, Contains};
+ghost use Rattle.std.specs.List.{AllByRecursion};
 ghost use Rattle.nb_words.specs.Fault.{IsFaultOf};
 ghost use Rattle.nb_net.specs.Readable.{IsReadable};
-ghost use Rattle.nb_net.specs.Sound.{IsSound, switch_ids};
+ghost use Rattle.nb_net.specs.Sound.{IsSound};
 ghost use Rattle.nb_net.specs.Transactions.{edited};
-ghost use Rattle.tr_walk.specs.Walk.{flows_at, machine, IsRefined};
-ghost use Rattle.nv_serve.specs.Reply.{flows};
+ghost use Rattle.nb_plain.specs.Plain.{IsBuilt, IsPlain};
+ghost use Rattle.tr_net.specs.Refined.{IsRefined};
+ghost use Rattle.nv_serve.specs.Reply.{flows, traced};
 ghost use Rattle.nv_serve.specs.Session.{new_session};
 ghost use Rattle.nv_serve.specs.inner.KeptRows.{AreRowsOf};
 ghost use Rattle.nv_serve.specs.inner.Writing.{Wrote, PutFailed, StopsWithin};
@@ -16,44 +17,48 @@ use nb_check::Tables;
 use nb_core::Edit;
 use nb_tables::Records;
 use nb_words::LineFault;
-use nd_full::full_build;
+use nd_units::full;
 use nv_base::{Items, ObjId, OutOfMemory};
 use nv_io::Sink;
 use pkt_core::Packet;
 use sb_rows::Rows;
 use std::alloc::Global;
 use std::marker::Model;
-use tr_walk::{Event, trace};
+use tr_net::{Event, trace};
 
-// The network, and its rows where they were made since it last changed.
+// The network, its rows where they were made since it last changed, and how many hops a traced packet may take.
 #[derive(Drop)]
 pub struct Session {
     tables: Tables,
     rows: Option<Rows>,
+    hops: u8,
 }
 
 impl Model for Session {
     ghost use Rattle.std.specs.Coded.{codes};
     ghost use Rattle.nb_core.specs.contracts.acl.Acl as acl;
     ghost use Rattle.nv_serve.specs.Session as value;
+    ghost use Rattle.nb_plain.specs.Plain.{IsPlain};
     ghost use Rattle.nv_serve.specs.inner.KeptRows.{AreKept};
 
     ghost Value = { value.Session };
 
     ghost coded = { Prim.hlevel (codes, acl.the_row.coded) };
 
-    ghost view = { λ s. record { network = s.tables } };
+    ghost view = { λ s. record { network = s.tables; hops = s.hops } };
 
-    ghost invariant = { λ s. AreKept s.rows s.tables };
+    ghost invariant = { λ s. IsPlain s.tables × AreKept s.rows s.tables };
 }
 
 impl Session {
-    pub fn new() -> Self
-        ensures { result ≡ new_session }
+    #[tactic(auto, using(nb_plain::proofs::Plain::empty_plain))]
+    pub fn new(hops: u8) -> Self
+        ensures { result ≡ new_session hops }
     {
         Session {
             tables: Tables::new(),
             rows: None,
+            hops,
         }
     }
 
@@ -65,10 +70,13 @@ impl Session {
     }
 
     // Does what all edits of a line ask for, or nothing.
+    #[tactic(auto, using(crate::proofs::Reached::plain_edited))]
     pub fn apply_all(&mut self, alloc: Global, edits: Items<Edit>) -> Result<(), LineFault>
         requires readable { AllByRecursion IsReadable edits }
+        requires built { AllByRecursion IsBuilt edits }
         requires room { self.old.network.next + length edits < 4294967294 }
         ensures done { OnOk result (edited self.old.network edits ≡ Ok self.new.network) }
+        ensures hops { self.new.hops ≡ self.old.hops }
         ensures refused { IfErr result (λ fault. IsFaultOf (edited self.old.network edits) fault) }
         ensures same { OnErr result (self.new ≡ self.old) }
     {
@@ -77,22 +85,20 @@ impl Session {
         Ok(())
     }
 
-    // What happens to a packet that comes into the switch by a port. The rows are made where the network has changed,
-    // and kept.
+    // What the rows do with a packet that comes in by a port. They are made where the network has changed, and kept.
     pub fn trace(
         &mut self,
         alloc: Global,
-        dp: ObjId,
         port: ObjId,
         packet: &Packet,
     ) -> Result<Vec<Event>, OutOfMemory>
-        requires { Contains (switch_ids self.old.network) dp }
-        ensures events { IfOk result (λ events. events.items ≡ machine (flows_at self.old.network dp) port packet.now) }
+        ensures events { IfOk result (λ events. events.items ≡ traced self.old port packet.now) }
         ensures refinement { OnOk result (IsRefined self.old.network) }
         ensures same { self.new ≡ self.old }
     {
         let rows = self.take_rows(alloc)?;
-        let events = trace(alloc, &rows, self.tables.records(), dp, port, packet)?;
+        let hops = u32::from(self.hops);
+        let events = trace(alloc, &rows, self.tables.records(), port, packet, hops)?;
         self.rows = Some(rows);
         Ok(events)
     }
@@ -131,9 +137,9 @@ impl Session {
 
 // The rows of a network.
 fn rows_of(alloc: Global, records: &Records) -> Result<Rows, OutOfMemory>
-    requires { IsSound records.now }
+    requires sound { IsSound records.now }
+    requires plain { IsPlain records.now }
     ensures { IfOk result (λ rows. AreRowsOf rows records.now) }
 {
-    let rows = full_build(alloc, records.switches(), records.ports())?;
-    Ok(rows)
+    full(alloc, records)
 }

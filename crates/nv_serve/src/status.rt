@@ -8,7 +8,7 @@ pub enum Status {
     Done,
     /// The input was read to its end, and some line was refused.
     SomeRefused,
-    /// There were arguments, which the program takes none of.
+    /// The arguments are not accepted.
     Usage,
     /// The input could not be read.
     ReadFault,

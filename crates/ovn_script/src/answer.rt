@@ -1,6 +1,7 @@
 use nb_cmds::{Line, Query, read_line};
 use nb_words::LineFault;
-use nv_base::{Name, OutOfMemory, put_dec, put_mac};
+use nv_base::{Name, OutOfMemory, put_dec};
+use pkt_core::put_packet;
 use std::alloc::Global;
 
 // The name, after a space.
@@ -19,13 +20,17 @@ fn put_query(out: &mut Vec<u8>, query: &Query) -> Result<(), OutOfMemory> {
                 put_name(out, name)?;
             }
         }
-        Query::Dump => out.extend_from_slice(b"dump")?,
-        Query::Frame { port, mac } => {
-            out.extend_from_slice(b"frame")?;
-            put_name(out, port)?;
+        Query::Trace { minimal, dp, micro } => {
+            if *minimal {
+                out.extend_from_slice(b"--minimal ")?;
+            }
+            out.extend_from_slice(b"trace")?;
+            put_name(out, dp)?;
+            put_name(out, &micro.inport)?;
             out.push(b' ')?;
-            put_mac(out, *mac)?;
+            put_packet(out, &micro.packet)?;
         }
+        Query::Dump => out.extend_from_slice(b"dump")?,
     }
     out.push(b'\n')?;
     Ok(())

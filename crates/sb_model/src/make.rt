@@ -1,10 +1,28 @@
 //! The matches and actions that rows are made of.
 ghost use Rattle.std.specs.Prelude.{◌≡◌, [], ◌∷◌, IfOk};
-ghost use Rattle.sb_model.specs.Make.{takes_each, bit, is_predicate, compares, equals, is_port};
+ghost use Rattle.sb_model.specs.Make.{
+  takes_each,
+  bit,
+  is_predicate,
+  compares,
+  equals,
+  is_port,
+  in_decimal,
+  in_hexadecimal,
+  as_mac,
+  as_ip4,
+  is_one_of,
+  differs,
+  is_none_of,
+  bit_is_set,
+  all_of,
+  one_of,
+  goes_out_by,
+};
 
 use act_core::{Action, Step};
-use expr_core::{Bits, Const, Item, Pred, Rel, Right, Typed, TypedAtom};
-use nv_base::{Field, Items, Name, OutOfMemory};
+use expr_core::{Bits, Const, Form, Item, Pred, Rel, Right, Typed, TypedAtom};
+use nv_base::{Field, Ip4, Items, Mac, Name, OutOfMemory};
 use std::alloc::Global;
 
 /// The match `1`, which takes each packet. It takes no memory, nor do the other matches here.
@@ -55,5 +73,113 @@ pub fn one_step(alloc: Global, step: Step) -> Result<Items<Action>, OutOfMemory>
 {
     let mut actions = Items::with_capacity(alloc, 1)?;
     actions.push(Action::Step(step))?;
+    Ok(actions)
+}
+
+/// A number as a constant of a match or an action, in decimal.
+pub fn in_decimal(value: u128) -> Const
+    ensures { result ≡ in_decimal value }
+{
+    Const {
+        form: Form::Dec,
+        value,
+    }
+}
+
+/// A number as a constant, in hexadecimal.
+pub fn in_hexadecimal(value: u128) -> Const
+    ensures { result ≡ in_hexadecimal value }
+{
+    Const {
+        form: Form::Hex,
+        value,
+    }
+}
+
+/// A MAC as a constant.
+pub fn as_mac(mac: Mac) -> Const
+    ensures { result ≡ as_mac mac }
+{
+    Const {
+        form: Form::Mac,
+        value: u128::from(mac.0),
+    }
+}
+
+/// An IPv4 address as a constant.
+pub fn as_ip4(addr: Ip4) -> Const
+    ensures { result ≡ as_ip4 addr.0 }
+{
+    Const {
+        form: Form::Ip4,
+        value: u128::from(addr.0),
+    }
+}
+
+/// The match `f == {a, b}`: the field equals one of the items, of which there are one or more.
+pub fn is_one_of(field: Field, items: Items<Item>) -> Typed
+    ensures { result ≡ is_one_of field items }
+{
+    Typed::atom(TypedAtom::Compare(field, Bits::Whole, Rel::Eq, Right::Set(items)))
+}
+
+/// The match `f != constant`.
+pub fn differs(field: Field, constant: Const) -> Typed
+    ensures { result ≡ differs field constant }
+{
+    Typed::atom(TypedAtom::Compare(
+        field,
+        Bits::Whole,
+        Rel::Ne,
+        Right::Item(Item::One(constant)),
+    ))
+}
+
+/// The match `f != {a, b}`: the field equals none of the items, of which there are one or more.
+pub fn is_none_of(field: Field, items: Items<Item>) -> Typed
+    ensures { result ≡ is_none_of field items }
+{
+    Typed::atom(TypedAtom::Compare(field, Bits::Whole, Rel::Ne, Right::Set(items)))
+}
+
+/// The match `f[n] == 1`.
+pub fn bit_is_set(field: Field, number: u8) -> Typed
+    ensures { result ≡ bit_is_set field number }
+{
+    Typed::atom(TypedAtom::Compare(
+        field,
+        Bits::Bit(number),
+        Rel::Eq,
+        Right::Item(Item::One(in_decimal(1))),
+    ))
+}
+
+/// The match of the packets that both take.
+pub fn both(alloc: Global, one: Typed, other: Typed) -> Result<Typed, OutOfMemory>
+    ensures { IfOk result (λ t. t ≡ all_of (one ∷ other ∷ [])) }
+{
+    let mut operands = Items::with_capacity(alloc, 2)?;
+    operands.push(one)?;
+    operands.push(other)?;
+    Ok(Typed::conjunction(operands))
+}
+
+/// The match of the packets that one of the two takes.
+pub fn either(alloc: Global, one: Typed, other: Typed) -> Result<Typed, OutOfMemory>
+    ensures { IfOk result (λ t. t ≡ one_of (one ∷ other ∷ [])) }
+{
+    let mut operands = Items::with_capacity(alloc, 2)?;
+    operands.push(one)?;
+    operands.push(other)?;
+    Ok(Typed::disjunction(operands))
+}
+
+/// The actions that send a packet out by the port or the multicast group of this name.
+pub fn goes_out_by(alloc: Global, name: Name) -> Result<Items<Action>, OutOfMemory>
+    ensures { IfOk result (λ actions. actions ≡ goes_out_by name) }
+{
+    let mut actions = Items::with_capacity(alloc, 2)?;
+    actions.push(Action::Step(Step::SetOutport(name)))?;
+    actions.push(Action::Step(Step::Output))?;
     Ok(actions)
 }

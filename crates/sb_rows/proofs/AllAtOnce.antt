@@ -1,4 +1,5 @@
--- Rows that are sorted all at once are those that are put one by one, where no two agree in their order.
+-- Rows that are put or sorted are those that were there and the new ones, and where no two agree in their order there is one
+-- list of them.
 use Rattle.std.proofs.Common.{◌≡◌, ◌≢◌, suc, Bool, true, false, List, [], ◌∷◌, ◌++◌, get_or, sym, ap, refl, ◌∙◌, arith}
 use Rattle.std.specs.Prelude.{◌↔◌}
 use Rattle.std.specs.declared.cmp.Ordering.{Ordering}
@@ -106,16 +107,7 @@ members_move xs ys moves r = (Contains-permutation xs ys r moves, Contains-permu
 pub put_members : (rows : List Row) (r : Row) → Contains (put_rows [] rows) r ↔ Contains rows r
 put_members rows r = members_move (put_rows [] rows) rows (IsPermutation-sym rows (put_rows [] rows) (put_rows_move rows [])) r
 
--- rows in order that are those that were there and the new ones are the rows that are put one by one
-pub sorted_is_put : (rows more sorted : List Row) → IsInRowOrder rows → AreApart (rows ++ more) → IsPermutation (rows ++ more) sorted → IsInRowOrder sorted → sorted ≡ put_rows rows more
-sorted_is_put rows more sorted up apart moves sorted_up =
-    let put = put_rows_move more rows in
-    told_by_members sorted (put_rows rows more)
-    sorted_up (apart_moves (rows ++ more) sorted moves apart)
-    (put_rows_ordered more rows up) (apart_moves (rows ++ more) (put_rows rows more) put apart)
-    (members_move sorted (put_rows rows more) (IsPermutation-trans sorted (rows ++ more) (put_rows rows more) (IsPermutation-sym (rows ++ more) sorted moves) put))
-
--- and they are rows of the table
+-- rows of the table that are sorted with new ones are rows of the table
 pub sorted_are_rows : (rows more sorted : List Row) → AreApart (rows ++ more) → All HasTypedMatch (rows ++ more) → IsPermutation (rows ++ more) sorted → IsInRowOrder sorted → AreRows sorted
 sorted_are_rows rows more sorted apart typed moves up = record {
   ordered = up;

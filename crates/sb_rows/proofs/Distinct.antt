@@ -11,7 +11,7 @@ use Rattle.sb_rows.proofs.Place.{ordered_put}
 use Rattle.sb_rows.proofs.Select.{among_put}
 
 -- what holds of each row that is among rows holds of all
-all_from_among : (P : Row → Type 0) (xs : List Row) → ((r : Row) → Contains xs r → P r) → All P xs
+pub all_from_among : (P : Row → Type 0) (xs : List Row) → ((r : Row) → Contains xs r → P r) → All P xs
 all_from_among P xs each k d below = each (get_or xs k d) (k, below, get_or_default xs k (get_or xs k d) d below)
 
 module _ (R : Row → Row → Type 0) (x : Row) (xs : List Row) (apart : AllPairs R (x ∷ xs)) where

@@ -1,6 +1,7 @@
 pub mod AllAtOnce
 pub mod Among
 pub mod Appends
+pub mod AsSet
 pub mod Asked
 pub mod Distinct
 pub mod Members
@@ -8,6 +9,7 @@ pub mod Order
 pub mod Place
 pub mod Section
 pub mod Select
+pub mod Stable
 pub mod Tables
 pub mod Tail
 pub mod Taken

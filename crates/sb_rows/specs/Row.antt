@@ -1,6 +1,6 @@
 -- The rows of the logical flow table: their order, and how rows are put among others and taken out.
-use Rattle.std.specs.Prelude.{◌≡◌, ◌≢◌, List, [], ◌∷◌, ◌++◌, fold, if◌then◌else◌, ◌==◌, filter, IsSorted}
-use Rattle.std.specs.List.{All, AllPairs}
+use Rattle.std.specs.Prelude.{◌≡◌, ◌≢◌, List, [], ◌∷◌, ◌++◌, fold, if◌then◌else◌, ◌==◌, filter, IsSorted, ◌↔◌}
+use Rattle.std.specs.List.{All, AllPairs, Contains}
 use Rattle.std.specs.declared.cmp.Ordering.{Ordering}
 use Rattle.std.specs.declared.cmp.Ordering.TheVariants.{Equal}
 use Rattle.std.specs.Ordering.{nat_cmp, is_gt, on, then_cmp, flip_args}
@@ -36,6 +36,10 @@ IsInRowOrder rows = IsSorted row_cmp rows
 abbrev pub AreApart : List Row → Type 0
 AreApart rows = AllPairs (λ a b. row_cmp a b ≢ Equal) rows
 
+-- rows that agree in datapath, stage, priority, hint and match are one row
+abbrev pub AgreeAsOne : List Row → Type 0
+AgreeAsOne rows = (a b : Row) → Contains rows a → Contains rows b → row_cmp a b ≡ Equal → a ≡ b
+
 -- the match of the row is well-typed, in the role of a row
 abbrev pub HasTypedMatch : Row → Type 0
 HasTypedMatch r = IsTyped role.Row r.matching
@@ -45,6 +49,12 @@ pub record AreRows (rows : List Row) : Type 0 where
   pub ordered : IsInRowOrder rows
   pub distinct : AllPairs (λ a b. a ≢ b) rows
   pub typed : All HasTypedMatch rows
+
+-- the rows of a list as a set: in row order, and one that the list has twice is one row
+pub record IsSetOf (rows list : List Row) : Type 0 where
+  pub ordered : IsInRowOrder rows
+  pub apart : AreApart rows
+  pub members : (r : Row) → Contains rows r ↔ Contains list r
 
 -- the rows with one more, which goes before the first that is after it in this order
 abbrev pub put_row : Row → List Row → List Row

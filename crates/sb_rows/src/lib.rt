@@ -5,6 +5,7 @@
 mod laws;
 mod listing;
 mod new_rows;
+mod row_list;
 mod rows;
 mod search;
 mod stored;
@@ -12,4 +13,5 @@ mod stored;
 pub use laws::{rows_are_told_by_their_members, rows_that_are_put_are_in_order};
 pub use listing::put_listing;
 pub use new_rows::NewRows;
+pub use row_list::RowList;
 pub use rows::Rows;

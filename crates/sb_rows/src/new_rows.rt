@@ -1,5 +1,7 @@
 ghost use Rattle.std.specs.Prelude.{◌≡◌, [], ◌∷◌, ◌++◌, IfOk, OnOk, OnErr};
+ghost use Rattle.sb_rows.specs.Row.{put_rows};
 
+use crate::RowList;
 use crate::stored::Stored;
 use nv_base::OutOfMemory;
 use sb_model::Row;
@@ -28,6 +30,16 @@ impl Model for NewRows {
 }
 
 impl NewRows {
+    /// No rows. It takes no memory.
+    pub fn new(alloc: Global) -> Self
+        ensures { result ≡ [] }
+    {
+        NewRows {
+            stored: Vec::new(alloc),
+            room: Vec::new(alloc),
+        }
+    }
+
     /// No rows, and room for so many.
     pub fn with_capacity(alloc: Global, count: usize) -> Result<Self, OutOfMemory>
         ensures { IfOk result (λ rows. rows ≡ []) }
@@ -46,6 +58,25 @@ impl NewRows {
         let stored = Stored::new(*self.stored.allocator(), row, &mut self.room)?;
         self.stored.push(stored)?;
         Ok(())
+    }
+
+    /// Puts the rows of a list last, in their order. No text is written again. After `OutOfMemory` the rows are as before.
+    pub fn append(&mut self, list: RowList) -> Result<(), OutOfMemory>
+        ensures ok { OnOk result (self.new ≡ self.old ++ list) }
+        ensures err { OnErr result (self.new ≡ self.old) }
+    {
+        let mut stored = list.into_stored();
+        self.stored.append(&mut stored)?;
+        Ok(())
+    }
+
+    /// The rows in row order. Rows that agree in it stay in the order in which they came.
+    pub fn into_list(self) -> Result<RowList, OutOfMemory>
+        ensures { IfOk result (λ list. list ≡ put_rows [] self) }
+    {
+        let mut stored = self.stored;
+        stored.sort_by(|one, other| one.order(other))?;
+        Ok(RowList::from_stored(stored))
     }
 
     // The rows, in their order.

@@ -1,7 +1,7 @@
 ghost use Rattle.std.specs.Prelude.{◌≡◌, [], ◌++◌, length, All, Contains, IsTrue, ◌↔◌, IfOk, OnOk, OnErr, slice_get};
 ghost use Rattle.std.specs.Bool.{OnTrue, OnFalse};
 ghost use Rattle.std.specs.Option.{option_copied};
-ghost use Rattle.sb_rows.specs.Row.{AreApart, AreRows, HasTypedMatch, IsWithout, put_row, put_rows, rows_of};
+ghost use Rattle.sb_rows.specs.Row.{AgreeAsOne, AreApart, AreRows, HasTypedMatch, IsSetOf, IsWithout, put_row, put_rows, rows_of};
 ghost use Rattle.sb_rows.specs.Match.{select};
 
 use crate::NewRows;
@@ -45,6 +45,17 @@ impl Rows {
         Rows {
             sorted: Vec::new(alloc),
         }
+    }
+
+    /// The rows of a list, of which one that is there twice is one row. No text is written again.
+    pub fn of_all(alloc: Global, new: NewRows) -> Result<Rows, OutOfMemory>
+        requires agree { AgreeAsOne new }
+        requires typed { All HasTypedMatch new }
+        ensures { IfOk result (λ rows. IsSetOf rows new) }
+    {
+        let mut sorted = new.into_list()?.into_stored();
+        sorted.dedup_by(|next, last| next.order(last).is_eq());
+        Ok(Rows { sorted })
     }
 
     /// Whether an equal row is there. Its match and actions are compared only with rows that agree with it in all else.

@@ -8,7 +8,7 @@ ghost use Rattle.sb_rows.specs.inner.Tables.{table_key, key_of};
 
 use expr_core::{Bits, Env, Item, Node, Rel, Right, Typed, TypedAtom, put_tree};
 use expr_eval::holds;
-use nv_base::{Field, ObjId, OutOfMemory};
+use nv_base::{Field, Kept, ObjId, OutOfMemory};
 use pkt_core::Packet;
 use sb_model::{Row, Stage};
 use std::alloc::Global;
@@ -71,6 +71,21 @@ impl Stored {
             dp,
             stage,
             asked,
+            kept,
+        })
+    }
+
+    // An equal row, and the text of its match, which is not written again.
+    pub(crate) fn copy(&self, alloc: Global) -> Result<Self, OutOfMemory>
+        ensures { IfOk result (λ copied. copied ≡ self.now) }
+    {
+        let row = self.kept.row.copy(alloc)?;
+        let text = Vec::from_slice(alloc, self.kept.text.as_slice())?;
+        let kept = Box::new(alloc, Written { row, text })?;
+        Ok(Stored {
+            dp: self.dp,
+            stage: self.stage,
+            asked: self.asked,
             kept,
         })
     }
@@ -141,6 +156,19 @@ impl Stored {
             Ordering::Equal => self.text().cmp(other.text()),
             unlike => unlike,
         }
+    }
+}
+
+impl PartialEq for Stored {
+    ghost use Rattle.sb_model.specs.inner.Exact.{same_row};
+    ghost use Rattle.sb_rows.specs.inner.Exact.{rows_per};
+
+    ghost eq = { same_row };
+
+    ghost laws = { rows_per };
+
+    fn eq(&self, other: &Self) -> bool {
+        self.row() == other.row()
     }
 }
 

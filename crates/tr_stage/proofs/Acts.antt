@@ -14,6 +14,11 @@ use Rattle.tr_stage.specs.Machine.{StageEnd, Effect, after, effect, run_actions}
 use Rattle.tr_stage.specs.Machine.Effect.{Changed}
 use Rattle.tr_stage.specs.Runnable.{is_change, are_run}
 
+-- an action that others follow is a change
+pub step_changes : (net : Lookup) (stage : Stage) (step : Step) (others : List Action) → (length others == 0) ≡ false → IsTrue (are_run net stage (action.Step step ∷ others)) → IsTrue (is_change net step)
+step_changes net stage step [] some run = absurd (false≢true (sym some))
+step_changes net stage step (other ∷ others) some run = (and_parts (is_change net step) (are_run net stage (other ∷ others)) run).0
+
 module _ (net : Lookup) (stage : Stage) (whole : StageEnd) where
   -- the actions that are left do what all of them do, and the machine runs them
   abbrev pub IsLeft : List Action → Values → Type 0

@@ -1,4 +1,5 @@
 pub mod Acts
+pub mod Blocks
 pub mod Found
 pub mod Parts
 pub mod Progress

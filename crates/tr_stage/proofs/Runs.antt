@@ -1,5 +1,5 @@
 -- On rows that the machine runs each packet comes to an outcome.
-use Rattle.std.proofs.Common.{◌≡◌, ◌≢◌, ℕ, zero, suc, ◌+◌, ◌-◌, ◌<◌, true, List, [], ◌∷◌, Option, Some, None, refl, subst, arith}
+use Rattle.std.proofs.Common.{◌≡◌, ◌≢◌, ℕ, zero, suc, ◌+◌, ◌-◌, ◌<◌, true, List, [], ◌∷◌, Option, Some, None, refl, sym, subst, arith}
 use Rattle.std.specs.Prelude.{not, is_some, option_map}
 use Rattle.std.specs.Bool.{IsTrue}
 use Rattle.std.specs.Option.{IsSome}
@@ -11,7 +11,7 @@ use Rattle.act_core.specs.WellFormed.{is_well_formed}
 use Rattle.act_core.specs.declared.action.Action.{Action}
 use Rattle.act_core.specs.declared.action.Action.TheVariants as action
 use Rattle.act_core.specs.declared.step.Step.{Step}
-use Rattle.act_core.specs.declared.step.Step.TheVariants.{Next, Jump, Output, Drop, Set, Copy, SetOutport, Exchange, DecTtl, CtNext, CtLb, CtLbTo, CtCommit, CtSnat, CtSnatTo, CtDnat, CtDnatTo, PutArp, GetArp}
+use Rattle.act_core.specs.declared.step.Step.TheVariants.{Next, Jump, Output, Drop, Set, Copy, SetOutport, Exchange}
 use Rattle.sb_model.specs.declared.stage.DatapathKind.{DatapathKind}
 use Rattle.sb_model.specs.declared.stage.DatapathKind.TheVariants.{Switch, Router}
 use Rattle.sb_model.specs.declared.stage.Pipeline.{Pipeline}
@@ -21,9 +21,10 @@ use Rattle.sb_model.specs.Stage.{stage_table, stage_place, all_stages, stage_at,
 use Rattle.sb_model.proofs.Stages.{next_goes_up, place_below}
 use Rattle.net_meaning.specs.declared.cause.Cause.{Cause}
 use Rattle.tr_stage.specs.declared.outcome.Outcome.TheVariants as outcomes
-use Rattle.tr_stage.specs.Machine.{Flows, StageEnd, cause_at, number_of, on_to, bound_for, effect, after, run_actions, acting, acted, step, go_on, run_from, kind_of, run_pipeline}
+use Rattle.tr_stage.specs.Machine.{Flows, StageEnd, Effect, cause_at, number_of, on_to, bound_for, effect, after, after_change, end_block, run_block, reset_for, error_for, answer_for, answered, run_actions, acting, acted, step, go_on, run_from, kind_of, run_pipeline}
 use Rattle.tr_stage.specs.Machine.StageEnd.{On, Ends}
-use Rattle.tr_stage.specs.Runnable.{is_change, may_end, are_run, IsRunnable}
+use Rattle.tr_stage.specs.Machine.Effect.{Changed}
+use Rattle.tr_stage.specs.Runnable.{is_change, may_end, may_end_block, is_block, may_answer, are_run, IsRunnable}
 use Rattle.tr_stage.proofs.Found.{find_is, IsFound, IsFound-from_select, select_some}
 use Rattle.tr_stage.proofs.Steps.{pipeline_begins}
 
@@ -34,7 +35,12 @@ LeadsOn stage (Ends (Some outcome)) = Unit {0}
 LeadsOn stage (Ends None) = ⊥
 
 module _ (net : Lookup) (stage : Stage) where
-  -- so does a last action
+  -- where there is a cause to drop, a drop comes to an outcome
+  drop_leads : (cause : Option Cause) → is_some cause ≡ true → LeadsOn stage (Ends (option_map outcomes.Drop cause))
+  drop_leads (Some cause) may = tt
+  drop_leads None may = absurd (false≢true may)
+
+  -- so does a last action without a block
   last_leads : (step : Step) (packet : Values) → may_end stage step ≡ true → LeadsOn stage (after (effect net stage step packet) (run_actions net stage []))
   last_leads Next packet may = by (next_stage stage) refl may
     where
@@ -42,66 +48,56 @@ module _ (net : Lookup) (stage : Stage) where
       by (Some later) is may = is
       by None is may = absurd (false≢true may)
   last_leads Output packet may = tt
-  last_leads Drop packet may = by (cause_at stage) may
-    where
-      by : (cause : Option Cause) → is_some cause ≡ true → LeadsOn stage (Ends (option_map outcomes.Drop cause))
-      by (Some cause) may = tt
-      by None may = absurd (false≢true may)
-  last_leads (Jump egress table) packet may = absurd (false≢true may)
-  last_leads (Set field bits constant) packet may = absurd (false≢true may)
-  last_leads (Copy field bits from) packet may = absurd (false≢true may)
-  last_leads (SetOutport name) packet may = absurd (false≢true may)
-  last_leads (Exchange one other) packet may = absurd (false≢true may)
-  last_leads DecTtl packet may = absurd (false≢true may)
-  last_leads CtNext packet may = absurd (false≢true may)
-  last_leads CtLb packet may = absurd (false≢true may)
-  last_leads (CtLbTo targets) packet may = absurd (false≢true may)
-  last_leads (CtCommit blocked) packet may = absurd (false≢true may)
-  last_leads CtSnat packet may = absurd (false≢true may)
-  last_leads (CtSnatTo addr) packet may = absurd (false≢true may)
-  last_leads CtDnat packet may = absurd (false≢true may)
-  last_leads (CtDnatTo addr) packet may = absurd (false≢true may)
-  last_leads PutArp packet may = absurd (false≢true may)
-  last_leads GetArp packet may = absurd (false≢true may)
+  last_leads Drop packet may = drop_leads (cause_at stage) may
+  last_leads _ packet may = absurd (false≢true may)
 
-  -- what follows an assignment or an exchange decides
-  change_leads : (step : Step) (packet : Values) (others : Values → StageEnd) → is_change net step ≡ true → ((changed : Values) → LeadsOn stage (others changed))
-      → LeadsOn stage (after (effect net stage step packet) others)
-  change_leads (Set field bits constant) packet others is rest = rest _
-  change_leads (Copy field bits from) packet others is rest = rest _
-  change_leads (SetOutport name) packet others is rest = by (number_of net name) is
+  -- an assignment or an exchange changes the packet
+  changes : (step : Step) (packet : Values) → is_change net step ≡ true → (changed : Values) × (effect net stage step packet ≡ Changed changed)
+  changes (Set field bits constant) packet is = (_, refl)
+  changes (Copy field bits from) packet is = (_, refl)
+  changes (SetOutport name) packet is = by (number_of net name) is
     where
-      by : (number : Option ℕ) → is_some number ≡ true → LeadsOn stage (after (bound_for number packet) others)
-      by (Some number) is = rest _
+      by : (number : Option ℕ) → is_some number ≡ true → (changed : Values) × (bound_for number packet ≡ Changed changed)
+      by (Some number) is = (_, refl)
       by None is = absurd (false≢true is)
-  change_leads (Exchange one other) packet others is rest = rest _
-  change_leads Next packet others is rest = absurd (false≢true is)
-  change_leads (Jump egress table) packet others is rest = absurd (false≢true is)
-  change_leads Output packet others is rest = absurd (false≢true is)
-  change_leads Drop packet others is rest = absurd (false≢true is)
-  change_leads DecTtl packet others is rest = absurd (false≢true is)
-  change_leads CtNext packet others is rest = absurd (false≢true is)
-  change_leads CtLb packet others is rest = absurd (false≢true is)
-  change_leads (CtLbTo targets) packet others is rest = absurd (false≢true is)
-  change_leads (CtCommit blocked) packet others is rest = absurd (false≢true is)
-  change_leads CtSnat packet others is rest = absurd (false≢true is)
-  change_leads (CtSnatTo addr) packet others is rest = absurd (false≢true is)
-  change_leads CtDnat packet others is rest = absurd (false≢true is)
-  change_leads (CtDnatTo addr) packet others is rest = absurd (false≢true is)
-  change_leads PutArp packet others is rest = absurd (false≢true is)
-  change_leads GetArp packet others is rest = absurd (false≢true is)
+  changes (Exchange one other) packet is = (_, refl)
+  changes _ packet is = absurd (false≢true is)
 
-  -- so do the actions that the machine runs
+  -- a block's last action comes to an outcome
+  end_leads : (step : Step) (packet : Values) → may_end_block step ≡ true → LeadsOn stage (end_block step packet)
+  end_leads (Jump true table) packet may = tt
+  end_leads _ packet may = absurd (false≢true may)
+
+  -- so does a block
+  block_leads : (block : List Step) (packet : Values) → is_block net block ≡ true → LeadsOn stage (run_block net stage block packet)
+  block_leads [] packet is = absurd (false≢true is)
+  block_leads (last ∷ []) packet is = end_leads last packet is
+  block_leads (step ∷ other ∷ others) packet is =
+      let parts = and_parts (is_change net step) (is_block net (other ∷ others)) is in
+      let change = changes step packet parts.0 in
+      subst (λ (e : Effect). LeadsOn stage (after_change e (run_block net stage (other ∷ others)))) (sym change.1) (block_leads (other ∷ others) change.0 parts.1)
+
+  -- a packet is answered, or dropped
+  answered_leads : (block : List Step) (reply : Option Values) → may_answer net stage block ≡ true → LeadsOn stage (answered net stage block reply)
+  answered_leads block (Some packet) may = block_leads block packet (and_parts (is_some (cause_at stage)) (is_block net block) may).1
+  answered_leads block None may = drop_leads (cause_at stage) (and_parts (is_some (cause_at stage)) (is_block net block) may).0
+
+  -- so the actions that the machine runs lead on
   actions_lead : (actions : List Action) (packet : Values) → are_run net stage actions ≡ true → LeadsOn stage (run_actions net stage actions packet)
   actions_lead [] packet run = absurd (false≢true run)
   actions_lead (action.Step step ∷ []) packet run = last_leads step packet run
+  actions_lead (action.TcpReset block ∷ []) packet run = answered_leads block (reset_for packet) run
+  actions_lead (action.Icmp4 block ∷ []) packet run = answered_leads block (error_for packet) run
+  actions_lead (action.Reject block ∷ []) packet run = answered_leads block (answer_for packet) run
+  actions_lead (action.Arp block ∷ []) packet run = absurd (false≢true run)
   actions_lead (action.Step step ∷ other ∷ others) packet run =
       let parts = and_parts (is_change net step) (are_run net stage (other ∷ others)) run in
-      change_leads step packet (run_actions net stage (other ∷ others)) parts.0 (λ changed. actions_lead (other ∷ others) changed parts.1)
-  actions_lead (action.Arp steps ∷ others) packet run = absurd (false≢true run)
-  actions_lead (action.Icmp4 steps ∷ others) packet run = absurd (false≢true run)
-  actions_lead (action.TcpReset steps ∷ others) packet run = absurd (false≢true run)
-  actions_lead (action.Reject steps ∷ others) packet run = absurd (false≢true run)
+      let change = changes step packet parts.0 in
+      subst (λ (e : Effect). LeadsOn stage (after e (run_actions net stage (other ∷ others)))) (sym change.1) (actions_lead (other ∷ others) change.0 parts.1)
+  actions_lead (action.TcpReset block ∷ other ∷ others) packet run = absurd (false≢true run)
+  actions_lead (action.Icmp4 block ∷ other ∷ others) packet run = absurd (false≢true run)
+  actions_lead (action.Reject block ∷ other ∷ others) packet run = absurd (false≢true run)
+  actions_lead (action.Arp block ∷ other ∷ others) packet run = absurd (false≢true run)
 
 same_kinds : (a b c : DatapathKind) → is_same_kind a b ≡ true → is_same_kind a c ≡ true → is_same_kind b c ≡ true
 same_kinds Switch Switch Switch ab ac = refl

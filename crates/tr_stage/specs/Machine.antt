@@ -1,16 +1,20 @@
 -- The run of a packet through one pipeline of a datapath, a step for each stage (ovn-sb(5), 'Logical_Flow TABLE'; ovn-architecture(7)).
-use Rattle.std.specs.Prelude.{ℕ, zero, suc, List, [], ◌∷◌, ◌++◌, Option, Some, None, option_map, codes, if◌then◌else◌}
+use Rattle.std.specs.Prelude.{ℕ, zero, suc, true, ◌&&◌, List, [], ◌∷◌, ◌++◌, Option, Some, None, option_map, codes, if◌then◌else◌}
 use Rattle.std.specs.Str.{bytes_eq}
 use Rattle.nv_base.specs.declared.object.ObjId.{ObjId}
 use Rattle.nv_base.specs.declared.field.Field.TheVariants.{Outport}
+use Rattle.nv_base.specs.declared.field.Prerequisite.TheVariants.{Tcp}
 use Rattle.pkt_core.specs.Packet.{Values, value, with_value, exchanged}
+use Rattle.pkt_core.specs.Prerequisite.{meets}
+use Rattle.pkt_core.specs.Replies.{is_answerable, reset, icmp_error}
+use Rattle.pkt_core.specs.declared.replies.IcmpReason.TheVariants.{PortUnreachable}
 use Rattle.expr_core.specs.Lookup.{Lookup}
 use Rattle.act_core.specs.declared.action.Action.{Action}
 use Rattle.act_core.specs.declared.action.Action.TheVariants as action
 use Rattle.act_core.specs.declared.step.Step.{Step}
-use Rattle.act_core.specs.declared.step.Step.TheVariants.{Next, Output, Drop, Set, Copy, SetOutport, Exchange}
+use Rattle.act_core.specs.declared.step.Step.TheVariants.{Next, Jump, Output, Drop, Set, Copy, SetOutport, Exchange}
 use Rattle.sb_model.specs.declared.stage.Stage.{Stage}
-use Rattle.sb_model.specs.declared.stage.Stage.TheVariants.{LsInCheckPortSec, LsInL2Unknown, LsOutCheckPortSec}
+use Rattle.sb_model.specs.declared.stage.Stage.TheVariants.{LsInCheckPortSec, LsInAclEval, LsInL2Unknown, LsOutAclEval, LsOutCheckPortSec}
 use Rattle.sb_model.specs.declared.stage.DatapathKind.{DatapathKind}
 use Rattle.sb_model.specs.declared.stage.DatapathKind.TheVariants.{Switch, Router}
 use Rattle.sb_model.specs.declared.stage.Pipeline.{Pipeline}
@@ -18,8 +22,9 @@ use Rattle.sb_model.specs.declared.stage.Pipeline.TheVariants.{Ingress, Egress}
 use Rattle.sb_model.specs.declared.row.Row.{Row}
 use Rattle.sb_model.specs.Stage.{pipeline_of, stage_at, next_stage}
 use Rattle.sb_rows.specs.Match.{select}
+use Rattle.net_meaning.specs.declared.answer.Answer.TheVariants.{Reject}
 use Rattle.net_meaning.specs.declared.cause.Cause.{Cause}
-use Rattle.net_meaning.specs.declared.cause.Cause.TheVariants.{PortSec, Unknown}
+use Rattle.net_meaning.specs.declared.cause.Cause.TheVariants.{PortSec, Acl, Unknown}
 use Rattle.tr_stage.specs.declared.outcome.Hit.{Hit}
 use Rattle.tr_stage.specs.declared.outcome.Outcome.{Outcome}
 use Rattle.tr_stage.specs.declared.outcome.Outcome.TheVariants as outcomes
@@ -37,7 +42,9 @@ flows_of rows net dp = record { rows = rows; net = net; dp = dp }
 -- why a packet is dropped in the stage, if it may be
 abbrev pub cause_at : Stage → Option Cause
 cause_at LsInCheckPortSec = Some PortSec
+cause_at LsInAclEval = Some Acl
 cause_at LsInL2Unknown = Some Unknown
+cause_at LsOutAclEval = Some Acl
 cause_at LsOutCheckPortSec = Some PortSec
 cause_at _ = None
 
@@ -90,10 +97,44 @@ abbrev pub after : Effect → (Values → StageEnd) → StageEnd
 after (Changed packet) others = others packet
 after (Done ending) others = ending
 
--- what actions do, one after the other
+-- in a block only changes have others after them
+abbrev pub after_change : Effect → (Values → StageEnd) → StageEnd
+after_change (Changed packet) others = others packet
+after_change (Done ending) others = Ends None
+
+-- a block's last action: the packet that is made goes out of a table of egress
+abbrev pub end_block : Step → Values → StageEnd
+end_block (Jump true table) packet = Ends (Some (outcomes.Made packet table Reject))
+end_block _ packet = Ends None
+
+-- what a block does to the packet that is made: changes, and then the last action
+abbrev pub run_block : Lookup → Stage → List Step → Values → StageEnd
+run_block net stage [] packet = Ends None
+run_block net stage (last ∷ []) packet = end_block last packet
+run_block net stage (step ∷ others) packet = after_change (effect net stage step packet) (run_block net stage others)
+
+-- the reset that answers a packet, and the ICMP error, where it may be answered; a rejected packet is answered by the first if it is TCP
+abbrev pub reset_for : Values → Option Values
+reset_for packet = if is_answerable packet && meets packet Tcp then Some (reset packet) else None
+
+abbrev pub error_for : Values → Option Values
+error_for packet = if is_answerable packet then Some (icmp_error packet PortUnreachable) else None
+
+abbrev pub answer_for : Values → Option Values
+answer_for packet = if meets packet Tcp then reset_for packet else error_for packet
+
+-- the block runs on the packet that answers; one that may not be answered is dropped
+abbrev pub answered : Lookup → Stage → List Step → Option Values → StageEnd
+answered net stage block (Some packet) = run_block net stage block packet
+answered net stage block None = Ends (option_map outcomes.Drop (cause_at stage))
+
+-- what actions do, one after the other; nothing follows a block
 abbrev pub run_actions : Lookup → Stage → List Action → Values → StageEnd
 run_actions net stage [] packet = Ends None
 run_actions net stage (action.Step step ∷ others) packet = after (effect net stage step packet) (run_actions net stage others)
+run_actions net stage (action.TcpReset block ∷ []) packet = answered net stage block (reset_for packet)
+run_actions net stage (action.Icmp4 block ∷ []) packet = answered net stage block (error_for packet)
+run_actions net stage (action.Reject block ∷ []) packet = answered net stage block (answer_for packet)
 run_actions net stage (_ ∷ others) packet = Ends None
 
 -- the row that acts on a packet in a stage

@@ -6,7 +6,7 @@ use Rattle.act_core.specs.WellFormed.{is_well_formed}
 use Rattle.act_core.specs.declared.action.Action.{Action}
 use Rattle.act_core.specs.declared.action.Action.TheVariants as action
 use Rattle.act_core.specs.declared.step.Step.{Step}
-use Rattle.act_core.specs.declared.step.Step.TheVariants.{Next, Output, Drop, Set, Copy, SetOutport, Exchange}
+use Rattle.act_core.specs.declared.step.Step.TheVariants.{Next, Jump, Output, Drop, Set, Copy, SetOutport, Exchange}
 use Rattle.sb_model.specs.declared.stage.Stage.{Stage}
 use Rattle.sb_model.specs.declared.row.Row.{Row}
 use Rattle.sb_model.specs.Stage.{stage_table, is_same_kind, is_last}
@@ -20,17 +20,40 @@ is_change net (SetOutport name) = is_some (number_of net name)
 is_change net (Exchange one other) = true
 is_change net _ = false
 
--- what may be a row's last action: `next;` where there is a next stage, `output;`, and `drop;` where there is a cause for it
+-- what may be a row's last action without a block: `next;` where there is a next stage, `output;`, and `drop;` where there is a cause for it
 abbrev pub may_end : Stage → Step → Bool
 may_end stage Next = not (is_last stage)
 may_end stage Output = true
 may_end stage Drop = is_some (cause_at stage)
 may_end stage _ = false
 
+-- what may be a block's last action: the packet goes out of a table of egress
+abbrev pub may_end_block : Step → Bool
+may_end_block (Jump true table) = true
+may_end_block _ = false
+
+-- a block: assignments and exchanges, and then a last action
+abbrev pub is_block : Lookup → List Step → Bool
+is_block net [] = false
+is_block net (last ∷ []) = may_end_block last
+is_block net (step ∷ others) = is_change net step && is_block net others
+
+-- a block in a stage where there is a cause to drop what may not be answered
+abbrev pub may_answer : Lookup → Stage → List Step → Bool
+may_answer net stage block = is_some (cause_at stage) && is_block net block
+
+-- what may be a row's last action: one without a block, or a block whose packet answers another
+abbrev pub may_be_last : Lookup → Stage → Action → Bool
+may_be_last net stage (action.Step step) = may_end stage step
+may_be_last net stage (action.TcpReset block) = may_answer net stage block
+may_be_last net stage (action.Icmp4 block) = may_answer net stage block
+may_be_last net stage (action.Reject block) = may_answer net stage block
+may_be_last net stage (action.Arp block) = false
+
 -- assignments and exchanges, and then a last action
 abbrev pub are_run : Lookup → Stage → List Action → Bool
 are_run net stage [] = false
-are_run net stage (action.Step step ∷ []) = may_end stage step
+are_run net stage (last ∷ []) = may_be_last net stage last
 are_run net stage (action.Step step ∷ others) = is_change net step && are_run net stage others
 are_run net stage (_ ∷ others) = false
 

@@ -1,15 +1,16 @@
 //! What the actions of a row do to a packet.
-ghost use Rattle.std.specs.Prelude.{◌≡◌, IsTrue, Some};
-ghost use Rattle.act_core.specs.WellFormed.{is_step, is_well_formed};
+ghost use Rattle.std.specs.Prelude.{◌≡◌, IsTrue, [], ◌∷◌, Some};
+ghost use Rattle.act_core.specs.WellFormed.{is_step, is_action, is_well_formed};
 ghost use Rattle.expr_core.specs.Lookup.{Lookup};
 ghost use Rattle.pkt_core.specs.Packet.{Values};
 ghost use Rattle.sb_model.specs.declared.stage.Stage as stages;
 ghost use Rattle.tr_stage.specs.Machine.{number_of, effect, run_actions};
 ghost use Rattle.tr_stage.specs.Machine.Effect.{Changed, Done};
-ghost use Rattle.tr_stage.specs.Runnable.{is_change, may_end, are_run};
+ghost use Rattle.tr_stage.specs.Runnable.{is_change, may_end, may_be_last, are_run};
 ghost use Rattle.tr_stage.specs.inner.Ending.{with_packet};
 
 use crate::Cause;
+use crate::block::{answer, answer_for, error_for, reset_for};
 use crate::cause::cause_at;
 use crate::part::set_part;
 use act_core::{Action, Step};
@@ -31,6 +32,8 @@ pub(crate) enum Ending {
     On(Stage),
     /// It goes out of this pipeline.
     Sent(Pipeline),
+    /// It was made in the place of another, which is rejected, and goes on at the table of egress of this number.
+    Made(u8),
     /// It is dropped.
     Dropped(Cause),
 }
@@ -48,20 +51,20 @@ pub(crate) fn run_actions<E: Env>(
 {
     let mut rest = actions;
     while let Some((first, others)) = rest.split_first() {
+        if others.is_empty() {
+            return end(env, stage, first, packet);
+        }
         let Action::Step(step) = first else {
             unreachable!()
         };
-        if others.is_empty() {
-            return end(stage, step);
-        }
         change(env, step, packet);
         rest = others;
     }
     unreachable!()
 }
 
-// Does an assignment or an exchange.
-fn change<E: Env>(env: &E, step: &Step, packet: &mut Packet)
+/// Does an assignment or an exchange.
+pub(crate) fn change<E: Env>(env: &E, step: &Step, packet: &mut Packet)
     requires formed { IsTrue (is_step step.now) }
     requires change { IsTrue (is_change (E.lookup env.now) step.now) }
     ensures { (stage : stages.Stage) → effect (E.lookup env.now) stage step.now packet.old ≡ Changed packet.new }
@@ -81,8 +84,32 @@ fn change<E: Env>(env: &E, step: &Step, packet: &mut Packet)
     }
 }
 
-// The last action of a row.
-fn end(stage: Stage, step: &Step) -> Ending
+// Does the last action of a row.
+fn end<E: Env>(env: &E, stage: Stage, last: &Action, packet: &mut Packet) -> Ending
+    requires formed { IsTrue (is_action last.now) }
+    requires last { IsTrue (may_be_last (E.lookup env.now) stage last.now) }
+    ensures { run_actions (E.lookup env.now) stage (last.now ∷ []) packet.old ≡ with_packet result packet.new }
+{
+    match last {
+        Action::Step(step) => end_step(stage, step),
+        Action::TcpReset(block) => {
+            let reply = reset_for(packet);
+            answer(env, stage, block.as_slice(), reply, packet)
+        }
+        Action::Icmp4(block) => {
+            let reply = error_for(packet);
+            answer(env, stage, block.as_slice(), reply, packet)
+        }
+        Action::Reject(block) => {
+            let reply = answer_for(packet);
+            answer(env, stage, block.as_slice(), reply, packet)
+        }
+        Action::Arp(_) => unreachable!(),
+    }
+}
+
+// Does the last action of a row, one without a block.
+fn end_step(stage: Stage, step: &Step) -> Ending
     requires { IsTrue (may_end stage step.now) }
     ensures { (net : Lookup) (packet : Values) → effect net stage step.now packet ≡ Done (with_packet result packet) }
 {

@@ -12,6 +12,7 @@ pub(crate) fn cause_at(stage: Stage) -> Cause
 {
     match stage {
         Stage::LsInCheckPortSec | Stage::LsOutCheckPortSec => Cause::PortSec,
+        Stage::LsInAclEval | Stage::LsOutAclEval => Cause::Acl,
         Stage::LsInL2Unknown => Cause::Unknown,
         _ => unreachable!(),
     }

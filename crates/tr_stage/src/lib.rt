@@ -2,6 +2,7 @@
 #![tactic(auto)]
 
 mod act;
+mod block;
 mod cause;
 mod kept;
 mod machine;
@@ -9,6 +10,6 @@ mod outcome;
 mod part;
 
 pub use machine::run_pipeline;
-pub use net_meaning::Cause;
+pub use net_meaning::{Answer, Cause};
 pub use outcome::{Hit, Outcome};
 pub use sb_model::Pipeline;

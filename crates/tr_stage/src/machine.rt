@@ -5,7 +5,7 @@ ghost use Rattle.tr_stage.specs.Machine.{flows_of, kind_of, hit_of, run_pipeline
 ghost use Rattle.tr_stage.specs.Runnable.{IsRunnable};
 
 use crate::act::{Ending, run_actions};
-use crate::{Hit, Outcome};
+use crate::{Answer, Hit, Outcome};
 use expr_core::Env;
 use nv_base::{ObjId, OutOfMemory};
 use pkt_core::Packet;
@@ -47,6 +47,7 @@ pub fn run_pipeline<E: Env>(
         match run_actions(env, stage, row.actions.as_slice(), &mut packet) {
             Ending::On(next) => stage = next,
             Ending::Sent(pipeline) => return Ok(sent(pipeline, &packet)),
+            Ending::Made(table) => return Ok(Outcome::Made(packet, table, Answer::Reject)),
             Ending::Dropped(cause) => return Ok(Outcome::Drop(cause)),
         }
     }

@@ -1,4 +1,4 @@
-use net_meaning::Cause;
+use net_meaning::{Answer, Cause};
 use nv_base::ObjId;
 use pkt_core::Packet;
 use sb_model::Stage;
@@ -21,5 +21,7 @@ pub enum Outcome {
     Leave(Packet, u8),
     /// It goes out by its `outport`.
     Deliver(Packet),
+    /// A packet was made in its place, which goes on at a table of egress, the one of this number.
+    Made(Packet, u8, Answer),
     Drop(Cause),
 }

@@ -1,6 +1,8 @@
 -- What is true at the end of a run: by what the source and the sink told before and after it, the bytes given and the bytes written.
 use Rattle.std.specs.Prelude.{◌≡◌, ℕ, ◌<◌, ◌≤◌, Bool, true, false, List, [], length, take, Result}
 use Rattle.std.specs.Io.KnownBytes.{IsAtEnd}
+use Rattle.clap.specs.Words.{Text}
+use Rattle.nv_options.specs.Options.{accepts}
 use Rattle.nv_io.specs.Counts.{Rose}
 use Rattle.nv_io.specs.State.{SourceState, SinkState}
 use Rattle.nv_io.specs.declared.sink.SinkFailed.{SinkFailed}
@@ -9,7 +11,9 @@ use Rattle.nv_serve.specs.declared.status.Status.{Status}
 use Rattle.nv_serve.specs.declared.status.Status.TheVariants.{Done, SomeRefused, Usage, ReadFault, WriteFault, InputTooLong, OutOfMemory}
 use Rattle.nv_serve.specs.declared.stop.Stop.{Stop}
 use Rattle.nv_serve.specs.declared.stop.Stop.TheVariants as stops
-use Rattle.nv_serve.specs.Output.{output, output_for, complete_output, usage_line, is_refused, input_limit}
+use Rattle.nv_serve.specs.Output.{lines_of, complete_lines, opened, output, usage_line, input_limit}
+use Rattle.nv_serve.specs.Reply.{replies, some_refused}
+use Rattle.nv_serve.specs.Session.{Session}
 use Rattle.nv_serve.specs.Calls.{Point, Calls, IsPrefix, BeginsDue, told_left, LastTakeFails, LastPutFails}
 
 -- what the source and the sink tell
@@ -21,36 +25,44 @@ pub record IsQuiet (old new : States) : Type 0 where
   pub source : new.0.faults ≡ old.0.faults
   pub sink : new.1.faults ≡ old.1.faults
 
+-- the bytes given, and those written
+abbrev pub Bytes : Type 0
+Bytes = List ℕ × List ℕ
+
 -- the input was read to its end
-pub record Finished (old new : States) (given written : List ℕ) (refused : Bool) : Type 0 where
+pub record Finished (first : Session) (old new : States) (moved : Bytes) (refused : Bool) : Type 0 where
   pub quiet : IsQuiet old new
   pub at_end : IsAtEnd new.0.left
-  pub within : length given ≤ input_limit
-  pub whole : written ≡ output given
-  pub refused_is : refused ≡ is_refused given
+  pub within : length moved.0 ≤ input_limit
+  pub whole : moved.1 ≡ replies first (lines_of moved.0)
+  pub refused_is : refused ≡ some_refused first (lines_of moved.0)
 
 -- a take failed
-pub record ReadFaulted (old new : States) (given written : List ℕ) : Type 0 where
+pub record ReadFaulted (first : Session) (old new : States) (moved : Bytes) : Type 0 where
   pub rose : Rose old.0.faults new.0.faults
   pub quiet : new.1.faults ≡ old.1.faults
-  pub within : length given ≤ input_limit
-  pub whole : written ≡ complete_output given
+  pub within : length moved.0 ≤ input_limit
+  pub whole : moved.1 ≡ replies first (complete_lines moved.0)
 
 -- a put failed, where this text is due for an input
-pub record WriteFaulted (due : List ℕ → List ℕ) (old new : States) (given written : List ℕ) : Type 0 where
+pub record WriteFaulted (due : List ℕ → List ℕ) (old new : States) (moved : Bytes) : Type 0 where
   pub rose : Rose old.1.faults new.1.faults
-  pub begins : BeginsDue due given (told_left new.0.left) written
+  pub begins : BeginsDue due moved.0 (told_left new.0.left) moved.1
 
 -- the source gave more bytes than an input may have
-pub record TooLong (old new : States) (given written : List ℕ) : Type 0 where
+pub record TooLong (first : Session) (old new : States) (moved : Bytes) : Type 0 where
   pub quiet : IsQuiet old new
-  pub over : input_limit < length given
-  pub whole : written ≡ complete_output (take input_limit given)
+  pub over : input_limit < length moved.0
+  pub whole : moved.1 ≡ replies first (complete_lines (take input_limit moved.0))
 
--- memory ran out
-pub record NoMemory (old new : States) (given written : List ℕ) : Type 0 where
+-- memory ran out, where this text is due for an input
+pub record NoMemory (due : List ℕ → List ℕ) (old new : States) (moved : Bytes) : Type 0 where
   pub quiet : IsQuiet old new
-  pub begins : BeginsDue output given (told_left new.0.left) written
+  pub begins : BeginsDue due moved.0 (told_left new.0.left) moved.1
+
+-- the replies that are due for an input
+abbrev pub all_replies : Session → List ℕ → List ℕ
+all_replies first input = replies first (lines_of input)
 
 -- the status of a run that is stopped
 abbrev pub status_of : Stop → Status
@@ -60,11 +72,11 @@ status_of stops.InputTooLong = InputTooLong
 status_of stops.OutOfMemory = OutOfMemory
 
 -- a run that is stopped
-abbrev pub StopEnds : States → States → List ℕ → List ℕ → Stop → Type 0
-StopEnds old new given written stops.ReadFault = ReadFaulted old new given written
-StopEnds old new given written stops.WriteFault = WriteFaulted output old new given written
-StopEnds old new given written stops.InputTooLong = TooLong old new given written
-StopEnds old new given written stops.OutOfMemory = NoMemory old new given written
+abbrev pub StopEnds : Session → States → States → Bytes → Stop → Type 0
+StopEnds first old new moved stops.ReadFault = ReadFaulted first old new moved
+StopEnds first old new moved stops.WriteFault = WriteFaulted (all_replies first) old new moved
+StopEnds first old new moved stops.InputTooLong = TooLong first old new moved
+StopEnds first old new moved stops.OutOfMemory = NoMemory (all_replies first) old new moved
 
 -- its calls
 abbrev pub StopCalls : {S K : Type 0} → (S → List ℕ → Result ℕ SourceFailed → S → Type 0) → (K → List ℕ → Result ℕ SinkFailed → K → Type 0) → Point S K → Point S K → Stop → Type 0
@@ -73,15 +85,15 @@ StopCalls take_gives put_gives start end stops.WriteFault = LastPutFails take_gi
 StopCalls take_gives put_gives start end stops.InputTooLong = Calls take_gives put_gives start end
 StopCalls take_gives put_gives start end stops.OutOfMemory = Calls take_gives put_gives start end
 
--- a run whose arguments are accepted, or are not, by its status
-abbrev pub Ends : Bool → States → States → List ℕ × List ℕ → Status → Type 0
-Ends accepted old new moved Done = (accepted ≡ true) × Finished old new moved.0 moved.1 false
-Ends accepted old new moved SomeRefused = (accepted ≡ true) × Finished old new moved.0 moved.1 true
-Ends accepted old new moved Usage = (accepted ≡ false) × (new.0 ≡ old.0) × (moved.0 ≡ []) × (moved.1 ≡ usage_line)
-Ends accepted old new moved ReadFault = (accepted ≡ true) × ReadFaulted old new moved.0 moved.1
-Ends accepted old new moved WriteFault = WriteFaulted (output_for accepted) old new moved.0 moved.1
-Ends accepted old new moved InputTooLong = (accepted ≡ true) × TooLong old new moved.0 moved.1
-Ends accepted old new moved OutOfMemory = NoMemory old new moved.0 moved.1
+-- a run with these arguments, by its status
+abbrev pub Ends : List Text → States → States → Bytes → Status → Type 0
+Ends words old new moved Done = (accepts words ≡ true) × Finished (opened words) old new moved false
+Ends words old new moved SomeRefused = (accepts words ≡ true) × Finished (opened words) old new moved true
+Ends words old new moved Usage = (accepts words ≡ false) × (new.0 ≡ old.0) × (moved.0 ≡ []) × (moved.1 ≡ usage_line)
+Ends words old new moved ReadFault = (accepts words ≡ true) × ReadFaulted (opened words) old new moved
+Ends words old new moved WriteFault = WriteFaulted (output words) old new moved
+Ends words old new moved InputTooLong = (accepts words ≡ true) × TooLong (opened words) old new moved
+Ends words old new moved OutOfMemory = NoMemory (output words) old new moved
 
 -- the refusal of arguments, by its status: what it is to write a text, and to fail after one
 abbrev pub Refuses : (List ℕ → Type 0) → (List ℕ → Type 0) → Status → Type 0

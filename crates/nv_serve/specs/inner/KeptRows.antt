@@ -3,12 +3,14 @@ use Rattle.std.specs.Prelude.{◌≡◌, List, Option, Some, None}
 use Rattle.sb_model.specs.declared.row.Row.{Row}
 use Rattle.nb_net.specs.Network.{Network}
 use Rattle.nb_net.specs.Sound.{IsSound}
-use Rattle.nd_full.specs.FullBuild.{full_build}
+use Rattle.nb_plain.specs.Plain.{IsPlain}
+use Rattle.net_rows.specs.Build as build
 
--- the rows of the network, which is sound
+-- the rows of the network, which is sound and plain
 pub record AreRowsOf (rows : List Row) (net : Network) : Type 0 where
-  pub built : rows ≡ full_build net
+  pub built : rows ≡ build.rows net
   pub sound : IsSound net
+  pub plain : IsPlain net
 
 -- rows that are kept are those of the network
 abbrev pub AreKept : Option (List Row) → Network → Type 0

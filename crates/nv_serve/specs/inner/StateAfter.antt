@@ -2,15 +2,15 @@
 use Rattle.std.specs.Prelude.{◌≡◌, ℕ, ◌+◌, ◌-◌, Bool, List, [], ◌∷◌, ◌++◌, length, take}
 use Rattle.std.specs.List.{slice_split}
 use Rattle.nb_words.specs.Commands.{line_limit}
-use Rattle.nv_serve.specs.Session.{Session, new_session}
+use Rattle.nv_serve.specs.Session.{Session}
 use Rattle.nv_serve.specs.Reply.{session_after, some_refused}
 use Rattle.nv_serve.specs.Output.{is_newline, lines_of, complete_lines}
 
--- the session, the line that has no end yet, and whether a line was refused, after these bytes
-pub record IsStateAfter (session : Session) (line : List ℕ) (refused : Bool) (before : List ℕ) : Type 0 where
+-- the session, the line that has no end yet, and whether a line was refused, after these bytes, by the session before the first line
+pub record IsStateAfter (first session : Session) (line : List ℕ) (refused : Bool) (before : List ℕ) : Type 0 where
   pub line_is : lines_of before ≡ complete_lines before ++ line ∷ []
-  pub session_is : session ≡ session_after new_session (complete_lines before)
-  pub refused_is : refused ≡ some_refused new_session (complete_lines before)
+  pub session_is : session ≡ session_after first (complete_lines before)
+  pub refused_is : refused ≡ some_refused first (complete_lines before)
 
 -- as many bytes of a line are kept: its reply depends on no more
 abbrev pub kept_limit : ℕ
@@ -21,9 +21,9 @@ abbrev pub and_kept : List ℕ → List ℕ → List ℕ
 and_kept kept bytes = kept ++ take (kept_limit - length kept) bytes
 
 -- the same state, where of that line only these bytes are kept
-pub record IsKeptAfter (session : Session) (kept : List ℕ) (refused : Bool) (before : List ℕ) : Type 0 where
+pub record IsKeptAfter (first session : Session) (kept : List ℕ) (refused : Bool) (before : List ℕ) : Type 0 where
   pub line : List ℕ
-  pub stands : IsStateAfter session line refused before
+  pub stands : IsStateAfter first session line refused before
   pub kept_is : kept ≡ take kept_limit line
 
 -- bytes that end no line

@@ -1,14 +1,10 @@
-use Rattle.std.proofs.Common.{◌≡◌, ◌≤◌, ◌+◌, ◌-◌, ◌++◌, ℕ, Bool, [], ◌∷◌, true, refl, codes, subst, arith}
+use Rattle.std.proofs.Common.{◌++◌, [], ◌∷◌, refl, codes}
 use Rattle.std.specs.Prelude.{decimal}
 use Rattle.std.specs.Fmt.{digits}
 use Rattle.clap.proofs.OnLiterals.{clap_on_literals}
 use Rattle.nv_options.specs.Options.{accepts}
-use Rattle.nv_options.proofs.Below.{all_below, at_below}
+use Rattle.nv_options.proofs.Below.{from_one}
 use Rattle.nv_options.proofs.laws.arguments_of_the_manual_are_accepted.Goals as goal
-
--- it is so of each number from 1 to 64
-from_one : (is : ℕ → Bool) → all_below 64 (λ k. is (k + 1)) ≡ true → (n : ℕ) → 1 ≤ n → n ≤ 64 → is n ≡ true
-from_one is all n low high = subst (λ m. is m ≡ true) (omega (arith, low)) (at_below 64 (λ k. is (k + 1)) all (n - 1) (omega (arith, low, high)))
 
 pub returns-clause-none : goal.returns-clause-none
 unfolding clap_on_literals

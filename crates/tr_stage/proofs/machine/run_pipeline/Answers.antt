@@ -2,6 +2,7 @@ use Rattle.std.proofs.Common.{◌≡◌, ◌++◌, Option, Some, None, sym, ap, 
 use Rattle.std.specs.Option.{option_copied, IsSome}
 use Rattle.sb_model.specs.declared.stage.DatapathKind.{DatapathKind}
 use Rattle.sb_model.specs.Stage.{stage_at}
+use Rattle.net_meaning.specs.declared.answer.Answer.TheVariants.{Reject}
 use Rattle.tr_stage.specs.declared.act.Ending.{Ending}
 use Rattle.tr_stage.specs.declared.outcome.Outcome.TheVariants as outcomes
 use Rattle.tr_stage.specs.Machine.{PipelineRun, flows_of, run_actions, sent}
@@ -61,6 +62,20 @@ returns-in-Sent-clause-outcome g c =
     (ap (λ actions. run_actions (g.E.Env.lookup c.args.env.now) c.loop-budget.stage actions c.loop-budget.packet) (sym c.as_slice.ensures) ∙ c.run_actions.ensures ∙ ap (λ (e : Ending). with_packet e c.run_actions.new.packet) c.in-Sent.is)
     (c.in_ok-push.ensures.items ∙ ap (λ hit. c.loop-budget.hits.items ++ hit) c.hit_of.ensures)).1 ∙ ap Some (sym c.sent.ensures)
 
+pub returns-in-Made-clause-hits : goal.returns-in-Made-clause-hits
+returns-in-Made-clause-hits g c =
+    (run_ends (flows_of c.args.rows.now (g.E.Env.lookup c.args.env.now) c.args.dp) c.loop-budget.budget c.loop-budget.stage c.loop-budget.packet _ c.loop-budget.hits.items _ c.in-Some-select_near.row.now (outcomes.Made c.run_actions.new.packet c.in-Made.table Reject) c.push.new.self.items
+    c.loop-budget-test.true c.loop-budget.invariant (sym c.select_near.ensures ∙ ap option_copied c.in-Some-select_near.is)
+    (ap (λ actions. run_actions (g.E.Env.lookup c.args.env.now) c.loop-budget.stage actions c.loop-budget.packet) (sym c.as_slice.ensures) ∙ c.run_actions.ensures ∙ ap (λ (e : Ending). with_packet e c.run_actions.new.packet) c.in-Made.is)
+    (c.in_ok-push.ensures.items ∙ ap (λ hit. c.loop-budget.hits.items ++ hit) c.hit_of.ensures)).0
+
+pub returns-in-Made-clause-outcome : goal.returns-in-Made-clause-outcome
+returns-in-Made-clause-outcome g c =
+    (run_ends (flows_of c.args.rows.now (g.E.Env.lookup c.args.env.now) c.args.dp) c.loop-budget.budget c.loop-budget.stage c.loop-budget.packet _ c.loop-budget.hits.items _ c.in-Some-select_near.row.now (outcomes.Made c.run_actions.new.packet c.in-Made.table Reject) c.push.new.self.items
+    c.loop-budget-test.true c.loop-budget.invariant (sym c.select_near.ensures ∙ ap option_copied c.in-Some-select_near.is)
+    (ap (λ actions. run_actions (g.E.Env.lookup c.args.env.now) c.loop-budget.stage actions c.loop-budget.packet) (sym c.as_slice.ensures) ∙ c.run_actions.ensures ∙ ap (λ (e : Ending). with_packet e c.run_actions.new.packet) c.in-Made.is)
+    (c.in_ok-push.ensures.items ∙ ap (λ hit. c.loop-budget.hits.items ++ hit) c.hit_of.ensures)).1
+
 pub returns-in-Dropped-clause-hits : goal.returns-in-Dropped-clause-hits
 returns-in-Dropped-clause-hits g c =
     (run_ends (flows_of c.args.rows.now (g.E.Env.lookup c.args.env.now) c.args.dp) c.loop-budget.budget c.loop-budget.stage c.loop-budget.packet _ c.loop-budget.hits.items _ c.in-Some-select_near.row.now (outcomes.Drop c.in-Dropped.cause) c.push.new.self.items
@@ -77,6 +92,9 @@ returns-in-Dropped-clause-outcome g c =
 
 pub returns-in-Sent-clause-runs : goal.returns-in-Sent-clause-runs
 returns-in-Sent-clause-runs g c = pipeline_never_stuck _ c.requires.rows _ _ _ c.requires.table
+
+pub returns-in-Made-clause-runs : goal.returns-in-Made-clause-runs
+returns-in-Made-clause-runs g c = pipeline_never_stuck _ c.requires.rows _ _ _ c.requires.table
 
 pub returns-in-Dropped-clause-runs : goal.returns-in-Dropped-clause-runs
 returns-in-Dropped-clause-runs g c = pipeline_never_stuck _ c.requires.rows _ _ _ c.requires.table

@@ -1,0 +1,264 @@
+//! The rows that a switch has in the stages of ACLs.
+ghost use Rattle.std.specs.Prelude.{◌≡◌, ◌++◌, IfOk, OnOk};
+ghost use Rattle.net_rows.specs.Acls.{is_shut_out, is_reply, tracking_rules, switch_acl_rules};
+ghost use Rattle.net_rows.specs.Unit.{said_by, unit_of_datapath, unit_rows};
+ghost use Rattle.ls_acl.specs.inner.Parts.{
+  default_rule,
+  default_rules,
+  rule_for_many,
+  asking_rule,
+  tracking_rule,
+  rules_to_track,
+  rule_for_shut_out,
+  rule_for_replies,
+  rules_for_replies,
+  keeping_rule,
+  rules_of_connections,
+};
+
+use crate::actions::{asks_to_track, drops, goes_on, goes_on_after, passes};
+use crate::both::put_in_both;
+use act_core::{Action, Step};
+use expr_core::{Bits, Pred, Typed, TypedAtom};
+use inc_table::Maker;
+use net_rows::{Rule, SwitchAclInput, Unit};
+use nv_base::{Field, Items, ObjId, OutOfMemory};
+use sb_model::{Stage, bit_is_set, both, either, one_step, predicate, takes_each};
+use sb_rows::{NewRows, RowList};
+use std::alloc::Global;
+
+/// Makes the rows that a switch has in the stages of ACLs (ovn-northd(8), 'from-lport ACLs' and 'to-lport ACLs'; stages,
+/// registers and priorities are not from OVN). The key is the switch.
+#[derive(Drop)]
+pub struct SwitchAcl {
+    // How many outputs were made.
+    made: u64,
+}
+
+impl SwitchAcl {
+    /// A maker that made nothing yet.
+    pub fn new() -> Self
+        ensures { result.made ≡ 0 }
+    {
+        SwitchAcl { made: 0 }
+    }
+}
+
+impl Maker for SwitchAcl {
+    type Key = ObjId;
+
+    type Input = SwitchAclInput;
+
+    type Out = RowList;
+
+    ghost out_of = { λ key input. unit_rows (unit_of_datapath key) (switch_acl_rules input) };
+
+    ghost made = { λ maker. maker.made };
+
+    #[tactic(auto, unfolding(net_rows::specs::Unit::unit_rows))]
+    fn make(
+        &mut self,
+        alloc: Global,
+        key: &ObjId,
+        input: &SwitchAclInput,
+    ) -> Result<RowList, OutOfMemory> {
+        let unit = Unit {
+            dp: *key,
+            hint: ObjId(0),
+        };
+        let mut rows = NewRows::new(alloc);
+        add_switch_acl_rows(alloc, &mut rows, unit, *input)?;
+        let list = rows.into_list()?;
+        self.made = self.made.saturating_add(1);
+        Ok(list)
+    }
+}
+
+fn add_switch_acl_rows(
+    alloc: Global,
+    rows: &mut NewRows,
+    unit: Unit,
+    input: SwitchAclInput,
+) -> Result<(), OutOfMemory>
+    ensures { OnOk result (rows.new ≡ rows.old ++ said_by unit (switch_acl_rules input)) }
+{
+    add_default_rows(alloc, rows, unit, input.tracks)?;
+    if input.tracks {
+        add_tracking_rows(alloc, rows, unit, input.balances)?;
+    }
+    Ok(())
+}
+
+// The rows that act where no other does.
+fn add_default_rows(
+    alloc: Global,
+    rows: &mut NewRows,
+    unit: Unit,
+    tracks: bool,
+) -> Result<(), OutOfMemory>
+    ensures { OnOk result (rows.new ≡ rows.old ++ said_by unit (default_rules tracks)) }
+{
+    let pre_acl = default_rule(Stage::LsInPreAcl, goes_on(alloc)?);
+    put_in_both(alloc, rows, unit, pre_acl, Stage::LsOutPreAcl)?;
+    let pre_stateful = default_rule(Stage::LsInPreStateful, goes_on(alloc)?);
+    put_in_both(alloc, rows, unit, pre_stateful, Stage::LsOutPreStateful)?;
+    let acl_eval = default_rule(Stage::LsInAclEval, passes(alloc, tracks)?);
+    put_in_both(alloc, rows, unit, acl_eval, Stage::LsOutAclEval)?;
+    let stateful = default_rule(Stage::LsInStateful, goes_on(alloc)?);
+    put_in_both(alloc, rows, unit, stateful, Stage::LsOutStateful)?;
+    Ok(())
+}
+
+// A rule that takes each packet, after all others of its stage.
+fn default_rule(stage: Stage, actions: Items<Action>) -> Rule
+    ensures { result ≡ default_rule stage actions }
+{
+    Rule {
+        stage,
+        priority: 0,
+        matching: takes_each(),
+        actions,
+    }
+}
+
+// The rows of a switch that tracks connections.
+fn add_tracking_rows(
+    alloc: Global,
+    rows: &mut NewRows,
+    unit: Unit,
+    balances: bool,
+) -> Result<(), OutOfMemory>
+    ensures { OnOk result (rows.new ≡ rows.old ++ said_by unit (tracking_rules balances)) }
+{
+    add_rows_to_track(alloc, rows, unit, balances)?;
+    add_rows_of_connections(alloc, rows, unit)?;
+    Ok(())
+}
+
+// The rows by which packets are tracked.
+fn add_rows_to_track(
+    alloc: Global,
+    rows: &mut NewRows,
+    unit: Unit,
+    balances: bool,
+) -> Result<(), OutOfMemory>
+    ensures { OnOk result (rows.new ≡ rows.old ++ said_by unit (rules_to_track balances)) }
+{
+    let for_many = rule_for_many(alloc)?;
+    put_in_both(alloc, rows, unit, for_many, Stage::LsOutPreAcl)?;
+    let asking = asking_rule(alloc)?;
+    put_in_both(alloc, rows, unit, asking, Stage::LsOutPreAcl)?;
+    let tracking = tracking_rule(alloc, balances)?;
+    put_in_both(alloc, rows, unit, tracking, Stage::LsOutPreStateful)?;
+    Ok(())
+}
+
+// What is for many is not tracked.
+fn rule_for_many(alloc: Global) -> Result<Rule, OutOfMemory>
+    ensures { IfOk result (λ rule. rule ≡ rule_for_many) }
+{
+    Ok(Rule {
+        stage: Stage::LsInPreAcl,
+        priority: 110,
+        matching: predicate(Pred::EthMcast),
+        actions: goes_on(alloc)?,
+    })
+}
+
+// IPv4 is to be tracked.
+fn asking_rule(alloc: Global) -> Result<Rule, OutOfMemory>
+    ensures { IfOk result (λ rule. rule ≡ asking_rule) }
+{
+    Ok(Rule {
+        stage: Stage::LsInPreAcl,
+        priority: 100,
+        matching: predicate(Pred::Ip4),
+        actions: goes_on_after(alloc, asks_to_track())?,
+    })
+}
+
+// What is to be tracked is, and it is translated where load balancers are attached.
+fn tracking_rule(alloc: Global, balances: bool) -> Result<Rule, OutOfMemory>
+    ensures { IfOk result (λ rule. rule ≡ tracking_rule balances) }
+{
+    let step = if balances { Step::CtLb } else { Step::CtNext };
+    Ok(Rule {
+        stage: Stage::LsInPreStateful,
+        priority: 100,
+        matching: bit_is_set(Field::Reg0, 0),
+        actions: one_step(alloc, step)?,
+    })
+}
+
+// The rows that act on what is known of the connection of a packet.
+fn add_rows_of_connections(alloc: Global, rows: &mut NewRows, unit: Unit) -> Result<(), OutOfMemory>
+    ensures { OnOk result (rows.new ≡ rows.old ++ said_by unit rules_of_connections) }
+{
+    let for_shut_out = rule_for_shut_out(alloc)?;
+    put_in_both(alloc, rows, unit, for_shut_out, Stage::LsOutAclEval)?;
+    add_rows_for_replies(alloc, rows, unit)?;
+    let keeping = keeping_rule(alloc)?;
+    put_in_both(alloc, rows, unit, keeping, Stage::LsOutStateful)?;
+    Ok(())
+}
+
+// Invalid packets, and replies on blocked connections, are dropped.
+fn rule_for_shut_out(alloc: Global) -> Result<Rule, OutOfMemory>
+    ensures { IfOk result (λ rule. rule ≡ rule_for_shut_out) }
+{
+    Ok(Rule {
+        stage: Stage::LsInAclEval,
+        priority: 65532,
+        matching: is_shut_out(alloc)?,
+        actions: drops(alloc)?,
+    })
+}
+
+// An invalid packet, or one of a blocked connection that is no new request.
+fn is_shut_out(alloc: Global) -> Result<Typed, OutOfMemory>
+    ensures { IfOk result (λ t. t ≡ is_shut_out) }
+{
+    let is_blocked = Typed::atom(TypedAtom::Bare(Field::CtMarkBlocked, Bits::Whole));
+    let is_blocked_reply = both(alloc, is_reply(alloc)?, is_blocked)?;
+    either(alloc, predicate(Pred::CtInv), is_blocked_reply)
+}
+
+// A reply, or what is related to a connection.
+fn is_reply(alloc: Global) -> Result<Typed, OutOfMemory>
+    ensures { IfOk result (λ t. t ≡ is_reply) }
+{
+    either(alloc, predicate(Pred::CtRpl), predicate(Pred::CtRel))
+}
+
+// Replies, and what is related to a connection, go on.
+fn add_rows_for_replies(alloc: Global, rows: &mut NewRows, unit: Unit) -> Result<(), OutOfMemory>
+    ensures { OnOk result (rows.new ≡ rows.old ++ said_by unit rules_for_replies) }
+{
+    let for_replies = rule_for_replies(alloc)?;
+    put_in_both(alloc, rows, unit, for_replies, Stage::LsOutAclEval)?;
+    Ok(())
+}
+
+// The rule for replies in ingress.
+fn rule_for_replies(alloc: Global) -> Result<Rule, OutOfMemory>
+    ensures { IfOk result (λ rule. rule ≡ rule_for_replies) }
+{
+    Ok(Rule {
+        stage: Stage::LsInAclEval,
+        priority: 65531,
+        matching: is_reply(alloc)?,
+        actions: goes_on(alloc)?,
+    })
+}
+
+// A connection that is to be kept is.
+fn keeping_rule(alloc: Global) -> Result<Rule, OutOfMemory>
+    ensures { IfOk result (λ rule. rule ≡ keeping_rule) }
+{
+    Ok(Rule {
+        stage: Stage::LsInStateful,
+        priority: 100,
+        matching: bit_is_set(Field::Reg0, 1),
+        actions: goes_on_after(alloc, Step::CtCommit { blocked: false })?,
+    })
+}

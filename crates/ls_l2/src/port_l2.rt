@@ -1,0 +1,297 @@
+ghost use Rattle.std.specs.Prelude.{◌≡◌, ◌++◌, ◌&&◌, ◌==◌, map, IfOk, OnOk};
+ghost use Rattle.std.specs.List.{flat_map, list_any};
+ghost use Rattle.nb_net.specs.Belongs.{is_router_kind};
+ghost use Rattle.nb_net.specs.Readable.{macs_of};
+ghost use Rattle.net_meaning.specs.Switches.{is_router_word};
+ghost use Rattle.net_rows.specs.Lookup.{arp_rules, arp_rules_of, lookup_rule, more_macs, looked_up, host_rules, port_l2_rules};
+ghost use Rattle.net_rows.specs.Unit.{said_by, unit_of, unit_rows};
+ghost use Rattle.ls_l2.specs.inner.Macs.{own_macs, peer_macs};
+
+use crate::arp::add_arp_rows;
+use inc_table::Maker;
+use nb_core::{Addr, PortKind};
+use net_rows::{PortL2Input, Rule, Unit};
+use nv_base::{Field, Ip4, Kept, Mac, Name, ObjId, OutOfMemory};
+use sb_model::{Stage, as_mac, equals, goes_out_by};
+use sb_rows::{NewRows, RowList};
+use std::alloc::Global;
+use std::marker::Model;
+
+/// Makes the rows of a switch port in the stages of ARP replies and of the look-up: a host is answered for, and a packet for
+/// a MAC of the port goes out by it (ovn-northd(8), 'Ingress Table: ARP/ND responder' and 'Ingress Table: Destination
+/// Lookup'). A clause sees how many outputs it made.
+#[derive(Debug, Drop)]
+pub struct PortL2 {
+    made: u64,
+}
+
+impl Model for PortL2 {
+    ghost use Rattle.std.specs.Prelude.{ℕ};
+
+    ghost Value = { ℕ };
+
+    ghost view = { λ m. m.made };
+}
+
+impl PortL2 {
+    /// It has made nothing.
+    pub fn new() -> Self
+        ensures { result ≡ 0 }
+    {
+        PortL2 { made: 0 }
+    }
+}
+
+impl Maker for PortL2 {
+    type Key = ObjId;
+
+    type Input = PortL2Input;
+
+    type Out = RowList;
+
+    ghost out_of = { λ key input. unit_rows (unit_of input.dp key) (port_l2_rules input) };
+
+    ghost made = { λ made. made };
+
+    fn make(
+        &mut self,
+        alloc: Global,
+        key: &ObjId,
+        input: &PortL2Input,
+    ) -> Result<RowList, OutOfMemory> {
+        let rows = port_l2_rows(alloc, *key, input)?;
+        self.made = self.made.saturating_add(1);
+        Ok(rows)
+    }
+}
+
+// The rows, in row order.
+#[tactic(auto, unfolding(net_rows::specs::Unit::unit_rows))]
+fn port_l2_rows(alloc: Global, port: ObjId, input: &PortL2Input) -> Result<RowList, OutOfMemory>
+    ensures { IfOk result (λ rows. rows ≡ unit_rows (unit_of input.now.dp port) (port_l2_rules input.now)) }
+{
+    let unit = Unit {
+        dp: input.dp,
+        hint: port,
+    };
+    let mut rows = NewRows::new(alloc);
+    add_port_l2_rows(alloc, &mut rows, unit, input)?;
+    rows.into_list()
+}
+
+#[tactic(auto, unfolding(net_rows::specs::Lookup::port_l2_rules))]
+fn add_port_l2_rows(
+    alloc: Global,
+    rows: &mut NewRows,
+    unit: Unit,
+    input: &PortL2Input,
+) -> Result<(), OutOfMemory>
+    ensures { OnOk result (rows.new ≡ rows.old ++ said_by unit (port_l2_rules input.now)) }
+{
+    if !input.enabled {
+        return Ok(());
+    }
+    add_host_rows(alloc, rows, unit, input)?;
+    add_lookup_rows(alloc, rows, unit, input)?;
+    Ok(())
+}
+
+// A host is answered for.
+fn add_host_rows(
+    alloc: Global,
+    rows: &mut NewRows,
+    unit: Unit,
+    input: &PortL2Input,
+) -> Result<(), OutOfMemory>
+    ensures { OnOk result (rows.new ≡ rows.old ++ said_by unit (host_rules input.now)) }
+{
+    match input.kind {
+        PortKind::Router => Ok(()),
+        PortKind::Host => {
+            add_rows_of_addresses(alloc, rows, unit, &input.name, input.addresses.as_slice())
+        }
+    }
+}
+
+fn add_rows_of_addresses(
+    alloc: Global,
+    rows: &mut NewRows,
+    unit: Unit,
+    name: &Name,
+    addresses: &[Addr],
+) -> Result<(), OutOfMemory>
+    ensures { OnOk result (rows.new ≡ rows.old ++ said_by unit (flat_map (arp_rules_of name.now) addresses.now)) }
+{
+    for addr in addresses {
+        add_rows_of_address(alloc, rows, unit, name, addr)?;
+    }
+    Ok(())
+}
+
+fn add_rows_of_address(
+    alloc: Global,
+    rows: &mut NewRows,
+    unit: Unit,
+    name: &Name,
+    addr: &Addr,
+) -> Result<(), OutOfMemory>
+    ensures { OnOk result (rows.new ≡ rows.old ++ said_by unit (arp_rules_of name.now addr.now)) }
+{
+    match addr {
+        Addr::Unknown | Addr::Router => Ok(()),
+        Addr::Host { mac, ips } => {
+            add_rows_of_ips(alloc, rows, unit, name, *mac, ips.as_slice())
+        }
+    }
+}
+
+fn add_rows_of_ips(
+    alloc: Global,
+    rows: &mut NewRows,
+    unit: Unit,
+    name: &Name,
+    mac: Mac,
+    ips: &[Ip4],
+) -> Result<(), OutOfMemory>
+    ensures { OnOk result (rows.new ≡ rows.old ++ said_by unit (flat_map (arp_rules name.now mac) ips.now)) }
+{
+    for ip in ips {
+        add_arp_rows(alloc, rows, unit, name, mac, *ip)?;
+    }
+    Ok(())
+}
+
+// A packet for a MAC that the port takes goes out by it.
+fn add_lookup_rows(
+    alloc: Global,
+    rows: &mut NewRows,
+    unit: Unit,
+    input: &PortL2Input,
+) -> Result<(), OutOfMemory>
+    ensures { OnOk result (rows.new ≡ rows.old ++ said_by unit (map (lookup_rule input.now.name) (looked_up input.now))) }
+{
+    add_own_lookup_rows(alloc, rows, unit, input)?;
+    add_peer_lookup_rows(alloc, rows, unit, input)?;
+    Ok(())
+}
+
+// What is for the MACs of its addresses.
+fn add_own_lookup_rows(
+    alloc: Global,
+    rows: &mut NewRows,
+    unit: Unit,
+    input: &PortL2Input,
+) -> Result<(), OutOfMemory>
+    ensures { OnOk result (rows.new ≡ rows.old ++ said_by unit (map (lookup_rule input.now.name) (own_macs input.now))) }
+{
+    for addr in input.addresses.as_slice() {
+        add_lookup_rows_of(alloc, rows, unit, &input.name, addr)?;
+    }
+    Ok(())
+}
+
+fn add_lookup_rows_of(
+    alloc: Global,
+    rows: &mut NewRows,
+    unit: Unit,
+    name: &Name,
+    addr: &Addr,
+) -> Result<(), OutOfMemory>
+    ensures { OnOk result (rows.new ≡ rows.old ++ said_by unit (map (lookup_rule name.now) (macs_of addr.now))) }
+{
+    match addr {
+        Addr::Unknown | Addr::Router => Ok(()),
+        Addr::Host { mac, .. } => unit.put(rows, lookup_rule(alloc, name, *mac)?),
+    }
+}
+
+// What is for the MAC of its peer, where it stands for a router.
+fn add_peer_lookup_rows(
+    alloc: Global,
+    rows: &mut NewRows,
+    unit: Unit,
+    input: &PortL2Input,
+) -> Result<(), OutOfMemory>
+    ensures { OnOk result (rows.new ≡ rows.old ++ said_by unit (map (lookup_rule input.now.name) (peer_macs input.now))) }
+{
+    if stands_for_router(input) {
+        add_more_lookup_rows(alloc, rows, unit, input)
+    } else {
+        Ok(())
+    }
+}
+
+// Whether a port is of kind Router and has the word `router` among its addresses.
+fn stands_for_router(input: &PortL2Input) -> bool
+    ensures { result ≡ (is_router_kind input.now.kind && list_any is_router_word input.now.addresses) }
+{
+    is_router_kind(input.kind) && has_router_word(input.addresses.as_slice())
+}
+
+fn is_router_kind(kind: PortKind) -> bool
+    ensures { result ≡ is_router_kind kind }
+{
+    match kind {
+        PortKind::Host => false,
+        PortKind::Router => true,
+    }
+}
+
+fn has_router_word(addresses: &[Addr]) -> bool
+    ensures { result ≡ list_any is_router_word addresses.now }
+{
+    addresses.iter().any(|addr| is_router_word(addr))
+}
+
+fn is_router_word(addr: &Addr) -> bool
+    ensures { result ≡ is_router_word addr.now }
+{
+    matches!(addr, Addr::Router)
+}
+
+// A MAC that the port has itself too has one row.
+fn add_more_lookup_rows(
+    alloc: Global,
+    rows: &mut NewRows,
+    unit: Unit,
+    input: &PortL2Input,
+) -> Result<(), OutOfMemory>
+    ensures { OnOk result (rows.new ≡ rows.old ++ said_by unit (map (lookup_rule input.now.name) (more_macs input.now.peer_mac (own_macs input.now)))) }
+{
+    match input.peer_mac {
+        None => Ok(()),
+        Some(mac) => {
+            if has_mac(input.addresses.as_slice(), mac) {
+                Ok(())
+            } else {
+                unit.put(rows, lookup_rule(alloc, &input.name, mac)?)
+            }
+        }
+    }
+}
+
+fn has_mac(addresses: &[Addr], mac: Mac) -> bool
+    ensures { result ≡ list_any (λ addr. list_any (λ own. own == mac) (macs_of addr)) addresses.now }
+{
+    addresses.iter().any(|addr| is_mac_of(addr, mac))
+}
+
+fn is_mac_of(addr: &Addr, mac: Mac) -> bool
+    ensures { result ≡ list_any (λ own. own == mac) (macs_of addr.now) }
+{
+    match addr {
+        Addr::Unknown | Addr::Router => false,
+        Addr::Host { mac: own, .. } => own.0 == mac.0,
+    }
+}
+
+fn lookup_rule(alloc: Global, name: &Name, mac: Mac) -> Result<Rule, OutOfMemory>
+    ensures { IfOk result (λ r. r ≡ lookup_rule name.now mac) }
+{
+    Ok(Rule {
+        stage: Stage::LsInL2Lkup,
+        priority: 50,
+        matching: equals(Field::EthDst, as_mac(mac)),
+        actions: goes_out_by(alloc, name.copy(alloc)?)?,
+    })
+}

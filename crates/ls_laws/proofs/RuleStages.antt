@@ -1,0 +1,207 @@
+-- Which stages the rules of switches without connections are of, of their ports, and of ACLs that apply to them.
+use Rattle.std.proofs.Common.{◌≡◌, ℕ, ◌+◌, Bool, true, false, cond, List, [], ◌∷◌, ◌++◌, map, eqb, sym, ap, refl, ◌∙◌, subst, ◌⊎◌, inl, inr}
+use Rattle.std.specs.Prelude.{◌||◌, not}
+use Rattle.std.specs.List.{AllByRecursion, Contains, filter, flat_map}
+use Rattle.std.proofs.lemmas.Bool.{false≢true, eq-eqb, not-true}
+use Rattle.std.proofs.lemmas.List.Elements.{All-contains, All-from_recursion, Contains-append_cases}
+use Rattle.nv_base.specs.declared.ip4.Ip4.{Ip4}
+use Rattle.nb_core.specs.declared.acl.Acl.{Acl}
+use Rattle.nb_core.specs.declared.acl.Way.{Way}
+use Rattle.nb_core.specs.declared.acl.Way.TheVariants.{From, To}
+use Rattle.nb_core.specs.declared.switch.Addr.{Addr}
+use Rattle.nb_core.specs.declared.switch.Addr.TheVariants as addr
+use Rattle.nb_core.specs.declared.switch.Guard.{Guard}
+use Rattle.nb_core.specs.declared.switch.Port.{Port}
+use Rattle.nb_core.specs.declared.switch.Switch.{Switch}
+use Rattle.nb_net.specs.Belongs.{is_router_kind}
+use Rattle.nb_net.specs.Network.{Network}
+use Rattle.nb_net.specs.Readable.{is_priority}
+use Rattle.net_meaning.specs.Applies.{is_empty, tracks, balances}
+use Rattle.net_meaning.specs.Stateless.{IsStateless}
+use Rattle.sb_model.specs.Stage.{stage_place}
+use Rattle.sb_model.specs.declared.stage.Stage.{Stage}
+use Rattle.sb_model.specs.declared.stage.Stage.TheVariants.{LsInCheckPortSec, LsInAclEval, LsInArpRsp, LsInL2Lkup, LsOutAclEval, LsOutCheckPortSec}
+use Rattle.net_rows.specs.Acls.{switch_acl_rules, stage_of, ending, tracked_rules, untracking_rules, acl_on_rules}
+use Rattle.net_rows.specs.Build.{port_sec_input, acl_on_input, has_unknown, port_l2_input, switch_rules, port_rules}
+use Rattle.net_rows.specs.LoadBalancers.{switch_lb_rules}
+use Rattle.net_rows.specs.Lookup.{switch_l2_rules, arp_rules, arp_rules_of, lookup_rule, looked_up, host_rules, port_l2_rules}
+use Rattle.net_rows.specs.PortSecurity.{switch_sec_rules, open_rules, closed_rules, guard_rules, guarded_rules, disabled_rules, port_sec_rules}
+use Rattle.net_rows.specs.Unit.{rule}
+use Rattle.net_rows.specs.declared.inputs.AclOnInput.{AclOnInput}
+use Rattle.net_rows.specs.declared.inputs.PortL2Input.{PortL2Input}
+use Rattle.net_rows.specs.declared.inputs.PortSecInput.{PortSecInput}
+use Rattle.net_rows.specs.declared.rule.Rule.{Rule}
+use Rattle.net_rows.proofs.Elements.{one_of, one_of_none, every_append, Contains-filter, Contains-from_filter}
+use Rattle.net_rows.proofs.Sound.{each_passes}
+
+-- ---- the rules of a stage
+
+abbrev pub is_at : Stage → Rule → Bool
+is_at stage says = eqb (stage_place says.stage) (stage_place stage)
+
+abbrev pub rules_at : Stage → List Rule → List Rule
+rules_at stage rules = filter (is_at stage) rules
+
+-- a rule of the stage is among them
+pub among_rules_at : (stage : Stage) (rules : List Rule) (says : Rule) → Contains rules says → says.stage ≡ stage → Contains (rules_at stage rules) says
+among_rules_at stage rules says there of = Contains-filter (is_at stage) rules says there (eq-eqb _ _ (ap stage_place of))
+
+-- where these are the rules of the stage, each of these is a rule
+pub from_rules_at : (stage : Stage) (rules some : List Rule) (says : Rule) → rules_at stage rules ≡ some → Contains some says → Contains rules says
+from_rules_at stage rules some says are there = Contains-from_filter (is_at stage) rules says (subst (λ rs. Contains rs says) (sym are) there)
+
+-- what is in a list of one is that one
+pub the_only : {X : Type 0} (x y : X) → Contains (x ∷ []) y → y ≡ x
+the_only x y there = by (one_of x [] y there)
+  where
+    by : (x ≡ y) ⊎ Contains [] y → y ≡ x
+    by (inl is) = sym is
+    by (inr none) = absurd (one_of_none y none)
+
+-- what holds of each element holds of this one
+pub each_of : {X : Type 0} (P : X → Type 0) (xs : List X) (x : X) → AllByRecursion P xs → Contains xs x → P x
+each_of P xs x all there = All-contains P xs x (All-from_recursion P xs all) there
+
+-- ---- kinds of stages
+
+-- those of port security
+abbrev pub is_of_security : Stage → Bool
+is_of_security LsInCheckPortSec = true
+is_of_security LsOutCheckPortSec = true
+is_of_security _ = false
+
+-- those of addresses of ports
+abbrev pub is_of_addresses : Stage → Bool
+is_of_addresses LsInArpRsp = true
+is_of_addresses LsInL2Lkup = true
+is_of_addresses _ = false
+
+-- those of ACLs
+abbrev pub is_of_acls : Stage → Bool
+is_of_acls LsInAclEval = true
+is_of_acls LsOutAclEval = true
+is_of_acls _ = false
+
+-- ---- the rules of ports
+
+abbrev OfSecurity : Rule → Type 0
+OfSecurity says = is_of_security says.stage ≡ true
+
+abbrev OfAddresses : Rule → Type 0
+OfAddresses says = is_of_addresses says.stage ≡ true
+
+module _ (name : List ℕ) where
+  of_disabled : (enabled : Bool) → AllByRecursion OfSecurity (disabled_rules enabled name)
+  of_disabled true = tt
+  of_disabled false = (refl, tt)
+
+  of_guard : (guard : Guard) → AllByRecursion OfSecurity (guard_rules name guard)
+  of_guard guard = by (is_empty guard.nets)
+    where
+      by : (b : Bool) → AllByRecursion OfSecurity (cond b (open_rules name guard) (closed_rules name guard))
+      by true = (refl, (refl, tt))
+      by false = (refl, (refl, (refl, (refl, (refl, (refl, tt))))))
+
+  of_guards : (guards : List Guard) → AllByRecursion OfSecurity (flat_map (guard_rules name) guards)
+  of_guards [] = tt
+  of_guards (guard ∷ guards) = every_append OfSecurity (guard_rules name guard) (flat_map (guard_rules name) guards) (of_guard guard) (of_guards guards)
+
+  of_guarded : (guards : List Guard) → AllByRecursion OfSecurity (guarded_rules name guards)
+  of_guarded [] = tt
+  of_guarded (guard ∷ guards) = (refl, (refl, of_guards (guard ∷ guards)))
+
+  of_hosts : (mac : ℕ) (ips : List Ip4) → AllByRecursion OfAddresses (flat_map (arp_rules name mac) ips)
+  of_hosts mac [] = tt
+  of_hosts mac (ip ∷ ips) = (refl, (refl, of_hosts mac ips))
+
+  of_address : (address : Addr) → AllByRecursion OfAddresses (arp_rules_of name address)
+  of_address addr.Unknown = tt
+  of_address addr.Router = tt
+  of_address (addr.Host mac ips) = of_hosts mac ips
+
+  of_addresses : (addresses : List Addr) → AllByRecursion OfAddresses (flat_map (arp_rules_of name) addresses)
+  of_addresses [] = tt
+  of_addresses (address ∷ addresses) = every_append OfAddresses (arp_rules_of name address) (flat_map (arp_rules_of name) addresses) (of_address address) (of_addresses addresses)
+
+  of_macs : (macs : List ℕ) → AllByRecursion OfAddresses (map (lookup_rule name) macs)
+  of_macs [] = tt
+  of_macs (mac ∷ macs) = (refl, of_macs macs)
+
+-- the rules of port security
+pub of_port_sec : (input : PortSecInput) → AllByRecursion OfSecurity (port_sec_rules input)
+unfolding port_sec_rules
+of_port_sec input =
+    every_append OfSecurity (disabled_rules input.enabled input.name) (guarded_rules input.name input.security) (of_disabled input.name input.enabled) (of_guarded input.name input.security)
+
+-- and those of addresses
+pub of_port_l2 : (input : PortL2Input) → AllByRecursion OfAddresses (port_l2_rules input)
+unfolding port_l2_rules
+of_port_l2 input = by input.enabled
+  where
+    hosts : AllByRecursion OfAddresses (host_rules input)
+    hosts = if_router (is_router_kind input.kind)
+      where
+        if_router : (b : Bool) → AllByRecursion OfAddresses (cond b [] (flat_map (arp_rules_of input.name) input.addresses))
+        if_router true = tt
+        if_router false = of_addresses input.name input.addresses
+
+    by : (b : Bool) → AllByRecursion OfAddresses (cond b (host_rules input ++ map (lookup_rule input.name) (looked_up input)) [])
+    by true = every_append OfAddresses (host_rules input) (map (lookup_rule input.name) (looked_up input)) hosts (of_macs input.name (looked_up input))
+    by false = tt
+
+-- a port has no other rules
+pub port_rule_stage : (net : Network) (port : Port) (says : Rule) → Contains (port_rules net port) says → (is_of_security says.stage || is_of_addresses says.stage) ≡ true
+port_rule_stage net port says there = by (Contains-append_cases (port_sec_rules (port_sec_input port)) (port_l2_rules (port_l2_input net port)) says there)
+  where
+    either_way : (a : Bool) → (a || true) ≡ true
+    either_way true = refl
+    either_way false = refl
+
+    by : Contains (port_sec_rules (port_sec_input port)) says ⊎ Contains (port_l2_rules (port_l2_input net port)) says → (is_of_security says.stage || is_of_addresses says.stage) ≡ true
+    by (inl at) = rw (each_of OfSecurity (port_sec_rules (port_sec_input port)) says (of_port_sec (port_sec_input port)) at) refl
+    by (inr at) = rw (each_of OfAddresses (port_l2_rules (port_l2_input net port)) says (of_port_l2 (port_l2_input net port)) at) (either_way (is_of_security says.stage))
+
+-- ---- the rules of ACLs
+
+-- on a switch that tracks no connections an ACL has rules in its own stage alone
+acl_stage : (way : Way) → is_of_acls (stage_of way) ≡ true
+acl_stage From = refl
+acl_stage To = refl
+
+abbrev pub untracked_rule : AclOnInput → Rule
+untracked_rule input = rule (stage_of input.way) (input.priority + 1000) input.matching (ending input.verdict)
+
+-- and on one that does, these
+abbrev rules_where_tracked : AclOnInput → List Rule
+rules_where_tracked input =
+    untracking_rules input.way (input.priority + 1000) input.matching input.verdict ++ tracked_rules (stage_of input.way) (input.priority + 1000) input.matching input.verdict
+
+pub untracked_gives : (input : AclOnInput) (says : Rule) → input.tracks ≡ false → Contains (acl_on_rules input) says → says ≡ untracked_rule input
+unfolding acl_on_rules
+untracked_gives input says none there = by (is_priority input.priority) input.tracks none there
+  where
+    by : (b t : Bool) → t ≡ false → Contains (cond b (cond t (rules_where_tracked input) (untracked_rule input ∷ [])) []) says → says ≡ untracked_rule input
+    by false t e at = absurd (one_of_none says at)
+    by true true e at = absurd (false≢true (sym e))
+    by true false e at = the_only (untracked_rule input) says at
+
+-- ---- the rules of switches
+
+-- those of a switch that tracks no connections
+abbrev pub untracked_rules : Bool → Bool → List Rule
+untracked_rules balances unknown = switch_sec_rules ++ (switch_acl_rules (record { tracks = false; balances = balances }) ++ (switch_lb_rules ++ switch_l2_rules (record { unknown = unknown })))
+
+module _ (net : Network) (switch : Switch) (stateless : IsStateless net) (among : Contains net.switches switch) where
+  pub tracks_none : tracks net switch.id ≡ false
+  tracks_none = not-true (tracks net switch.id) (each_passes (λ (s : Switch). not (tracks net s.id)) net.switches switch stateless.untracked among)
+
+  pub switch_rules-untracked : switch_rules net switch.id ≡ untracked_rules (balances net switch.id) (has_unknown net switch.id)
+  switch_rules-untracked =
+      ap (λ (t : Bool). switch_sec_rules ++ (switch_acl_rules (record { tracks = t; balances = balances net switch.id }) ++ (switch_lb_rules ++ switch_l2_rules (record { unknown = has_unknown net switch.id })))) tracks_none
+
+  -- so an ACL has one rule, in its own stage
+  pub acl_rule-gives : (acl : Acl) (says : Rule) → Contains (acl_on_rules (acl_on_input net acl switch.id)) says → says ≡ untracked_rule (acl_on_input net acl switch.id)
+  acl_rule-gives acl says there = untracked_gives (acl_on_input net acl switch.id) says tracks_none there
+
+  pub acl_rule_stage : (acl : Acl) (says : Rule) → Contains (acl_on_rules (acl_on_input net acl switch.id)) says → is_of_acls says.stage ≡ true
+  acl_rule_stage acl says there = ap (λ (r : Rule). is_of_acls r.stage) (acl_rule-gives acl says there) ∙ acl_stage acl.way

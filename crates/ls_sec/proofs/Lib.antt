@@ -1,0 +1,2 @@
+pub mod Broadcast
+pub mod Said

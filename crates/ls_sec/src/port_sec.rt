@@ -1,0 +1,153 @@
+ghost use Rattle.std.specs.Prelude.{◌≡◌, ◌++◌, IfOk, OnOk};
+ghost use Rattle.std.specs.List.{flat_map};
+ghost use Rattle.net_rows.specs.PortSecurity.{port_sec_rules, disabled_rules, guarded_rules, guard_rules};
+ghost use Rattle.net_rows.specs.Unit.{unit_of, said_by, unit_rows};
+
+use crate::guard::put_guard_rules;
+use crate::made::one_more;
+use crate::one_step::one_step_rule;
+use act_core::Step;
+use inc_table::Maker;
+use nb_core::Guard;
+use net_rows::{PortSecInput, Unit};
+use nv_base::{Field, Kept, Name, ObjId, OutOfMemory};
+use sb_model::{Stage, is_port};
+use sb_rows::{NewRows, RowList};
+use std::alloc::Global;
+use std::marker::Model;
+
+/// Makes the rows of port security of a switch port (ovn-northd(8), 'Ingress Table 0: Admission Control and Ingress Port
+/// Security check' and 'Egress Table: Egress Port Security'). A clause sees how often it made those of one.
+#[derive(Drop)]
+pub struct PortSec {
+    made: u64,
+}
+
+impl Model for PortSec {
+    ghost use Rattle.std.specs.Prelude.{ℕ};
+
+    ghost Value = { ℕ };
+
+    ghost view = { λ m. m.made };
+}
+
+impl PortSec {
+    /// A maker that has made nothing.
+    pub fn new() -> Self
+        ensures { result ≡ 0 }
+    {
+        PortSec { made: 0 }
+    }
+}
+
+impl Maker for PortSec {
+    type Key = ObjId;
+
+    type Input = PortSecInput;
+
+    type Out = RowList;
+
+    ghost out_of = { λ port input. unit_rows (unit_of input.dp port) (port_sec_rules input) };
+
+    ghost made = { λ made. made };
+
+    fn make(
+        &mut self,
+        alloc: Global,
+        key: &ObjId,
+        input: &PortSecInput,
+    ) -> Result<RowList, OutOfMemory> {
+        let rows = rows_of_port(alloc, *key, input)?;
+        self.made = one_more(self.made);
+        Ok(rows)
+    }
+}
+
+#[tactic(auto, unfolding(net_rows::specs::Unit::unit_rows))]
+fn rows_of_port(alloc: Global, port: ObjId, input: &PortSecInput) -> Result<RowList, OutOfMemory>
+    ensures { IfOk result (λ rows. rows ≡ unit_rows (unit_of input.now.dp port) (port_sec_rules input.now)) }
+{
+    let unit = Unit {
+        dp: input.dp,
+        hint: port,
+    };
+    let mut rows = NewRows::new(alloc);
+    put_port_rules(alloc, &mut rows, unit, input)?;
+    rows.into_list()
+}
+
+fn put_port_rules(
+    alloc: Global,
+    rows: &mut NewRows,
+    unit: Unit,
+    input: &PortSecInput,
+) -> Result<(), OutOfMemory>
+    ensures { OnOk result (rows.new ≡ rows.old ++ said_by unit (port_sec_rules input.now)) }
+{
+    put_disabled_rules(alloc, rows, unit, input.enabled, &input.name)?;
+    put_guarded_rules(alloc, rows, unit, &input.name, input.security.as_slice())?;
+    Ok(())
+}
+
+// A disabled port lets nothing in.
+fn put_disabled_rules(
+    alloc: Global,
+    rows: &mut NewRows,
+    unit: Unit,
+    enabled: bool,
+    name: &Name,
+) -> Result<(), OutOfMemory>
+    ensures { OnOk result (rows.new ≡ rows.old ++ said_by unit (disabled_rules enabled name.now)) }
+{
+    if enabled {
+        return Ok(());
+    }
+    let from_port = is_port(Field::Inport, name.copy(alloc)?);
+    unit.put(
+        rows,
+        one_step_rule(alloc, Stage::LsInCheckPortSec, 100, from_port, Step::Drop)?,
+    )?;
+    Ok(())
+}
+
+// A port with guards lets nothing else in or out.
+fn put_guarded_rules(
+    alloc: Global,
+    rows: &mut NewRows,
+    unit: Unit,
+    name: &Name,
+    guards: &[Guard],
+) -> Result<(), OutOfMemory>
+    ensures { OnOk result (rows.new ≡ rows.old ++ said_by unit (guarded_rules name.now guards.now)) }
+{
+    if guards.is_empty() {
+        return Ok(());
+    }
+    let from_port = is_port(Field::Inport, name.copy(alloc)?);
+    unit.put(
+        rows,
+        one_step_rule(alloc, Stage::LsInCheckPortSec, 50, from_port, Step::Drop)?,
+    )?;
+    let to_port = is_port(Field::Outport, name.copy(alloc)?);
+    unit.put(
+        rows,
+        one_step_rule(alloc, Stage::LsOutCheckPortSec, 50, to_port, Step::Drop)?,
+    )?;
+    put_rules_of_guards(alloc, rows, unit, name, guards)?;
+    Ok(())
+}
+
+fn put_rules_of_guards(
+    alloc: Global,
+    rows: &mut NewRows,
+    unit: Unit,
+    name: &Name,
+    guards: &[Guard],
+) -> Result<(), OutOfMemory>
+    ensures { OnOk result (rows.new ≡ rows.old ++ said_by unit (flat_map (guard_rules name.now) guards.now)) }
+{
+    for guard in guards {
+        put_guard_rules(alloc, rows, unit, name, guard)?;
+    }
+    Ok(())
+}

@@ -1,0 +1,182 @@
+-- The edits that a line asks for are built.
+use Rattle.std.proofs.Common.{◌≡◌, ◌+◌, ◌&&◌, ℕ, zero, suc, Bool, true, false, List, [], ◌∷◌, length, take, drop, codes, Option, Some, None, Result, Ok, Err, IfOk, IfSome, refl, sym, ap, subst, ◌∙◌, arith, add-one, if◌then◌else◌}
+use Rattle.std.specs.List.{AllByRecursion, find, list_all, slice_get}
+use Rattle.std.specs.Str.{bytes_eq}
+use Rattle.std.proofs.lemmas.Bool.{false≢true}
+use Rattle.std.proofs.lemmas.Slice.Eq.{bytes_eq-Decides}
+use Rattle.nb_core.specs.declared.acl.Verdict.TheVariants.{Allow, AllowRelated, AllowStateless, Drop, Reject}
+use Rattle.nb_core.specs.declared.edit.Edit.{Edit}
+use Rattle.nb_core.specs.declared.refusal.Refusal.TheVariants.{NotInProfile, UnknownCommand, WrongWords}
+use Rattle.nb_words.specs.Commands.{command}
+use Rattle.nb_words.specs.declared.command.Command.{Command}
+use Rattle.nb_words.specs.declared.word.Word.{Word}
+use Rattle.nb_edit.specs.Call.{Call, call, at, text, bytes, maybe, from}
+use Rattle.nb_edit.specs.Commands.{suits, fits, is_once, is_well_formed, other_option, formed, tested, named, said, option_count, read_command}
+use Rattle.nb_edit.specs.Edits as edits
+use Rattle.nb_edit.specs.Edits.{owner_kind, rule}
+use Rattle.nb_edit.specs.Forms.{form, verbs, verb_of}
+use Rattle.nb_edit.specs.Keywords.{is_whole, verdict_of}
+use Rattle.nb_edit.specs.Lists.{addresses, guards}
+use Rattle.nb_edit.specs.Readings.{object_name, owner_name, way, verdict, state, priority, acl_match}
+use Rattle.nb_edit.specs.declared.form.Place.TheVariants as place
+use Rattle.nb_edit.specs.declared.form.Tail.TheVariants.{Ends}
+use Rattle.nb_edit.specs.declared.verb.Verb.{Verb}
+use Rattle.nb_edit.specs.declared.verb.Verb.TheVariants as verb
+use Rattle.nb_edit.proofs.Fits.{has_places}
+use Rattle.nb_net.proofs.Reading
+use Rattle.nb_net.proofs.Reading.{goes_on, goes_on_anyway, there}
+use Rattle.nb_plain.specs.Plain.{tracks_none, IsBuilt}
+use Rattle.nb_cmds.specs.Built.{related_place, unbuilt, unbuilt_word, built, refused_option, optioned, edit_of}
+use Rattle.nb_cmds.specs.Lines.{task, task_by, read_line}
+use Rattle.nb_cmds.specs.Tasks.{tasks, task_of, is_named}
+use Rattle.nb_cmds.specs.declared.line.Line.TheVariants as line
+use Rattle.nb_cmds.specs.declared.task.Task.{Task}
+use Rattle.nb_cmds.specs.declared.task.Task.TheVariants as task
+use Rattle.nb_cmds.proofs.EachEdit.{HoldsAs, line_given}
+
+both : (a b : Bool) → (a && b) ≡ true → (a ≡ true) × (b ≡ true)
+both true b e = (refl, e)
+both false b e = absurd cc
+
+-- ---- ACLs
+
+-- a verdict other than `allow-related` tracks no connections
+verdict_built : (text : List ℕ) → bytes_eq text (codes "allow-related") ≡ false → IfSome (verdict_of text) (λ v. tracks_none v ≡ true)
+verdict_built text other =
+    by (bytes_eq text (codes "allow")) (bytes_eq text (codes "allow-related")) (bytes_eq text (codes "allow-stateless")) (bytes_eq text (codes "drop")) (bytes_eq text (codes "reject")) other
+  where
+    by : (a b c d e : Bool) → b ≡ false
+        → IfSome (if a then Some Allow else (if b then Some AllowRelated else (if c then Some AllowStateless else (if d then Some Drop else (if e then Some Reject else None))))) (λ v. tracks_none v ≡ true)
+    by true b c d e is = refl
+    by false true c d e is = absurd cc
+    by false false true d e is = refl
+    by false false false true e is = refl
+    by false false false false true is = refl
+    by false false false false false is = tt
+
+-- of the five words of an ACL the last is another
+last_is_other : (start : ℕ) (options words : List Word) → is_well_formed verb.AclAdd options words ≡ true → related_place start words ≡ None → bytes_eq (bytes (slice_get words 4)) (codes "allow-related") ≡ false
+last_is_other start options [] good none = absurd (omega (arith, has_places verb.AclAdd options [] good))
+last_is_other start options (a ∷ []) good none = absurd (omega (arith, has_places verb.AclAdd options (a ∷ []) good))
+last_is_other start options (a ∷ b ∷ []) good none = absurd (omega (arith, has_places verb.AclAdd options (a ∷ b ∷ []) good))
+last_is_other start options (a ∷ b ∷ c ∷ []) good none = absurd (omega (arith, has_places verb.AclAdd options (a ∷ b ∷ c ∷ []) good))
+last_is_other start options (a ∷ b ∷ c ∷ d ∷ []) good none = absurd (omega (arith, has_places verb.AclAdd options (a ∷ b ∷ c ∷ d ∷ []) good))
+last_is_other start options (a ∷ b ∷ c ∷ d ∷ e ∷ []) good none = by (bytes_eq e.text (codes "allow-related")) none
+  where
+    by : (is : Bool) → (if is then Some (start + 4) else None) ≡ None → is ≡ false
+    by true none = absurd cc
+    by false none = refl
+last_is_other start options (a ∷ b ∷ c ∷ d ∷ e ∷ f ∷ words) good none =
+    let fit = (both (list_all (λ word. is_whole word.text) options && list_all (is_once options) (form verb.AclAdd).flags) (fits (form verb.AclAdd).places Ends (a ∷ b ∷ c ∷ d ∷ e ∷ f ∷ words)) good).1 in
+    let rest = (both (suits place.Direction b) (suits place.Verdict e && false) fit).1 in
+    absurd (false≢true ((both (suits place.Verdict e) false rest).1))
+
+acl_add_built : (start : ℕ) (call : Call) → is_well_formed verb.AclAdd call.options call.words ≡ true → related_place start call.words ≡ None → IfOk (edits.edit_of verb.AclAdd call) IsBuilt
+acl_add_built start call good none =
+    goes_on_anyway IsBuilt (at call 0 (owner_name (owner_kind call))) _ (λ owner. goes_on_anyway IsBuilt (at call 1 way) _ (λ w. goes_on_anyway IsBuilt (at call 2 priority) _ (λ p.
+    goes_on_anyway IsBuilt (acl_match w (text call 3)) _ (λ m.
+    goes_on (λ v. tracks_none v ≡ true) IsBuilt (at call 4 verdict) _
+    (there (λ v. tracks_none v ≡ true) (verdict_of (text call 4)) (NotInProfile (call.first + 4)) (verdict_built (text call 4) (last_is_other start call.options call.words good none))) (λ v other. other)))))
+
+-- ---- Commands
+
+-- the name is read as this command, which asks for a built edit where each of its words is built
+abbrev IsBuiltVerb : Verb → Type 0
+IsBuiltVerb v =
+    (verb_of (form v).name ≡ Some v)
+    × ((start : ℕ) (call : Call) → is_well_formed v call.options call.words ≡ true → unbuilt v start call.words ≡ None → IfOk (edits.edit_of v call) IsBuilt)
+
+abbrev IsBuiltTask : Task → Type 0
+IsBuiltTask (task.Edit v) = IsBuiltVerb v
+IsBuiltTask (task.Query question) = Unit {0}
+
+all_built : AllByRecursion IsBuiltTask tasks
+unfolding tasks verbs
+all_built = (
+  (refl, λ start call good none. goes_on_anyway IsBuilt (at call 0 object_name) _ (λ name. tt)),
+  (
+    (refl, λ start call good none. goes_on_anyway IsBuilt (at call 0 object_name) _ (λ name. tt)),
+    (
+      (refl, λ start call good none. goes_on_anyway IsBuilt (at call 0 object_name) _ (λ switch. goes_on_anyway IsBuilt (at call 1 object_name) _ (λ port. tt))),
+      (
+        (refl, λ start call good none. goes_on_anyway IsBuilt (at call 0 object_name) _ (λ port. tt)),
+        (
+          (refl, λ start call good none. goes_on_anyway IsBuilt (at call 0 object_name) _ (λ port. goes_on_anyway IsBuilt (from call 1 (addresses [])) _ (λ list. tt))),
+          (
+            (refl, λ start call good none. goes_on_anyway IsBuilt (at call 0 object_name) _ (λ port. goes_on_anyway IsBuilt (from call 1 (guards [])) _ (λ list. tt))),
+            (
+              (refl, λ start call good none. goes_on_anyway IsBuilt (at call 0 object_name) _ (λ port. goes_on_anyway IsBuilt (at call 1 state) _ (λ enabled. tt))),
+              (
+                (refl, acl_add_built),
+                (
+                  (refl, λ start call good none. goes_on_anyway IsBuilt (at call 0 (owner_name (owner_kind call))) _ (λ owner. goes_on_anyway IsBuilt (maybe call 1 way) _ (λ w. goes_on_anyway IsBuilt (rule call w) _ (λ r. tt)))),
+                  (tt, (tt, (tt, tt))),
+                ),
+              ),
+            ),
+          ),
+        ),
+      ),
+    ),
+  ),
+)
+
+module _ (v : Verb) (is : IsBuiltVerb v) where
+  tested_built : (start : ℕ) (call : Call) (option : Option ℕ) → unbuilt v start call.words ≡ None → IfOk (tested v call option) IsBuilt
+  tested_built start call None none = Reading.tested IsBuilt (is_well_formed v call.options call.words) (edits.edit_of v call) WrongWords (λ good. is.1 start call good none)
+  tested_built start call (Some option) none = tt
+
+  said_built : (start first : ℕ) (options words : List Word) (name : Word) → name.text ≡ (form v).name → unbuilt v start words ≡ None → IfOk (said first options (name ∷ words)) IsBuilt
+  said_built start first options words name same none =
+      subst (λ found. IfOk (named first options words found) IsBuilt) (sym (ap verb_of same ∙ is.0)) (tested_built start (call options (first + length options + 1) words) (other_option first v options) none)
+
+-- the words from a word on
+drop_next : (n : ℕ) (words : List Word) (word : Word) → slice_get words n ≡ Some word → drop n words ≡ word ∷ drop (suc n) words
+drop_next n [] word is = absurd cc
+drop_next zero (w ∷ words) word is = let same : w ≡ word = cc in ap (λ x. x ∷ words) same
+drop_next (suc n) (w ∷ words) word is = drop_next n words word is
+
+drop_at : (n : ℕ) (words : List Word) (word : Word) → slice_get words n ≡ Some word → drop n words ≡ word ∷ drop (n + 1) words
+drop_at n words word is = rw (add-one n) (drop_next n words word is)
+
+module _ (v : Verb) (is : IsBuiltVerb v) (c : Command) (name : Word) (stands : slice_get c.words (option_count c.words) ≡ Some name) (same : name.text ≡ (form v).name) where
+  read_built : unbuilt_word v c.words ≡ None → IfOk (read_command c) IsBuilt
+  read_built none =
+      let count = option_count c.words in
+      subst (λ words. IfOk (said c.first (take count c.words) words) IsBuilt) (sym (drop_at count c.words name stands))
+      (said_built v is (count + 1) c.first (take count c.words) (drop (count + 1) c.words) name same none)
+
+  built_given : (place : Option ℕ) → unbuilt_word v c.words ≡ place → IfOk (built c place) IsBuilt
+  built_given None none = read_built none
+  built_given (Some place) some = goes_on_anyway IsBuilt (read_command (command c.first (take (place + 1) c.words))) (λ e. Err (NotInProfile (c.first + place))) (λ e. tt)
+
+  optioned_given : (place : Option ℕ) → IfOk (optioned v c place) IsBuilt
+  optioned_given None = built_given (unbuilt_word v c.words) refl
+  optioned_given (Some place) = tt
+
+-- ---- Lines
+
+-- what is found passes the test, and is one of the list
+found_given : {X : Type 0} (test : X → Bool) (P Q : X → Type 0) (xs : List X) → AllByRecursion P xs → ((x : X) → test x ≡ true → P x → Q x) → IfSome (find test xs) Q
+found_given test P Q [] all more = tt
+found_given {X} test P Q (x ∷ xs) all more = by (test x) refl (found_given test P Q xs all.1 more)
+  where
+    by : (b : Bool) → test x ≡ b → IfSome (find test xs) Q → IfSome (if b then Some x else find test xs) Q
+    by true passes rest = more x passes all.0
+    by false fails rest = rest
+
+task_given : (c : Command) → IfOk (task c) (HoldsAs IsBuilt c)
+task_given c = by (slice_get c.words (option_count c.words)) refl
+  where
+    holds : (name : Word) → slice_get c.words (option_count c.words) ≡ Some name → (t : Task) → is_named t name.text ≡ true → IsBuiltTask t → HoldsAs IsBuilt c t
+    holds name stands (task.Edit v) is built = optioned_given v built c name stands (sym ((bytes_eq-Decides (form v).name name.text).0 is)) (refused_option v c.words)
+    holds name stands (task.Query question) is built = tt
+
+    by : (word : Option Word) → slice_get c.words (option_count c.words) ≡ word → IfOk (task_by (c.first + option_count c.words) word) (HoldsAs IsBuilt c)
+    by None is = tt
+    by (Some name) is =
+        there (HoldsAs IsBuilt c) (task_of name.text) (UnknownCommand (c.first + option_count c.words))
+        (found_given (λ t. is_named t name.text) IsBuiltTask (HoldsAs IsBuilt c) tasks all_built (holds name is))
+
+pub line_built : (text : List ℕ) (list : List Edit) → read_line text ≡ Ok (line.Edits list) → AllByRecursion IsBuilt list
+line_built text list is = line_given IsBuilt task_given text list is

@@ -1,0 +1,183 @@
+//! What is not built yet: the address `router` of a switch port, the verdict `allow-related`, and ACLs of port groups.
+ghost use Rattle.std.specs.Prelude.{◌≡◌, ◌≤◌, ◌<◌, ◌+◌, ◌^◌, Ok, IfOk, IfErr, IfSome, true, length, position};
+ghost use Rattle.nb_words.specs.Commands.{is_small};
+ghost use Rattle.nb_words.specs.Fault.{IsFaultOf};
+ghost use Rattle.nb_edit.specs.Commands.{is_taken};
+ghost use Rattle.nb_edit.specs.Keywords.{is_flag};
+ghost use Rattle.nb_cmds.specs.Built.{is_refused, refused_option, is_router, router_place, related_place, unbuilt, unbuilt_word, not_built, built, optioned, edit_of};
+
+use nb_core::{Edit, Refusal};
+use nb_edit::{Flag, Verb, option_count, read_command, read_words};
+use nb_words::{Command, LineFault, Word};
+use std::alloc::Global;
+
+// Whether the word is this option, as far as its name goes.
+fn is_flag(flag: Flag, text: &[u8]) -> bool
+    ensures { result ≡ is_flag flag text.now }
+{
+    match flag {
+        Flag::MayExist => text == b"--may-exist".as_slice(),
+        Flag::IfExists => text == b"--if-exists".as_slice(),
+        Flag::Policy => text.starts_with(b"--policy="),
+        Flag::OwnerType => text.starts_with(b"--type="),
+    }
+}
+
+// Whether the word is an option that the command takes, as far as its name goes.
+fn is_taken(verb: Verb, word: &Word) -> bool
+    ensures { result ≡ is_taken verb word.now }
+{
+    verb.form()
+        .flags
+        .iter()
+        .any(|flag| is_flag(*flag, word.text.as_slice()))
+}
+
+// Whether the option is refused: the command does not take it, or it asks for ACLs of port groups.
+fn is_refused(verb: Verb, word: &Word) -> bool
+    ensures { result ≡ is_refused verb word.now }
+{
+    !is_taken(verb, word) || word.text.as_slice() == b"--type=port-group".as_slice()
+}
+
+// The place of the first such option.
+fn refused_option(verb: Verb, words: &[Word]) -> Option<usize>
+    ensures place { result ≡ refused_option verb words.now }
+    ensures within { IfSome result (λ place. place < length words.now) }
+{
+    words[..option_count(words)]
+        .iter()
+        .position(|word| is_refused(verb, word))
+}
+
+// Whether the word is the address `router`.
+fn is_router(word: &Word) -> bool
+    ensures { result ≡ is_router word.now }
+{
+    word.text.as_slice() == b"router".as_slice()
+}
+
+// The place of the first such address, where it is counted from 0.
+fn first_router(words: &[Word]) -> Option<usize>
+    ensures place { result ≡ position is_router words.now }
+    ensures within { IfSome result (λ place. place < length words.now) }
+{
+    words.iter().position(|word| is_router(word))
+}
+
+// The place of the first such address, where the addresses begin at this place.
+fn router_place(place: usize, words: &[Word]) -> Option<usize>
+    requires { place + length words.now < 2 ^ 64 }
+    ensures place { result ≡ router_place place words.now }
+    ensures within { IfSome result (λ p. p < place + length words.now) }
+{
+    match first_router(words) {
+        Some(n) => Some(place + n),
+        None => None,
+    }
+}
+
+// The place of the verdict `allow-related`, the last of the five words of an ACL, which begin at this place.
+fn related_place(place: usize, words: &[Word]) -> Option<usize>
+    requires { place + length words.now < 2 ^ 64 }
+    ensures place { result ≡ related_place place words.now }
+    ensures within { IfSome result (λ p. p < place + length words.now) }
+{
+    match words {
+        [_, _, _, _, verdict] => {
+            if verdict.text.as_slice() == b"allow-related".as_slice() {
+                Some(place + 4)
+            } else {
+                None
+            }
+        }
+        _ => None,
+    }
+}
+
+// The place of the first word that is not built, where the words after the name begin at this place.
+fn unbuilt(verb: Verb, place: usize, words: &[Word]) -> Option<usize>
+    requires { place + length words.now < 2 ^ 64 }
+    ensures place { result ≡ unbuilt verb place words.now }
+    ensures within { IfSome result (λ p. p < place + length words.now) }
+{
+    match verb {
+        Verb::LspSetAddresses => match words {
+            [] => None,
+            [_, addresses @ ..] => router_place(place + 1, addresses),
+        },
+        Verb::AclAdd => related_place(place, words),
+        _ => None,
+    }
+}
+
+// The place of the first word of a command that is not built.
+fn unbuilt_word(verb: Verb, words: &[Word]) -> Option<usize>
+    ensures place { result ≡ unbuilt_word verb words.now }
+    ensures within { IfSome result (λ p. p < length words.now) }
+{
+    let place = option_count(words) + 1;
+    match words.get(place..) {
+        Some(others) => unbuilt(verb, place, others),
+        None => None,
+    }
+}
+
+// What a command says whose word at this place is not built.
+#[tactic(auto, using(crate::proofs::Small::has_small_numbers, crate::proofs::Small::front_is_small))]
+fn not_built(alloc: Global, command: &Command, place: usize) -> Result<Edit, LineFault>
+    requires small { is_small command.now ≡ true }
+    requires within { place < length command.now.words }
+    ensures read { IfOk result (λ edit. not_built command.now place ≡ Ok edit) }
+    ensures refused { IfErr result (λ fault. IsFaultOf (not_built command.now place) fault) }
+{
+    read_words(alloc, command.first, &command.words.as_slice()[..=place])?;
+    Err(LineFault::Refused(Refusal::NotInProfile(command.first + place as u32)))
+}
+
+// What a command says, by the place of its first word that is not built.
+fn built(alloc: Global, command: &Command, place: Option<usize>) -> Result<Edit, LineFault>
+    requires small { is_small command.now ≡ true }
+    requires within { IfSome place (λ p. p < length command.now.words) }
+    ensures read { IfOk result (λ edit. built command.now place ≡ Ok edit) }
+    ensures refused { IfErr result (λ fault. IsFaultOf (built command.now place) fault) }
+{
+    match place {
+        None => read_command(alloc, command),
+        Some(place) => not_built(alloc, command, place),
+    }
+}
+
+// What a command says, by the place of its first option that is refused.
+#[tactic(auto, using(crate::proofs::Small::has_small_numbers))]
+fn optioned(
+    alloc: Global,
+    verb: Verb,
+    command: &Command,
+    place: Option<usize>,
+) -> Result<Edit, LineFault>
+    requires small { is_small command.now ≡ true }
+    requires within { IfSome place (λ p. p < length command.now.words) }
+    ensures read { IfOk result (λ edit. optioned verb command.now place ≡ Ok edit) }
+    ensures refused { IfErr result (λ fault. IsFaultOf (optioned verb command.now place) fault) }
+{
+    match place {
+        None => {
+            let word = unbuilt_word(verb, command.words.as_slice());
+            built(alloc, command, word)
+        }
+        Some(place) => {
+            Err(LineFault::Refused(Refusal::NotInProfile(command.first + place as u32)))
+        }
+    }
+}
+
+/// The edit that a command of this name asks for.
+pub(crate) fn edit_of(alloc: Global, verb: Verb, command: &Command) -> Result<Edit, LineFault>
+    requires { is_small command.now ≡ true }
+    ensures read { IfOk result (λ edit. edit_of verb command.now ≡ Ok edit) }
+    ensures refused { IfErr result (λ fault. IsFaultOf (edit_of verb command.now) fault) }
+{
+    let option = refused_option(verb, command.words.as_slice());
+    optioned(alloc, verb, command, option)
+}

@@ -1,0 +1,12 @@
+use Rattle.std.proofs.Common.{◌≡◌, ◌++◌, length}
+use Rattle.std.specs.List.{flat_map}
+use Rattle.nd_units.specs.inner.Made.{port_units}
+use Rattle.nd_units.proofs.Through.{left_after}
+use Rattle.nd_units.proofs.build.add_rows_of_ports.Given as goal
+
+-- the rows so far, and then those of the ports that are left, are all
+abbrev pub invariant-loop-port : goal.invariant-loop-port
+invariant-loop-port l = l.made ++ flat_map (port_units l.records) (left_after (λ x. x.id) l.last l.records.ports) ≡ l.fn.made ++ flat_map (port_units l.records) l.records.ports
+
+abbrev pub decreases-loop-port : goal.decreases-loop-port
+decreases-loop-port l = length (left_after (λ x. x.id) l.last l.records.ports)

@@ -1,0 +1,11 @@
+//! The full build: the rows of all units of a network, made anew.
+#![tactic(auto)]
+
+mod build;
+mod inputs;
+mod made;
+mod owners;
+mod ports;
+mod switches;
+
+pub use build::full;

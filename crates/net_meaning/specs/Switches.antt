@@ -1,0 +1,180 @@
+-- What a switch does with a packet (ovn-architecture(7), ovn-nb(5)). It knows the network's objects alone. Packets are not tracked.
+use Rattle.std.specs.Prelude.{ℕ, Bool, true, false, not, ◌&&◌, ◌==◌, if◌then◌else◌, List, [], ◌∷◌, ◌++◌, map, filter, Option, Some, None, option_map}
+use Rattle.std.specs.List.{find, list_any, flat_map}
+use Rattle.nv_base.specs.declared.ip4.Ip4.{Ip4}
+use Rattle.nv_base.specs.declared.object.ObjId.{ObjId}
+use Rattle.nv_base.specs.declared.field.Field.TheVariants.{Inport, Outport, FlagsLoopback, EthDst, ArpOp, ArpTpa}
+use Rattle.nv_base.specs.declared.field.Prerequisite.TheVariants.{Arp, Tcp}
+use Rattle.pkt_core.specs.Packet.{Values, value, with_values}
+use Rattle.pkt_core.specs.Prerequisite.{meets}
+use Rattle.pkt_core.specs.Replies.{is_answerable, reset, icmp_error, arp_reply}
+use Rattle.pkt_core.specs.declared.replies.IcmpReason.TheVariants.{PortUnreachable}
+use Rattle.nb_core.specs.declared.acl.Way.TheVariants.{From, To}
+use Rattle.nb_core.specs.declared.router.RouterPort.{RouterPort}
+use Rattle.nb_core.specs.declared.switch.Addr.{Addr}
+use Rattle.nb_core.specs.declared.switch.Addr.TheVariants as addr
+use Rattle.nb_core.specs.declared.switch.Port.{Port}
+use Rattle.nb_net.specs.Addresses.{macs}
+use Rattle.nb_net.specs.Belongs.{is_to_router, peer_router_port}
+use Rattle.nb_net.specs.Network.{Network, same}
+use Rattle.nb_net.specs.Readable.{ips_of}
+use Rattle.net_meaning.specs.AclVerdict.{Decision, decision}
+use Rattle.net_meaning.specs.AclVerdict.Decision.{Allowed, Dropped, Rejected}
+use Rattle.net_meaning.specs.Address.{is_multicast}
+use Rattle.net_meaning.specs.Guards.{is_let_in, is_let_out}
+use Rattle.net_meaning.specs.Places.{switch_port}
+use Rattle.net_meaning.specs.Walk.{Target, Passed, Part, Parts, Told, Walked, walk}
+use Rattle.net_meaning.specs.Walk.Passed.{GoesOn, Drops, Makes}
+use Rattle.net_meaning.specs.Walk.Target.{OnePort, Ports}
+use Rattle.net_meaning.specs.declared.answer.Answer.TheVariants.{Reject}
+use Rattle.net_meaning.specs.declared.cause.Cause.TheVariants.{PortSec, Acl, Unknown}
+
+-- ---- addresses
+
+abbrev pub is_router_word : Addr → Bool
+is_router_word addr.Router = true
+is_router_word _ = false
+
+abbrev pub is_unknown_word : Addr → Bool
+is_unknown_word addr.Unknown = true
+is_unknown_word _ = false
+
+abbrev pub mac_of_peer : Option RouterPort → List ℕ
+mac_of_peer None = []
+mac_of_peer (Some peer) = peer.mac ∷ []
+
+-- the MACs of a port: those of its addresses and, where it leads to a router and says `router`, that of its peer
+abbrev pub all_macs : Network → Port → List ℕ
+all_macs net port =
+    macs port ++ (if is_to_router port && list_any is_router_word port.addresses then mac_of_peer (peer_router_port net port) else [])
+
+-- the port has this MAC
+abbrev pub has_mac : Network → ℕ → Port → Bool
+has_mac net mac port = list_any (λ own. own == mac) (all_macs net port)
+
+-- the address is one of these
+abbrev pub is_among_ips : ℕ → List Ip4 → Bool
+is_among_ips ip ips = list_any (λ own. own.0 == ip) ips
+
+-- the port has this IPv4 address
+abbrev pub has_ip : ℕ → Port → Bool
+has_ip ip port = is_among_ips ip (flat_map ips_of port.addresses)
+
+-- the MAC that goes with an IPv4 address
+abbrev pub mac_with : ℕ → List Addr → ℕ
+mac_with ip [] = 0
+mac_with ip (addr.Host mac ips ∷ others) = if is_among_ips ip ips then mac else mac_with ip others
+mac_with ip (other ∷ others) = mac_with ip others
+
+-- whatever no other port has goes to the port
+abbrev pub takes_unknown : Port → Bool
+takes_unknown port = list_any is_unknown_word port.addresses
+
+-- ---- ports of a switch
+
+-- an enabled port of the switch
+abbrev pub is_open : ObjId → Port → Bool
+is_open switch port = same port.switch switch && port.enabled
+
+-- the port by which a switch reaches a MAC: of the enabled ports that have it, the one of the lowest number
+abbrev pub port_for : Network → ObjId → ℕ → Option Port
+port_for net switch mac = find (λ port. is_open switch port && has_mac net mac port) net.ports
+
+-- an enabled port of a host on the switch that has an IPv4 address
+abbrev pub is_answering : ObjId → ℕ → Port → Bool
+is_answering switch ip port = is_open switch port && not (is_to_router port) && has_ip ip port
+
+-- the port whose host is answered for
+abbrev pub answering : Network → ObjId → ℕ → Option Port
+answering net switch ip = find (is_answering switch ip) net.ports
+
+abbrev pub numbers : List Port → List ObjId
+numbers ports = map (λ port. port.id) ports
+
+-- all enabled ports of the switch, and those of them to which goes what no port has
+abbrev pub open_ports : Network → ObjId → List ObjId
+open_ports net switch = numbers (filter (is_open switch) net.ports)
+
+abbrev pub unknown_ports : Network → ObjId → List ObjId
+unknown_ports net switch = numbers (filter (λ port. is_open switch port && takes_unknown port) net.ports)
+
+-- ---- arriving
+
+-- where no port has the destination: to the ports for unknown addresses, if there are any
+abbrev pub to_unknown : List ObjId → Values → Passed
+to_unknown [] packet = Drops Unknown
+to_unknown ports packet = GoesOn (Ports ports) packet
+
+abbrev pub to_port : Option Port → List ObjId → Values → Passed
+to_port (Some port) unknown packet = GoesOn (OnePort port.id) packet
+to_port None unknown packet = to_unknown unknown packet
+
+-- a packet goes to each port where it is for many, else to the port of its destination
+abbrev pub sent_on : Network → ObjId → Values → Passed
+sent_on net switch packet =
+    if is_multicast (value packet EthDst) then GoesOn (Ports (open_ports net switch)) packet
+    else to_port (port_for net switch (value packet EthDst)) (unknown_ports net switch) packet
+
+-- a packet that is to go back by the port that it came in by
+abbrev pub turned_back : Values → Values
+turned_back packet = with_values packet ((Outport, 0) ∷ (FlagsLoopback, 1) ∷ [])
+
+-- an ARP request
+abbrev pub is_request : Values → Bool
+is_request packet = meets packet Arp && (value packet ArpOp == 1)
+
+-- an ARP request for the address of a host is answered for it
+abbrev pub answered_for : Network → Port → Values → Option Port → Passed
+answered_for net arrival packet None = sent_on net arrival.switch packet
+answered_for net arrival packet (Some port) = GoesOn (OnePort arrival.id) (turned_back (arp_reply packet (mac_with (value packet ArpTpa) port.addresses)))
+
+-- a request goes on where the asker itself has the address
+abbrev pub asked : Network → Port → Values → Passed
+asked net arrival packet =
+    if is_request packet && not (is_answering arrival.switch (value packet ArpTpa) arrival)
+    then answered_for net arrival packet (answering net arrival.switch (value packet ArpTpa))
+    else sent_on net arrival.switch packet
+
+-- the packet that answers a rejected one: a reset for TCP, else that the port is unreachable
+abbrev pub rejection : Values → Values
+rejection packet = if meets packet Tcp then reset packet else icmp_error packet PortUnreachable
+
+-- a rejected packet is answered at the port that it came in by, where it may be
+abbrev pub rejected : Values → Passed
+rejected packet =
+    if is_answerable packet then Makes Reject (record { 0 = value packet Inport }) (turned_back (rejection packet)) else Drops Acl
+
+-- what follows the decision of ACLs
+abbrev pub decided : Decision → Values → Passed → Passed
+decided Allowed packet onward = onward
+decided Dropped packet onward = Drops Acl
+decided Rejected packet onward = rejected packet
+
+-- what a switch does with a packet that arrives at one of its ports
+abbrev pub arriving_at : Network → Port → Values → Passed
+arriving_at net port packet =
+    if is_let_in port packet then decided (decision net port.switch From packet) packet (asked net port packet) else Drops PortSec
+
+-- ---- leaving
+
+-- the last step: a packet goes out by the port, where the port lets it out
+abbrev pub let_out : Port → Values → Passed
+let_out port packet = if is_let_out port packet then GoesOn (OnePort port.id) packet else Drops PortSec
+
+-- what a switch does with a packet that leaves by one of its ports
+abbrev pub leaving_by : Network → Port → Values → Passed
+leaving_by net port packet = decided (decision net port.switch To packet) packet (let_out port packet)
+
+-- ---- the direct meaning
+
+-- what a port of a switch does, without notes; the state stays
+abbrev pub at_port : {N S : Type 0} → Network → (Port → Values → Passed) → ObjId → Values → S → Part N S
+at_port net does port packet state = record { notes = []; passed = option_map (λ own. does own packet) (switch_port net port); state = state }
+
+-- the parts of the network
+abbrev pub direct_parts : {N S : Type 0} → Network → Parts N S
+direct_parts net = record { arriving = at_port net (arriving_at net); leaving = at_port net (leaving_by net); late = at_port net let_out }
+
+-- what the network does with a packet that comes in by a port and may take so many hops
+abbrev pub meaning : {S : Type 0} → Network → ℕ → ObjId → Values → S → Walked (Unit {0}) S
+meaning net hops port packet state = walk net (direct_parts net) hops port packet state

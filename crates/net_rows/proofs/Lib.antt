@@ -1,0 +1,16 @@
+pub mod ApartAcl
+pub mod ApartGuards
+pub mod ApartLookup
+pub mod ApartPort
+pub mod ApartSwitch
+pub mod ApartUnits
+pub mod Differ
+pub mod Elements
+pub mod Operands
+pub mod Pairs
+pub mod PortMatches
+pub mod PortParts
+pub mod Sound
+pub mod SoundObjects
+pub mod Typed
+pub mod Units

@@ -1,0 +1,61 @@
+-- What the rules of a port are told apart by: their stages, and numbers in their matches.
+use Rattle.std.proofs.Common.{◌≡◌, ℕ, Bool, true, false}
+use Rattle.expr_core.specs.Formula.{Formula}
+use Rattle.expr_core.specs.Formula.Formula.{Leaf, And}
+use Rattle.expr_core.specs.Formula.Formulas.{Nil, Cons}
+use Rattle.expr_core.specs.declared.comparison.Item.TheVariants.{One}
+use Rattle.expr_core.specs.declared.comparison.Right.{Right}
+use Rattle.expr_core.specs.declared.comparison.Right.TheVariants as right
+use Rattle.expr_core.specs.declared.typed.TypedAtom.{TypedAtom}
+use Rattle.expr_core.specs.declared.typed.TypedAtom.TheVariants.{Compare}
+use Rattle.sb_model.specs.declared.stage.Stage.{Stage}
+use Rattle.sb_model.specs.declared.stage.Stage.TheVariants.{LsInCheckPortSec, LsInArpRsp, LsInL2Lkup}
+use Rattle.net_rows.specs.declared.rule.Rule.{Rule}
+
+-- ---- stages
+
+-- what comes in is checked
+abbrev pub is_ingress_check : Stage → Bool
+is_ingress_check LsInCheckPortSec = true
+is_ingress_check other = false
+
+abbrev pub is_arp : Stage → Bool
+is_arp LsInArpRsp = true
+is_arp other = false
+
+-- ARP replies and the look-up
+abbrev pub is_later : Stage → Bool
+is_later LsInArpRsp = true
+is_later LsInL2Lkup = true
+is_later other = false
+
+-- a rule of port security
+abbrev pub IsOfSecurity : Rule → Type 0
+IsOfSecurity r = is_later r.stage ≡ false
+
+-- a rule of a later stage
+abbrev pub IsLater : Rule → Type 0
+IsLater r = is_later r.stage ≡ true
+
+-- ---- numbers
+
+-- the number that a right side is
+abbrev pub number_of : Right → ℕ
+number_of (right.Item (One c)) = c.value
+number_of other = 0
+
+-- the number that a test compares with
+abbrev pub compared : Formula TypedAtom → ℕ
+compared (Leaf (Compare f bits rel side)) = number_of side
+compared other = 0
+
+-- that of the second operand
+abbrev pub second_number : Formula TypedAtom → ℕ
+second_number (And (Cons t (Cons u ts))) = compared u
+second_number other = 0
+
+-- that of the last of two or three operands
+abbrev pub last_number : Formula TypedAtom → ℕ
+last_number (And (Cons t (Cons u Nil))) = compared u
+last_number (And (Cons t (Cons u (Cons v ts)))) = compared v
+last_number other = 0

@@ -1,0 +1,141 @@
+-- The rows of a network: those of its units, in row order.
+use Rattle.std.proofs.Common.{◌≡◌, List, [], ◌⊎◌, inl, inr, arith, ◌++◌}
+use Rattle.std.specs.Prelude.{◌↔◌}
+use Rattle.std.specs.List.{Contains, flat_map}
+use Rattle.std.proofs.lemmas.List.Elements.{Contains-append_left, Contains-append_right, Contains-append_cases}
+use Rattle.sb_model.specs.declared.row.Row.{Row}
+use Rattle.sb_rows.specs.Row.{IsInRowOrder}
+use Rattle.sb_rows.proofs.AllAtOnce.{put_rows_ordered}
+use Rattle.sb_rows.proofs.Select.{Contains-from_put_rows, Contains-put_rows_new}
+use Rattle.nb_core.specs.declared.acl.Acl.{Acl}
+use Rattle.nb_core.specs.declared.switch.Port.{Port}
+use Rattle.nb_core.specs.declared.switch.Switch.{Switch}
+use Rattle.nb_net.specs.Belongs.{switches_of_acl}
+use Rattle.nb_net.specs.Network.{Network}
+use Rattle.net_rows.specs.Acls.{acl_on_rules}
+use Rattle.net_rows.specs.Build.{acl_on_input, switch_rules, port_rules, switch_rows, port_rows, acl_on_rows, acl_rows, all_rows, rows}
+use Rattle.net_rows.specs.Unit.{unit_of, unit_of_datapath, row_of}
+use Rattle.net_rows.specs.declared.rule.Rule.{Rule}
+use Rattle.net_rows.proofs.Elements.{one_of_none, Contains-from_map, Contains-map, Contains-from_flat_map, Contains-flat_map}
+
+-- ---- where a row comes from
+
+-- a rule of a switch
+pub record IsSwitchRow (net : Network) (row : Row) : Type 0 where
+  pub switch : Switch
+  pub among : Contains net.switches switch
+  pub says : Rule
+  pub in_rules : Contains (switch_rules net switch.id) says
+  pub is : row_of (unit_of_datapath switch.id) says ≡ row
+
+-- a rule of a port
+pub record IsPortRow (net : Network) (row : Row) : Type 0 where
+  pub port : Port
+  pub among : Contains net.ports port
+  pub says : Rule
+  pub in_rules : Contains (port_rules net port) says
+  pub is : row_of (unit_of port.switch port.id) says ≡ row
+
+-- a rule of an ACL on a switch to which it applies
+pub record IsAclRow (net : Network) (row : Row) : Type 0 where
+  pub acl : Acl
+  pub among : Contains net.acls acl
+  pub switch : Switch
+  pub applied : Contains (switches_of_acl net acl) switch
+  pub says : Rule
+  pub in_rules : Contains (acl_on_rules (acl_on_input net acl switch.id)) says
+  pub is : row_of (unit_of switch.id acl.id) says ≡ row
+
+-- one of these
+abbrev pub IsRow : Network → Row → Type 0
+IsRow net row = IsSwitchRow net row ⊎ (IsPortRow net row ⊎ IsAclRow net row)
+
+module _ (net : Network) (row : Row) where
+  switch_row : Contains (flat_map (switch_rows net) net.switches) row → IsSwitchRow net row
+  unfolding switch_rows
+  switch_row there =
+      let at = Contains-from_flat_map (switch_rows net) net.switches row there in
+      let said = Contains-from_map (row_of (unit_of_datapath at.0.id)) (switch_rules net at.0.id) row at.2 in
+      record { switch = at.0; among = at.1; says = said.0; in_rules = said.1; is = said.2 }
+
+  port_row : Contains (flat_map (port_rows net) net.ports) row → IsPortRow net row
+  unfolding port_rows
+  port_row there =
+      let at = Contains-from_flat_map (port_rows net) net.ports row there in
+      let said = Contains-from_map (row_of (unit_of at.0.switch at.0.id)) (port_rules net at.0) row at.2 in
+      record { port = at.0; among = at.1; says = said.0; in_rules = said.1; is = said.2 }
+
+  acl_row : Contains (flat_map (acl_rows net) net.acls) row → IsAclRow net row
+  unfolding acl_on_rows
+  acl_row there =
+      let at = Contains-from_flat_map (acl_rows net) net.acls row there in
+      let on = Contains-from_flat_map (acl_on_rows net at.0) (switches_of_acl net at.0) row at.2 in
+      let said = Contains-from_map (row_of (unit_of on.0.id at.0.id)) (acl_on_rules (acl_on_input net at.0 on.0.id)) row on.2 in
+      record { acl = at.0; among = at.1; switch = on.0; applied = on.1; says = said.0; in_rules = said.1; is = said.2 }
+
+  abbrev of_switches : List Row
+  of_switches = flat_map (switch_rows net) net.switches
+
+  abbrev of_ports : List Row
+  of_ports = flat_map (port_rows net) net.ports
+
+  abbrev of_acls : List Row
+  of_acls = flat_map (acl_rows net) net.acls
+
+  -- the rows of the units and no others
+  pub rows-members : Contains (rows net) row ↔ Contains (all_rows net) row
+  unfolding rows
+  rows-members = (λ there. by (Contains-from_put_rows (all_rows net) [] row there), Contains-put_rows_new (all_rows net) [] row)
+    where
+      by : Contains [] row ⊎ Contains (all_rows net) row → Contains (all_rows net) row
+      by (inl none) = absurd (one_of_none row none)
+      by (inr at) = at
+
+  -- each row comes from a switch, a port or an ACL
+  pub all_rows-gives : Contains (all_rows net) row → IsRow net row
+  all_rows-gives there = by (Contains-append_cases of_switches (of_ports ++ of_acls) row there)
+    where
+      later : Contains of_ports row ⊎ Contains of_acls row → IsRow net row
+      later (inl at) = inr (inl (port_row at))
+      later (inr at) = inr (inr (acl_row at))
+
+      by : Contains of_switches row ⊎ Contains (of_ports ++ of_acls) row → IsRow net row
+      by (inl at) = inl (switch_row at)
+      by (inr at) = later (Contains-append_cases of_ports of_acls row at)
+
+  pub rows-gives : Contains (rows net) row → IsRow net row
+  rows-gives there = all_rows-gives (rows-members.0 there)
+
+-- in row order
+pub rows-in_order : (net : Network) → IsInRowOrder (rows net)
+unfolding rows
+rows-in_order net = put_rows_ordered (all_rows net) [] (λ k d le lt. absurd (omega arith))
+
+module _ (net : Network) where
+  -- each rule of each switch is there
+  pub rows-switch : (switch : Switch) (says : Rule) → Contains net.switches switch → Contains (switch_rules net switch.id) says → Contains (rows net) (row_of (unit_of_datapath switch.id) says)
+  unfolding switch_rows
+  rows-switch switch says there in_it =
+      let row = row_of (unit_of_datapath switch.id) says in
+      (rows-members net row).1 (Contains-append_left (of_switches net row) (of_ports net row ++ of_acls net row) row
+      (Contains-flat_map (switch_rows net) net.switches switch row there (Contains-map (row_of (unit_of_datapath switch.id)) (switch_rules net switch.id) says in_it)))
+
+  -- and of each port
+  pub rows-port : (port : Port) (says : Rule) → Contains net.ports port → Contains (port_rules net port) says → Contains (rows net) (row_of (unit_of port.switch port.id) says)
+  unfolding port_rows
+  rows-port port says there in_it =
+      let row = row_of (unit_of port.switch port.id) says in
+      (rows-members net row).1 (Contains-append_right (of_switches net row) (of_ports net row ++ of_acls net row) row
+      (Contains-append_left (of_ports net row) (of_acls net row) row
+      (Contains-flat_map (port_rows net) net.ports port row there (Contains-map (row_of (unit_of port.switch port.id)) (port_rules net port) says in_it))))
+
+  -- and of each ACL on each switch to which it applies
+  pub rows-acl : (acl : Acl) (switch : Switch) (says : Rule) → Contains net.acls acl → Contains (switches_of_acl net acl) switch → Contains (acl_on_rules (acl_on_input net acl switch.id)) says
+      → Contains (rows net) (row_of (unit_of switch.id acl.id) says)
+  unfolding acl_on_rows
+  rows-acl acl switch says there applied in_it =
+      let row = row_of (unit_of switch.id acl.id) says in
+      (rows-members net row).1 (Contains-append_right (of_switches net row) (of_ports net row ++ of_acls net row) row
+      (Contains-append_right (of_ports net row) (of_acls net row) row
+      (Contains-flat_map (acl_rows net) net.acls acl row there
+      (Contains-flat_map (acl_on_rows net acl) (switches_of_acl net acl) switch row applied (Contains-map (row_of (unit_of switch.id acl.id)) (acl_on_rules (acl_on_input net acl switch.id)) says in_it)))))

@@ -1,0 +1,14 @@
+//! The rows of the units of a network, as definitions, and their laws; the inputs of the units, and what puts a row of one among
+//! others.
+#![tactic(auto)]
+
+mod inputs;
+mod kept;
+mod laws;
+mod rule;
+
+pub use inputs::{AclOnInput, PortL2Input, PortSecInput, SwitchAclInput, SwitchL2Input};
+pub use laws::{
+    rows_are_those_of_the_units, rows_of_sound_networks_are_apart, rows_of_sound_networks_are_typed,
+};
+pub use rule::{Rule, Unit};

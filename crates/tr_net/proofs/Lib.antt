@@ -1,0 +1,13 @@
+pub mod Carried
+pub mod Congruence
+pub mod Ends
+pub mod Formed
+pub mod Hits
+pub mod Kept
+pub mod Pipelines
+pub mod PortNumbers
+pub mod Refinement
+pub mod Runs
+pub mod StageLaws
+pub mod Steps
+pub mod Through

@@ -1,0 +1,72 @@
+-- The walk of a packet through the network by its rows: each part is a pipeline of a datapath (ovn-architecture(7), 'Life Cycle of a
+-- Packet'; ovn-trace(8)).
+use Rattle.std.specs.Prelude.{ℕ, zero, ◌==◌, if◌then◌else◌, Option, Some, None}
+use Rattle.nv_base.specs.declared.object.ObjId.{ObjId}
+use Rattle.nv_base.specs.declared.field.Field.TheVariants.{Outport}
+use Rattle.pkt_core.specs.Packet.{Values, value}
+use Rattle.nb_net.specs.Network.{Network}
+use Rattle.sb_model.specs.declared.stage.Pipeline.TheVariants.{Ingress, Egress}
+use Rattle.net_meaning.specs.Places.{datapath_at}
+use Rattle.net_meaning.specs.Switches.{open_ports, unknown_ports}
+use Rattle.net_meaning.specs.Walk.{Target, Passed, Part, Parts, Walked, walk}
+use Rattle.net_meaning.specs.Walk.Passed.{GoesOn, Drops, Makes}
+use Rattle.net_meaning.specs.Walk.Target.{OnePort, Ports}
+use Rattle.net_meaning.specs.declared.answer.Answer.{Answer}
+use Rattle.tr_stage.specs.Machine.{PipelineRun, run_pipeline}
+use Rattle.tr_stage.specs.declared.outcome.Hit.{Hit}
+use Rattle.tr_stage.specs.declared.outcome.Outcome.{Outcome}
+use Rattle.tr_stage.specs.declared.outcome.Outcome.TheVariants.{Leave, Deliver, Made, Drop}
+use Rattle.ls_laws.specs.Steps.{flows_at, flood_number, unknown_number, last_table}
+
+-- what a walk leaves for the next one: nothing, as no switch tracks connections
+abbrev pub State : Type 0
+State = Unit {0}
+
+-- the port of this number
+abbrev pub numbered : ℕ → ObjId
+numbered number = record { 0 = number }
+
+-- where a packet with this `outport` goes: by each port of a multicast group of the datapath, or by one port
+abbrev pub target_of : Network → ObjId → ℕ → Target
+target_of net dp number =
+    if number == flood_number then Ports (open_ports net dp)
+    else if number == unknown_number then Ports (unknown_ports net dp)
+    else OnePort (numbered number)
+
+-- a packet that is made leaves by its `outport`, late, which is by the last table
+abbrev pub made : Values → ℕ → Answer → Option Passed
+made packet table answer = if table == last_table then Some (Makes answer (numbered (value packet Outport)) packet) else None
+
+-- what becomes of a packet after ingress
+abbrev pub after_ingress : Network → ObjId → Option Outcome → Option Passed
+after_ingress net dp (Some (Leave packet zero)) = Some (GoesOn (target_of net dp (value packet Outport)) packet)
+after_ingress net dp (Some (Made packet table answer)) = made packet table answer
+after_ingress net dp (Some (Drop cause)) = Some (Drops cause)
+after_ingress net dp _ = None
+
+-- and after egress
+abbrev pub after_egress : Option Outcome → Option Passed
+after_egress (Some (Deliver packet)) = Some (GoesOn (OnePort (numbered (value packet Outport))) packet)
+after_egress (Some (Made packet table answer)) = made packet table answer
+after_egress (Some (Drop cause)) = Some (Drops cause)
+after_egress _ = None
+
+-- a pipeline's run as a part of a walk, which leaves the state as it is
+abbrev pub part_of : {S : Type 0} → (Option Outcome → Option Passed) → PipelineRun → S → Part Hit S
+part_of after run state = record { notes = run.hits; passed = after run.outcome; state = state }
+
+-- the pipelines of the datapath of a port, from a table of egress on
+abbrev pub ingress : {S : Type 0} → Network → ObjId → Values → S → Part Hit S
+ingress net port packet state =
+    part_of (after_ingress net (datapath_at net port)) (run_pipeline (flows_at net (datapath_at net port)) Ingress 0 packet) state
+
+abbrev pub egress : {S : Type 0} → Network → ℕ → ObjId → Values → S → Part Hit S
+egress net table port packet state = part_of after_egress (run_pipeline (flows_at net (datapath_at net port)) Egress table packet) state
+
+-- the pipelines of the network as the parts of a walk
+abbrev pub pipelines : {S : Type 0} → Network → Parts Hit S
+pipelines net = record { arriving = ingress net; leaving = egress net 0; late = egress net last_table }
+
+-- what the rows do with a packet that comes in by a port and may take so many hops
+abbrev pub machine : {S : Type 0} → Network → ℕ → ObjId → Values → S → Walked Hit S
+machine net hops port packet state = walk net (pipelines net) hops port packet state

@@ -1,0 +1,10 @@
+-- Networks by whose rows each packet comes to an end.
+use Rattle.std.specs.Prelude.{Contains}
+use Rattle.nb_core.specs.declared.switch.Switch.{Switch}
+use Rattle.nb_net.specs.Network.{Network}
+use Rattle.tr_stage.specs.Runnable.{IsRunnable}
+use Rattle.ls_laws.specs.Steps.{flows_at}
+
+-- each packet comes to the end of a pipeline, on each switch
+abbrev pub AreRunnable : Network → Type 0
+AreRunnable net = (switch : Switch) → Contains net.switches switch → IsRunnable (flows_at net switch.id)

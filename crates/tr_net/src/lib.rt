@@ -1,0 +1,16 @@
+//! The walk of a packet through the network by its rows, with copies, answers and hops, and that it is what the network means.
+#![tactic(auto)]
+
+mod event;
+mod laws;
+mod places;
+mod ports;
+mod run;
+mod walk;
+
+pub use event::Event;
+pub use laws::{
+    hits_are_left_out, pipelines_do_their_parts, rows_of_stateless_networks_are_runnable,
+    stateless_networks_are_refined,
+};
+pub use walk::trace;

@@ -1,9 +1,0 @@
-pub mod Fields
-pub mod Notes
-pub mod Pipelines
-pub mod PortNames
-pub mod Refinement
-pub mod Runnable
-pub mod Selected
-pub mod StageLaws
-pub mod Tables

@@ -1,10 +1,10 @@
 -- What a match asks of a packet before all else.
-use Rattle.std.proofs.Common.{◌≡◌, ℕ, Bool, true, false, eqb, ap, ◌∙◌, refl, sym}
+use Rattle.std.proofs.Common.{◌≡◌, ℕ, zero, suc, ◌<◌, Bool, true, false, List, [], ◌∷◌, length, get_or, eqb, ap, ◌∙◌, refl, sym, arith}
 use Rattle.std.specs.Prelude.{◌&&◌, ◌%◌}
 use Rattle.nv_base.specs.declared.field.Field.{Field}
 use Rattle.std.proofs.lemmas.Bool.{false≢true, eqb-true, eq-eqb}
-use Rattle.expr_core.specs.Formula.{Formula}
-use Rattle.expr_core.specs.Formula.Formula.{Leaf}
+use Rattle.expr_core.specs.Formula.{Formula, formulas}
+use Rattle.expr_core.specs.Formula.Formula.{Leaf, And}
 use Rattle.expr_core.specs.Lookup.{Lookup}
 use Rattle.expr_core.specs.declared.comparison.Item.TheVariants.{One}
 use Rattle.expr_core.specs.declared.comparison.Rel.TheVariants.{Eq}
@@ -39,6 +39,13 @@ asks_nothing matching net packet not = absurd (false≢true (sym not))
 -- the comparison of a field with a number asks that the number of the field has its last byte
 pub asks_last_byte : (field : Field) (c : Const) → IsAskedBy (Leaf (Compare field Whole Eq (right.Item (One c)))) (LastByte field (c.value % 256))
 asks_last_byte field c net packet other = and_false (is_there packet field) _ (apart_by_byte (value packet field) c.value other)
+
+-- what an operand of a conjunction asks, the conjunction does
+pub asks_as_operand : (operands : List (Formula TypedAtom)) (asked : Asked) (i : ℕ) (d : Formula TypedAtom) → i < length operands → IsAskedBy (get_or operands i d) asked
+    → IsAskedBy (And (formulas operands)) asked
+asks_as_operand [] asked i d below asks net packet not = absurd (omega arith)
+asks_as_operand (f ∷ fs) asked zero d below asks net packet not = rw (asks net packet not) refl
+asks_as_operand (f ∷ fs) asked (suc i) d below asks net packet not = and_false (holds net packet f) _ (asks_as_operand fs asked i d (omega arith) asks net packet not)
 
 -- a match that asks for what a packet has not does not hold
 pub taken : (net : Lookup) (packet : Values) (matching : Formula TypedAtom) (asked : Asked) → IsAskedBy matching asked

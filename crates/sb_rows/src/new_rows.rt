@@ -8,6 +8,9 @@ use sb_model::Row;
 use std::alloc::Global;
 use std::marker::Model;
 
+// For so many rows there is room from the first on: as many as most units have.
+const FEW: usize = 8;
+
 /// Rows that are to be put among others, in the order in which they came. A clause sees it as the list of the rows.
 #[derive(Drop)]
 pub struct NewRows {
@@ -56,6 +59,9 @@ impl NewRows {
         ensures err { OnErr result (self.new ≡ self.old) }
     {
         let stored = Stored::new(*self.stored.allocator(), row, &mut self.room)?;
+        if self.stored.is_empty() {
+            self.stored.reserve(FEW)?;
+        }
         self.stored.push(stored)?;
         Ok(())
     }

@@ -1,9 +1,11 @@
 //! A row beside what searches look at first, and the text of its match, which orders it and is listed.
 ghost use Rattle.std.specs.Prelude.{◌≡◌, ◌%◌, IfOk};
+ghost use Rattle.expr_core.specs.Formula.{formulas};
+ghost use Rattle.expr_core.specs.Formula.Formula.{And};
 ghost use Rattle.expr_core.specs.Text.{typed_text};
 ghost use Rattle.expr_eval.specs.MatchMeaning.{holds};
 ghost use Rattle.sb_rows.specs.Row.{key_cmp, row_cmp};
-ghost use Rattle.sb_rows.specs.inner.Beside.{has_asked, IsAskedBy};
+ghost use Rattle.sb_rows.specs.inner.Beside.{has_asked, IsAskedBy, key_of_row, order_of_keys};
 ghost use Rattle.sb_rows.specs.inner.Tables.{table_key, key_of};
 
 use expr_core::{Bits, Env, Item, Node, Rel, Right, Typed, TypedAtom, put_tree};
@@ -15,12 +17,24 @@ use std::alloc::Global;
 use std::cmp::Ordering;
 use std::marker::Model;
 
+// So many bytes most texts of matches have at most.
+const MOST_TEXTS: usize = 128;
+
 // What a match asks of a packet before all else.
 #[derive(Clone, Copy)]
 pub(crate) enum Asked {
     Anything,
     // That the number of a field has this last byte.
     LastByte(Field, u8),
+}
+
+// What orders rows before the texts of their matches do.
+#[derive(Clone, Copy)]
+pub(crate) struct Key {
+    dp: ObjId,
+    hint: ObjId,
+    priority: u16,
+    stage: Stage,
 }
 
 // A row, and the text of its match.
@@ -30,12 +44,11 @@ struct Written {
     text: Vec<u8>,
 }
 
-// A row beside the text of its match, and what searches look at first: its table, and what its match asks. A clause sees
-// it as the row. It is small, since many are moved where one is put or taken, and looked at where one is searched.
+// A row beside the text of its match, and what sorts and searches look at first: its key, and what its match asks. A clause
+// sees it as the row. It is small, since many are moved where one is put or taken, and looked at where one is searched.
 #[derive(Drop)]
 pub(crate) struct Stored {
-    dp: ObjId,
-    stage: Stage,
+    key: Key,
     asked: Asked,
     kept: Box<Written>,
 }
@@ -53,7 +66,7 @@ impl Model for Stored {
 
     ghost view = { λ s. s.kept.value.row };
 
-    ghost invariant = { λ s. IsBeside s.kept.value.row s.dp s.stage s.asked s.kept.value.text.items };
+    ghost invariant = { λ s. IsBeside s.kept.value.row s.key s.asked s.kept.value.text.items };
 }
 
 impl Stored {
@@ -62,17 +75,13 @@ impl Stored {
         ensures { IfOk result (λ stored. stored ≡ row) }
     {
         room.clear();
+        room.reserve(MOST_TEXTS)?;
         put_tree(room, &row.matching)?;
         let text = Vec::from_slice(alloc, room.as_slice())?;
-        let (dp, stage) = (row.dp, row.stage);
+        let key = key_of_row(&row);
         let asked = asked_by(&row.matching);
         let kept = Box::new(alloc, Written { row, text })?;
-        Ok(Stored {
-            dp,
-            stage,
-            asked,
-            kept,
-        })
+        Ok(Stored { key, asked, kept })
     }
 
     // An equal row, and the text of its match, which is not written again.
@@ -83,8 +92,7 @@ impl Stored {
         let text = Vec::from_slice(alloc, self.kept.text.as_slice())?;
         let kept = Box::new(alloc, Written { row, text })?;
         Ok(Stored {
-            dp: self.dp,
-            stage: self.stage,
+            key: self.key,
             asked: self.asked,
             kept,
         })
@@ -107,14 +115,14 @@ impl Stored {
     pub(crate) fn dp(&self) -> ObjId
         ensures { result ≡ self.now.dp }
     {
-        self.dp
+        self.key.dp
     }
 
     // The place of the row's table among all. The row is not looked at.
     pub(crate) fn table_key(&self) -> u64
         ensures { result ≡ key_of self.now }
     {
-        table_key(self.dp, self.stage)
+        table_key(self.key.dp, self.key.stage)
     }
 
     // Whether the match holds of the packet. The row is looked at only where the packet has what is asked first.
@@ -130,29 +138,18 @@ impl Stored {
     pub(crate) fn key_order(&self, other: &Row) -> Ordering
         ensures { result ≡ key_cmp self.now other.now }
     {
-        let row = self.row();
-        let by_place = row
-            .dp
-            .0
-            .cmp(&other.dp.0)
-            .then(row.stage.place().cmp(&other.stage.place()));
-        let by_rank = other
-            .priority
-            .cmp(&row.priority)
-            .then(row.hint.0.cmp(&other.hint.0));
-        by_place.then(by_rank)
+        order_of_keys(self.key, key_of_row(other))
     }
 
-    // The order of the row and another. The rows are looked at only where they are of one table, and their texts only
-    // where all else is equal.
-    #[tactic(auto, using(crate::proofs::Tables::order_by_table), unfolding(crate::specs::Row::row_cmp))]
+    // The order of the row and another. The rows are looked at only where all but their matches is equal.
+    #[tactic(auto, using(crate::proofs::Tables::order_by_table), unfolding(crate::specs::Row::key_cmp, crate::specs::Row::row_cmp))]
     pub(crate) fn order(&self, other: &Stored) -> Ordering
         ensures { result ≡ row_cmp self.now other.now }
     {
         if self.table_key() != other.table_key() {
             return self.table_key().cmp(&other.table_key());
         }
-        match self.key_order(other.row()) {
+        match order_of_keys(self.key, other.key) {
             Ordering::Equal => self.text().cmp(other.text()),
             unlike => unlike,
         }
@@ -172,9 +169,60 @@ impl PartialEq for Stored {
     }
 }
 
-// What the match asks first. Most matches compare a field with one number.
-#[tactic(auto, using(crate::proofs::Asked::asks_nothing, crate::proofs::Asked::asks_last_byte))]
+// The key of a row.
+fn key_of_row(row: &Row) -> Key
+    ensures { result ≡ key_of_row row.now }
+{
+    Key {
+        dp: row.dp,
+        hint: row.hint,
+        priority: row.priority,
+        stage: row.stage,
+    }
+}
+
+#[inline]
+fn order_of_keys(one: Key, other: Key) -> Ordering
+    ensures { result ≡ order_of_keys one other }
+{
+    let by_place = one
+        .dp
+        .0
+        .cmp(&other.dp.0)
+        .then(one.stage.place().cmp(&other.stage.place()));
+    let by_rank = other
+        .priority
+        .cmp(&one.priority)
+        .then(one.hint.0.cmp(&other.hint.0));
+    by_place.then(by_rank)
+}
+
+// What the match asks first: of a conjunction, what one of its operands asks.
 fn asked_by(matching: &Typed) -> Asked
+    ensures { IsAskedBy matching.now result }
+{
+    match &matching.node {
+        Node::And(operands) => asked_by_one_of(operands),
+        _ => asked_by_comparison(matching),
+    }
+}
+
+// What the first of the operands that asks for something asks.
+fn asked_by_one_of(operands: &[Typed]) -> Asked
+    ensures { IsAskedBy (And (formulas operands.now)) result }
+{
+    for operand in operands {
+        let asked = asked_by_comparison(operand);
+        if matches!(asked, Asked::LastByte(_, _)) {
+            return asked;
+        }
+    }
+    Asked::Anything
+}
+
+// What the comparison of a field with one number asks. Of any other match nothing is known.
+#[tactic(auto, using(crate::proofs::Asked::asks_nothing, crate::proofs::Asked::asks_last_byte))]
+fn asked_by_comparison(matching: &Typed) -> Asked
     ensures { IsAskedBy matching.now result }
 {
     match &matching.node {

@@ -1,13 +1,16 @@
 -- The rows that are made of the network's objects are the rows of its units.
-use Rattle.std.proofs.Common.{◌≡◌, List, [], ◌++◌, append_assoc, sym, ap, ◌∙◌, subst}
+use Rattle.std.proofs.Common.{◌≡◌, true, List, [], ◌++◌, append_assoc, map, sym, ap, ◌∙◌, subst}
 use Rattle.std.specs.Prelude.{filter}
+use Rattle.std.proofs.lemmas.Bool.{eqb-true, eq-eqb}
 use Rattle.std.specs.List.{Contains, flat_map}
 use Rattle.std.proofs.lemmas.List.{map-append}
 use Rattle.nv_base.specs.declared.object.ObjId.{ObjId}
 use Rattle.nb_core.specs.declared.acl.Acl.{Acl}
 use Rattle.nb_core.specs.declared.switch.Port.{Port}
 use Rattle.nb_core.specs.declared.switch.Switch.{Switch}
+use Rattle.nb_net.specs.Belongs.{is_among}
 use Rattle.nb_net.specs.Network.{Network, same}
+use Rattle.nb_net.specs.Sound.{IsSound}
 use Rattle.net_meaning.specs.Applies.{applies, tracks}
 use Rattle.net_rows.specs.Acls.{acl_on_rules, switch_acl_rules}
 use Rattle.net_rows.specs.Build.{acl_on_input, acl_on_rows, acl_rows, all_rows, port_l2_input, port_rows, port_sec_input, switch_acl_input, switch_l2_input, switch_rows}
@@ -19,11 +22,14 @@ use Rattle.net_rows.specs.declared.inputs.SwitchAclInput.{SwitchAclInput}
 use Rattle.net_rows.specs.declared.inputs.SwitchL2Input.{SwitchL2Input}
 use Rattle.net_rows.specs.declared.rule.Rule.{Rule}
 use Rattle.net_rows.specs.declared.rule.Unit.{Unit}
-use Rattle.net_rows.proofs.Elements.{Contains-filter, Contains-flat_map, Contains-from_filter, Contains-from_flat_map}
+use Rattle.net_rows.proofs.Elements.{any_gives, Contains-filter, Contains-flat_map, Contains-from_filter, Contains-from_flat_map, Contains-from_map}
+use Rattle.net_rows.proofs.Sound.{each_passes}
 use Rattle.sb_model.specs.declared.row.Row.{Row}
-use Rattle.nd_units.specs.inner.Made.{acl_unit, acl_units, port_units, rows_at, switch_units}
+use Rattle.sb_rows.specs.Row.{put_rows}
+use Rattle.sb_rows.proofs.AllAtOnce.{put_members}
+use Rattle.nd_units.specs.inner.Made.{acl_unit, acl_units, datapath_rows, port_units, rows_at, switch_units}
 use Rattle.nd_units.specs.inner.Members.{HaveSameRows}
-use Rattle.nd_units.specs.inner.Owners.{acls_of, AreOwners}
+use Rattle.nd_units.specs.inner.Owners.{acls_of, AreOwners, ports_on}
 use Rattle.nd_units.proofs.Any.{kept_passes}
 use Rattle.nd_units.proofs.Applied.{applies_to, has_owner}
 use Rattle.nd_units.proofs.Same.{same_both, same_equal, same_itself, same_pieces, same_split, same_through, same_unit, same_turned_round}
@@ -151,6 +157,29 @@ module _ (net : Network) where
       same_through (flat_map (rows_at net) net.switches) (of_switches ++ flat_map applied net.switches) (of_switches ++ of_acls)
       (same_split (switch_rows net) applied net.switches) (same_both of_switches of_switches (flat_map applied net.switches) of_acls (same_itself of_switches) same_acls)
 
+  -- the ports of a switch, switch by switch, are all ports
+  same_ports : IsSound net → HaveSameRows (flat_map (λ (switch : Switch). flat_map (port_units net) (ports_on net switch.id)) net.switches) (flat_map (port_units net) net.ports)
+  same_ports sound = record { members = λ r. (to r, back r) }
+    where
+      on : Switch → List Row
+      on switch = flat_map (port_units net) (ports_on net switch.id)
+
+      to : (r : Row) → Contains (flat_map on net.switches) r → Contains (flat_map (port_units net) net.ports) r
+      to r there =
+          let at = Contains-from_flat_map on net.switches r there in
+          let of_port = Contains-from_flat_map (port_units net) (ports_on net at.0.id) r at.2 in
+          Contains-flat_map (port_units net) net.ports of_port.0 r (Contains-from_filter (λ (p : Port). same at.0.id p.switch) net.ports of_port.0 of_port.1) of_port.2
+
+      back : (r : Row) → Contains (flat_map (port_units net) net.ports) r → Contains (flat_map on net.switches) r
+      back r there =
+          let at = Contains-from_flat_map (port_units net) net.ports r there in
+          let port = at.0 in
+          let its = any_gives (same port.switch) (map (λ (s : Switch). s.id) net.switches) (each_passes (λ (p : Port). is_among p.switch (map (λ (s : Switch). s.id) net.switches)) net.ports port sound.refers.ports at.1) in
+          let of_number = Contains-from_map (λ (s : Switch). s.id) net.switches its.0 its.1 in
+          let switch = of_number.0 in
+          let is_its : same switch.id port.switch ≡ true = eq-eqb switch.id.0 port.switch.0 (ap (λ (n : ObjId). n.0) of_number.2 ∙ sym (eqb-true port.switch.0 its.0.0 its.2)) in
+          Contains-flat_map on net.switches switch r of_number.1 (Contains-flat_map (port_units net) (ports_on net switch.id) port r (Contains-filter (λ (p : Port). same switch.id p.switch) net.ports port at.1 is_its) at.2)
+
   -- what is made of the switches, and then of the ports, are the rows of the network's units
   pub same_all : HaveSameRows (flat_map (rows_at net) net.switches ++ flat_map (port_units net) net.ports) (all_rows net)
   same_all =
@@ -159,10 +188,21 @@ module _ (net : Network) where
       (same_through ((of_switches ++ of_acls) ++ of_ports) (of_switches ++ (of_acls ++ of_ports)) (all_rows net) (same_equal ((of_switches ++ of_acls) ++ of_ports) (of_switches ++ (of_acls ++ of_ports)) (append_assoc of_switches of_acls of_ports))
       (same_both of_switches of_switches (of_acls ++ of_ports) (of_ports ++ of_acls) (same_itself of_switches) (same_turned_round of_acls of_ports)))
 
-  pub made_all : (none of_all_switches all : List Row) → none ≡ [] → HaveSameRows of_all_switches (none ++ flat_map (rows_at net) net.switches) → all ≡ of_all_switches ++ flat_map (port_units net) net.ports → HaveSameRows all (all_rows net)
-  made_all none of_all_switches all is_none same is_all =
-      let units = flat_map (port_units net) net.ports in
+  -- what is made datapath by datapath are the rows of the network's units
+  pub made_all : IsSound net → (none all : List Row) → none ≡ [] → HaveSameRows all (none ++ flat_map (datapath_rows net) net.switches) → HaveSameRows all (all_rows net)
+  made_all sound none all is_none same =
+      let on : Switch → List Row = λ switch. flat_map (port_units net) (ports_on net switch.id) in
       let switches = flat_map (rows_at net) net.switches in
-      same_through all (of_all_switches ++ units) (all_rows net) (same_equal all (of_all_switches ++ units) is_all)
-      (same_through (of_all_switches ++ units) (switches ++ units) (all_rows net)
-      (same_both of_all_switches switches units units (subst (λ rows. HaveSameRows of_all_switches (rows ++ switches)) is_none same) (same_itself units)) same_all)
+      same_through all (flat_map (datapath_rows net) net.switches) (all_rows net) (subst (λ rows. HaveSameRows all (rows ++ flat_map (datapath_rows net) net.switches)) is_none same)
+      (same_through (flat_map (datapath_rows net) net.switches) (switches ++ flat_map on net.switches) (all_rows net) (same_split (rows_at net) on net.switches)
+      (same_through (switches ++ flat_map on net.switches) (switches ++ flat_map (port_units net) net.ports) (all_rows net)
+      (same_both switches switches (flat_map on net.switches) (flat_map (port_units net) net.ports) (same_itself switches) (same_ports sound)) same_all))
+
+  -- the rows of a datapath, put in row order
+  pub made_of_datapath : (switch : Switch) (none of_switch all : List Row) → none ≡ [] → HaveSameRows of_switch (none ++ rows_at net switch) → all ≡ of_switch ++ flat_map (port_units net) (ports_on net switch.id)
+      → (list : List Row) → list ≡ put_rows [] all → HaveSameRows list (datapath_rows net switch)
+  made_of_datapath switch none of_switch all is_none same is_all list is_list =
+      let ports = flat_map (port_units net) (ports_on net switch.id) in
+      same_through list all (datapath_rows net switch) (same_through list (put_rows [] all) all (same_equal list (put_rows [] all) is_list) (record { members = put_members all }))
+      (same_through all (of_switch ++ ports) (datapath_rows net switch) (same_equal all (of_switch ++ ports) is_all)
+      (same_both of_switch (rows_at net switch) ports ports (subst (λ rows. HaveSameRows of_switch (rows ++ rows_at net switch)) is_none same) (same_itself ports)))

@@ -1,7 +1,7 @@
 -- The owners whose ACLs apply to a switch, and what the inputs of units say of the network.
-use Rattle.std.proofs.Common.{◌≡◌, ◌<◌, Bool, true, false, not, ◌&&◌, ◌||◌, cond, List, [], ◌∷◌, Some, refl, sym, ap, ◌∙◌, subst, arith}
-use Rattle.std.specs.Prelude.{◌↔◌}
-use Rattle.std.specs.List.{AllByRecursion, Contains, list_any}
+use Rattle.std.proofs.Common.{◌≡◌, ◌<◌, Bool, true, false, not, ◌&&◌, ◌||◌, cond, List, [], ◌∷◌, ◌++◌, append-nil, map, Some, None, refl, sym, ap, ◌∙◌, subst, arith}
+use Rattle.std.specs.Prelude.{◌↔◌, filter}
+use Rattle.std.specs.List.{AllByRecursion, Contains, flat_map, list_any}
 use Rattle.std.proofs.lemmas.Bool.{and_parts}
 use Rattle.std.proofs.lemmas.Bool.Decides.{nat_tests}
 use Rattle.std.proofs.lemmas.Option.{same_Some}
@@ -12,7 +12,7 @@ use Rattle.nb_core.specs.declared.switch.Port.{Port}
 use Rattle.nb_core.specs.declared.switch.Switch.{Switch}
 use Rattle.nb_net.specs.Belongs.{is_among}
 use Rattle.nb_net.specs.Network.{Network, same}
-use Rattle.nb_table.specs.Table.{NumbersRise, record_of}
+use Rattle.nb_table.specs.Table.{NumbersRise, record_after, record_of}
 use Rattle.net_meaning.specs.Applies.{applies, balances, is_empty, is_related}
 use Rattle.net_meaning.specs.Switches.{is_open, takes_unknown}
 use Rattle.net_rows.specs.Build.{has_unknown, switch_acl_input}
@@ -20,6 +20,7 @@ use Rattle.net_rows.specs.declared.inputs.SwitchAclInput.{SwitchAclInput}
 use Rattle.net_rows.proofs.Elements.{any_from, any_gives, Contains-filter, Contains-flat_map, Contains-from_filter, Contains-from_flat_map, Contains-from_map, Contains-map}
 use Rattle.nd_units.specs.inner.Made.{has_related}
 use Rattle.nd_units.specs.inner.Owners.{acls_of, groups_of_port, groups_on, groups_with, ports_on, AreOwners}
+use Rattle.nd_units.proofs.Through.{all_left, none_left}
 use Rattle.nd_units.proofs.Any.{any_agree, any_kept, any_members, both_ways, kept_passes, same_turned}
 
 -- two tests that pass
@@ -155,3 +156,14 @@ acl_input_is net switch owners rise there are attached tracking found tracked =
   where
     input : Bool → Bool → SwitchAclInput
     input tracking balanced = record { tracks = tracking; balances = balanced }
+
+-- where there is no group, no port of a switch has one
+pub without_groups : (net : Network) (switch : ObjId) (owners : List ObjId) → record_after (λ (g : Group). g.id) None net.groups ≡ None → owners ≡ owners ++ groups_on net switch
+without_groups net switch owners none = sym (ap (λ more. owners ++ more) (of_ports (ports_on net switch)) ∙ append-nil owners)
+  where
+    groups_none : net.groups ≡ []
+    groups_none = sym (all_left (λ (g : Group). g.id) net.groups) ∙ none_left (λ (g : Group). g.id) None net.groups none
+
+    of_ports : (ports : List Port) → flat_map (λ (port : Port). groups_of_port net port.id) ports ≡ []
+    of_ports [] = refl
+    of_ports (port ∷ ports) = ap (λ groups. map (λ (g : Group). g.id) (filter (λ (g : Group). is_among port.id g.ports) groups) ++ flat_map (λ (p : Port). groups_of_port net p.id) ports) groups_none ∙ of_ports ports

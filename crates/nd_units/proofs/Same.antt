@@ -42,6 +42,10 @@ same_both xs xs' ys ys' first second = record {
   );
 }
 
+-- a list that comes to another, and has the rows of a third
+pub same_appended : (old list more new : List Row) → new ≡ old ++ list → HaveSameRows list more → HaveSameRows new (old ++ more)
+same_appended old list more new is same = same_through new (old ++ list) (old ++ more) (same_equal new (old ++ list) is) (same_both old old list more (same_itself old) same)
+
 -- the order of two parts does not matter
 turned : (xs ys : List Row) (r : Row) → Contains (xs ++ ys) r → Contains (ys ++ xs) r
 turned xs ys r at = by (Contains-append_cases xs ys r at)

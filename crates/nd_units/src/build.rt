@@ -1,16 +1,19 @@
-ghost use Rattle.std.specs.Prelude.{◌≡◌, ◌++◌, IfOk, OnOk};
+ghost use Rattle.std.specs.Prelude.{◌≡◌, ◌++◌, Some, IfOk, OnOk};
 ghost use Rattle.std.specs.List.{flat_map};
 ghost use Rattle.nb_net.specs.Sound.{IsSound};
+ghost use Rattle.nb_table.specs.Table.{record_of};
 ghost use Rattle.net_rows.specs.Build.{all_rows, rows};
-ghost use Rattle.nd_units.specs.inner.Made.{port_units, rows_at};
+ghost use Rattle.nd_units.specs.inner.Made.{datapath_rows, port_units};
 ghost use Rattle.nd_units.specs.inner.Members.{HaveSameRows};
+ghost use Rattle.nd_units.specs.inner.Owners.{ports_on};
 
 use crate::made::MadeRows;
 use crate::ports::add_rows_of_port;
 use crate::switches::add_rows_of_switch;
+use nb_core::Switch;
 use nb_tables::Records;
-use nv_base::OutOfMemory;
-use sb_rows::{NewRows, Rows};
+use nv_base::{ObjId, OutOfMemory};
+use sb_rows::{NewRows, RowList, Rows};
 use std::alloc::Global;
 
 /// The rows of a network, made anew: those of each switch, of each port of a switch, and of each ACL on each switch to which it
@@ -22,43 +25,60 @@ pub fn full(alloc: Global, records: &Records) -> Result<Rows, OutOfMemory>
     Rows::of_all(alloc, rows_of_units(alloc, records)?)
 }
 
-// The rows of all units, some maybe twice.
+// The rows of all units, some maybe twice, one datapath after the other. Those of each are in row order, so that all are.
 fn rows_of_units(alloc: Global, records: &Records) -> Result<NewRows, OutOfMemory>
     requires { IsSound records.now }
     ensures { IfOk result (λ made. HaveSameRows made (all_rows records.now)) }
 {
-    let mut made = MadeRows::new(alloc);
+    let mut made = NewRows::new(alloc);
     add_rows_of_switches(alloc, &mut made, records)?;
-    add_rows_of_ports(alloc, &mut made, records)?;
-    Ok(made.into_rows())
+    Ok(made)
 }
 
 fn add_rows_of_switches(
     alloc: Global,
-    made: &mut MadeRows,
+    made: &mut NewRows,
     records: &Records,
 ) -> Result<(), OutOfMemory>
     requires { IsSound records.now }
-    ensures { OnOk result (HaveSameRows made.new (made.old ++ flat_map (rows_at records.now) records.now.switches)) }
+    ensures { OnOk result (HaveSameRows made.new (made.old ++ flat_map (datapath_rows records.now) records.now.switches)) }
 {
     let mut last = None;
     while let Some(switch) = records.switches().after(last) {
-        add_rows_of_switch(alloc, made, records, switch)?;
+        made.append(rows_of_datapath(alloc, records, switch)?)?;
         last = Some(switch.id);
     }
     Ok(())
 }
 
+// The rows of a switch, of the ACLs on it and of its ports, in row order.
+fn rows_of_datapath(
+    alloc: Global,
+    records: &Records,
+    switch: &Switch,
+) -> Result<RowList, OutOfMemory>
+    requires sound { IsSound records.now }
+    requires there { record_of (λ x. x.id) switch.now.id records.now.switches ≡ Some switch.now }
+    ensures { IfOk result (λ list. HaveSameRows list (datapath_rows records.now switch.now)) }
+{
+    let mut made = MadeRows::new(alloc);
+    add_rows_of_switch(alloc, &mut made, records, switch)?;
+    add_rows_of_ports(alloc, &mut made, records, switch.id)?;
+    made.into_rows().into_list()
+}
+
+// The rows of the ports of a switch come after the others.
 fn add_rows_of_ports(
     alloc: Global,
     made: &mut MadeRows,
     records: &Records,
+    switch: ObjId,
 ) -> Result<(), OutOfMemory>
     requires { IsSound records.now }
-    ensures { OnOk result (made.new ≡ made.old ++ flat_map (port_units records.now) records.now.ports) }
+    ensures { OnOk result (made.new ≡ made.old ++ flat_map (port_units records.now) (ports_on records.now switch)) }
 {
     let mut last = None;
-    while let Some(port) = records.ports().after(last) {
+    while let Some(port) = records.port_on(switch, last) {
         add_rows_of_port(alloc, made, records, port)?;
         last = Some(port.id);
     }

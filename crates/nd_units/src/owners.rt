@@ -24,8 +24,22 @@ pub(crate) fn owners_on(
     Ok(owners)
 }
 
-// The groups of each port of the switch come after the other owners.
+// The groups of each port of the switch come after the other owners. Where there is no group, no port is asked.
 fn add_groups_on(
+    owners: &mut Vec<ObjId>,
+    records: &Records,
+    switch: ObjId,
+) -> Result<(), OutOfMemory>
+    requires { IsSound records.now }
+    ensures { OnOk result (owners.new.items ≡ owners.old.items ++ groups_on records.now switch) }
+{
+    match records.groups().after(None) {
+        None => Ok(()),
+        Some(_) => add_groups_of_ports(owners, records, switch),
+    }
+}
+
+fn add_groups_of_ports(
     owners: &mut Vec<ObjId>,
     records: &Records,
     switch: ObjId,

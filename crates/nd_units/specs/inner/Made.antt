@@ -17,7 +17,7 @@ use Rattle.net_rows.specs.declared.inputs.AclOnInput.{AclOnInput}
 use Rattle.net_rows.specs.declared.inputs.SwitchAclInput.{SwitchAclInput}
 use Rattle.net_rows.specs.declared.inputs.SwitchL2Input.{SwitchL2Input}
 use Rattle.sb_model.specs.declared.row.Row.{Row}
-use Rattle.nd_units.specs.inner.Owners.{acls_of}
+use Rattle.nd_units.specs.inner.Owners.{acls_of, ports_on}
 
 -- an `allow-related` ACL has this owner
 abbrev pub has_related : Network → ObjId → Bool
@@ -46,6 +46,10 @@ abbrev pub port_units : Network → Port → List Row
 port_units net port =
     unit_rows (unit_of port.switch port.id) (port_sec_rules (port_sec_input port)) ++ unit_rows (unit_of port.switch port.id) (port_l2_rules (port_l2_input net port))
 
--- all rows of the datapath of a switch but those of its ports
+-- the rows of the datapath of a switch but those of its ports
 abbrev pub rows_at : Network → Switch → List Row
 rows_at net switch = switch_rows net switch ++ flat_map (λ acl. acl_on_rows net acl switch) (filter (applies net switch.id) net.acls)
+
+-- all rows of the datapath of a switch
+abbrev pub datapath_rows : Network → Switch → List Row
+datapath_rows net switch = rows_at net switch ++ flat_map (port_units net) (ports_on net switch.id)

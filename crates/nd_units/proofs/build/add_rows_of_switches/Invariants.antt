@@ -1,13 +1,13 @@
 use Rattle.std.proofs.Common.{◌++◌, length}
 use Rattle.std.specs.List.{flat_map}
-use Rattle.nd_units.specs.inner.Made.{rows_at}
+use Rattle.nd_units.specs.inner.Made.{datapath_rows}
 use Rattle.nd_units.specs.inner.Members.{HaveSameRows}
 use Rattle.nd_units.proofs.Through.{left_after}
 use Rattle.nd_units.proofs.build.add_rows_of_switches.Given as goal
 
 -- the rows so far and those of the switches that are left are all
 abbrev pub invariant-loop-switch : goal.invariant-loop-switch
-invariant-loop-switch l = HaveSameRows (l.made ++ flat_map (rows_at l.records) (left_after (λ x. x.id) l.last l.records.switches)) (l.fn.made ++ flat_map (rows_at l.records) l.records.switches)
+invariant-loop-switch l = HaveSameRows (l.made ++ flat_map (datapath_rows l.records) (left_after (λ x. x.id) l.last l.records.switches)) (l.fn.made ++ flat_map (datapath_rows l.records) l.records.switches)
 
 abbrev pub decreases-loop-switch : goal.decreases-loop-switch
 decreases-loop-switch l = length (left_after (λ x. x.id) l.last l.records.switches)

@@ -1,6 +1,5 @@
-use Rattle.std.proofs.Common.{◌∙◌}
 use Rattle.nd_units.proofs.All.{made_all}
 use Rattle.nd_units.proofs.build.rows_of_units.Goals as goal
 
 pub returns : goal.returns
-returns c = made_all c.args.records.now c.new-made.result _ _ c.new-made.ensures c.in_ok-add_rows_of_switches.ensures (c.into_rows.ensures ∙ c.in_ok-add_rows_of_ports.ensures)
+returns c = made_all c.args.records.now c.requires c.new-made.result _ c.new-made.ensures c.in_ok-add_rows_of_switches.ensures

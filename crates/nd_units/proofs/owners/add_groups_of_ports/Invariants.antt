@@ -3,7 +3,7 @@ use Rattle.std.specs.List.{flat_map}
 use Rattle.nb_net.specs.Network.{same}
 use Rattle.nd_units.specs.inner.Owners.{groups_of_port, groups_on}
 use Rattle.nd_units.proofs.Through.{these_after}
-use Rattle.nd_units.proofs.owners.add_groups_on.Given as goal
+use Rattle.nd_units.proofs.owners.add_groups_of_ports.Given as goal
 
 -- the numbers so far, and then those of the ports that are left, are all
 abbrev pub invariant-loop-port : goal.invariant-loop-port

@@ -4,7 +4,6 @@ use Rattle.std.specs.Prelude.{codes, filter, nat_eq, Option}
 use Rattle.std.specs.List.{starts_with, flat_map}
 use Rattle.nv_base.specs.declared.object.ObjId.{ObjId}
 use Rattle.nb_core.specs.declared.refusal.Refusal.{Refusal}
-use Rattle.nb_core.specs.Refusal.{refusal_line}
 use Rattle.nb_cmds.specs.Lines.{read_line}
 use Rattle.nb_cmds.specs.declared.line.Line.{Line}
 use Rattle.nb_cmds.specs.declared.line.Line.TheVariants as line

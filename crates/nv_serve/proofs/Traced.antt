@@ -1,6 +1,6 @@
 -- Each trace is answered by what the network does with the packet.
-use Rattle.std.proofs.Common.{◌≡◌, ℕ, ◌+◌, ◌<◌, Bool, Ok, List, [], ◌∷◌, ◌++◌, length, sum_by, Some, refl, sym, ap, ◌∙◌, subst, arith}
-use Rattle.std.specs.Prelude.{map, Contains}
+use Rattle.std.proofs.Common.{◌≡◌, ℕ, ◌+◌, ◌<◌, Bool, Ok, List, [], ◌∷◌, length, sum_by, Some, refl, sym, ap, ◌∙◌, subst, arith}
+use Rattle.std.specs.Prelude.{map}
 use Rattle.clap.specs.Words.{Text}
 use Rattle.nv_options.specs.Options.{hops_in}
 use Rattle.nb_core.specs.declared.switch.Port.{Port}
@@ -18,7 +18,7 @@ use Rattle.tr_net.specs.Events.{event_of, of_plain, plain_event, without_hits}
 use Rattle.tr_net.specs.Machine.{State, machine}
 use Rattle.tr_stage.specs.declared.outcome.Hit.{Hit}
 use Rattle.nv_serve.specs.Output.{opened}
-use Rattle.nv_serve.specs.Reply.{accept, answered, trace_lines, traced_port, reply, reply_to, session_after}
+use Rattle.nv_serve.specs.Reply.{accept, answered, trace_lines, reply, reply_to, session_after}
 use Rattle.nv_serve.specs.Session.{Session}
 use Rattle.nv_serve.specs.Traced.{TellsMeaning, TracesAreMeant}
 use Rattle.nv_serve.proofs.Lengths.{before_longer}

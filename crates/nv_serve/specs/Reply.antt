@@ -1,5 +1,5 @@
 -- What a line is answered, and the session that it leaves.
-use Rattle.std.specs.Prelude.{ℕ, Bool, true, false, ◌||◌, List, [], ◌∷◌, ◌++◌, map, Option, Some, None, is_some, ok_or, Result, Ok, Err, if◌then◌else◌, codes}
+use Rattle.std.specs.Prelude.{ℕ, Bool, true, false, ◌||◌, List, [], ◌∷◌, ◌++◌, map, Option, Some, None, ok_or, Result, Ok, Err, if◌then◌else◌, codes}
 use Rattle.nv_base.specs.declared.object.ObjId.{ObjId}
 use Rattle.pkt_core.specs.Packet.{Values}
 use Rattle.nb_core.specs.declared.refusal.Refusal.{Refusal}

@@ -1,7 +1,6 @@
 -- What the replies to traces tell.
 use Rattle.std.specs.Prelude.{◌≡◌, ℕ, Bool, List, ◌∷◌, ◌++◌, Ok, Contains}
 use Rattle.clap.specs.Words.{Text}
-use Rattle.nv_base.specs.declared.object.ObjId.{ObjId}
 use Rattle.pkt_core.specs.Packet.{Values}
 use Rattle.pkt_micro.specs.declared.microflow.Micro.{Micro}
 use Rattle.nb_core.specs.declared.switch.Port.{Port}

@@ -1,0 +1,6 @@
+pub mod Applied
+pub mod First
+pub mod Kept
+pub mod Order
+pub mod Sound
+pub mod Through

@@ -1,0 +1,2 @@
+-- What private contracts and proofs cite. The clauses of the public call cite none of it.
+pub mod Acls

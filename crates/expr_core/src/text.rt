@@ -1,7 +1,7 @@
 //! Matches as text.
-ghost use Rattle.std.specs.Prelude.{◌≡◌, ◌++◌, OnOk, OnErr};
+ghost use Rattle.std.specs.Prelude.{◌≡◌, ◌++◌, codes, OnOk, OnErr};
 ghost use Rattle.nv_base.specs.Growth.{GrowsAtEnd};
-ghost use Rattle.expr_core.specs.Text.{bits_text, rel_text, truth_text, opening, closing};
+ghost use Rattle.expr_core.specs.Text.{bits_text, rel_text, truth_text};
 ghost use Rattle.expr_core.specs.declared.part.Bits.TheVariants.{Bit, Range};
 
 mod constant;
@@ -50,17 +50,17 @@ fn put_range(out: &mut Vec<u8>, first: u8, last: u8) -> Result<(), OutOfMemory>
     Ok(())
 }
 
-// A relation as it is written.
+// A relation between its two sides, a space on each side of it.
 fn rel_text(rel: Rel) -> &'static str
-    ensures { result.now ≡ rel_text rel }
+    ensures { result.now ≡ codes " " ++ rel_text rel ++ codes " " }
 {
     match rel {
-        Rel::Eq => "==",
-        Rel::Ne => "!=",
-        Rel::Lt => "<",
-        Rel::Le => "<=",
-        Rel::Gt => ">",
-        Rel::Ge => ">=",
+        Rel::Eq => " == ",
+        Rel::Ne => " != ",
+        Rel::Lt => " < ",
+        Rel::Le => " <= ",
+        Rel::Gt => " > ",
+        Rel::Ge => " >= ",
     }
 }
 
@@ -77,18 +77,4 @@ fn put_truth(out: &mut Vec<u8>, holds: bool) -> Result<(), OutOfMemory>
 {
     out.extend_from_slice(truth_text(holds).as_bytes())?;
     Ok(())
-}
-
-// What is written before an operand.
-fn opening(parentheses: bool) -> &'static str
-    ensures { result.now ≡ opening parentheses }
-{
-    if parentheses { "(" } else { "" }
-}
-
-// What is written after an operand.
-fn closing(parentheses: bool) -> &'static str
-    ensures { result.now ≡ closing parentheses }
-{
-    if parentheses { ")" } else { "" }
 }

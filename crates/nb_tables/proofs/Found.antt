@@ -1,5 +1,5 @@
 -- Records that are found by a tag are those that a test of their fields finds.
-use Rattle.std.proofs.Common.{◌≡◌, ℕ, Bool, true, false, ◌==◌, ◌&&◌, ◌||◌, List, [], ◌∷◌, map, Option, Some, None, refl, ap, ◌∙◌, arith}
+use Rattle.std.proofs.Common.{◌≡◌, ℕ, Bool, true, false, cond, ◌==◌, ◌&&◌, ◌||◌, List, [], ◌∷◌, map, Option, Some, None, refl, ap, ◌∙◌, arith}
 use Rattle.std.specs.Prelude.{find}
 use Rattle.std.specs.List.{list_any}
 use Rattle.std.specs.Ordering.{is_eq}
@@ -26,6 +26,20 @@ use Rattle.nb_table.specs.Table.{has_tag, is_after}
 -- what two tests that agree find
 pub same_found : {R : Type 0} (p q : R → Bool) → ((r : R) → p r ≡ q r) → (rs : List R) → find p rs ≡ find q rs
 same_found p q agree rs = ap (λ test. find test rs) (λ i r. agree r i)
+
+-- the first that passes a test is the first that passes another one too, where it passes that
+pub first_found : {R : Type 0} (p q : R → Bool) (r : R) (rs : List R) → find p rs ≡ Some r → q r ≡ true → find (λ x. p x && q x) rs ≡ Some r
+first_found p q r [] found also = absurd (cc)
+first_found {R} p q r (x ∷ rs) found also = by (p x) refl found (λ f. first_found p q r rs f also)
+  where
+    both : R → Bool
+    both y = p y && q y
+
+    by : (b : Bool) → p x ≡ b → cond b (Some x) (find p rs) ≡ Some r → (find p rs ≡ Some r → find both rs ≡ Some r) → cond (both x) (Some x) (find both rs) ≡ Some r
+    by true t g rest =
+        let same : x ≡ r = cc in
+        ap (λ b. cond (b && q x) (Some x) (find both rs)) t ∙ ap (λ b. cond b (Some x) (find both rs)) (ap q same ∙ also) ∙ ap Some same
+    by false t g rest = ap (λ b. cond (b && q x) (Some x) (find both rs)) t ∙ rest g
 
 -- how names compare
 pub turned : (a b : ℕ) → (a == b) ≡ (b == a)

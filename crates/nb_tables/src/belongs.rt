@@ -19,7 +19,11 @@ impl Records {
     pub fn port_on(&self, switch: ObjId, after: Option<ObjId>) -> Option<&Port>
         ensures { option_copied result ≡ find (λ port. is_after after port.id && same switch port.switch) self.now.ports }
     {
-        self.ports.tagged(&Tag::Of(switch), after)
+        // The ports of a switch mostly come one after the other: then the index is not needed.
+        match self.ports.after(after) {
+            Some(port) if switch.0 == port.switch.0 => Some(port),
+            _ => self.ports.tagged(&Tag::Of(switch), after),
+        }
     }
 
     /// The first port of a router, above a number where one is given.

@@ -198,11 +198,12 @@ module _ (net : Network) where
       (same_through (switches ++ flat_map on net.switches) (switches ++ flat_map (port_units net) net.ports) (all_rows net)
       (same_both switches switches (flat_map on net.switches) (flat_map (port_units net) net.ports) (same_itself switches) (same_ports sound)) same_all))
 
-  -- the rows of a datapath, put in row order
-  pub made_of_datapath : (switch : Switch) (none of_switch all : List Row) → none ≡ [] → HaveSameRows of_switch (none ++ rows_at net switch) → all ≡ of_switch ++ flat_map (port_units net) (ports_on net switch.id)
+  -- the rows of a datapath, those of its ports first, put in row order
+  pub made_of_datapath : (switch : Switch) (none of_ports all : List Row) → none ≡ [] → of_ports ≡ none ++ flat_map (port_units net) (ports_on net switch.id) → HaveSameRows all (of_ports ++ rows_at net switch)
       → (list : List Row) → list ≡ put_rows [] all → HaveSameRows list (datapath_rows net switch)
-  made_of_datapath switch none of_switch all is_none same is_all list is_list =
+  made_of_datapath switch none of_ports all is_none is_ports same list is_list =
       let ports = flat_map (port_units net) (ports_on net switch.id) in
+      let at = rows_at net switch in
       same_through list all (datapath_rows net switch) (same_through list (put_rows [] all) all (same_equal list (put_rows [] all) is_list) (record { members = put_members all }))
-      (same_through all (of_switch ++ ports) (datapath_rows net switch) (same_equal all (of_switch ++ ports) is_all)
-      (same_both of_switch (rows_at net switch) ports ports (subst (λ rows. HaveSameRows of_switch (rows ++ rows_at net switch)) is_none same) (same_itself ports)))
+      (same_through all (of_ports ++ at) (datapath_rows net switch) same
+      (same_through (of_ports ++ at) (ports ++ at) (datapath_rows net switch) (same_equal (of_ports ++ at) (ports ++ at) (ap (λ rows. rows ++ at) (is_ports ∙ ap (λ rows. rows ++ ports) is_none))) (same_turned_round ports at)))

@@ -169,3 +169,7 @@ module _ {R : Type 0} (number : R → ObjId) (p : R → Bool) where
 
       pub these_fail : (q : R → Bool) (any : Bool) → list_any q (these_after after rs) ≡ any → q x ≡ false → list_any q (these_after (Some (number x)) rs) ≡ any
       these_fail q any is fails = next_fails number q after (filter p rs) any is x (rise_among rs rise) found_among fails
+
+      -- one passes where this one does, or one after it
+      pub these_or : (q : R → Bool) → (q x || list_any q (these_after (Some (number x)) rs)) ≡ list_any q (these_after after rs)
+      these_or q = first_or_left number q after (filter p rs) (list_any q (these_after after rs)) refl x (rise_among rs rise) found_among

@@ -2,11 +2,12 @@ ghost use Rattle.std.specs.Prelude.{◌≡◌, ◌++◌, Some, IfOk, OnOk};
 ghost use Rattle.std.specs.List.{flat_map};
 ghost use Rattle.nb_net.specs.Sound.{IsSound};
 ghost use Rattle.nb_table.specs.Table.{record_of};
-ghost use Rattle.net_rows.specs.Build.{all_rows, rows};
+ghost use Rattle.net_rows.specs.Build.{all_rows, has_unknown, rows};
 ghost use Rattle.nd_units.specs.inner.Made.{datapath_rows, port_units};
 ghost use Rattle.nd_units.specs.inner.Members.{HaveSameRows};
 ghost use Rattle.nd_units.specs.inner.Owners.{ports_on};
 
+use crate::inputs::is_for_unknown;
 use crate::made::MadeRows;
 use crate::ports::add_rows_of_port;
 use crate::switches::add_rows_of_switch;
@@ -16,8 +17,8 @@ use nv_base::{ObjId, OutOfMemory};
 use sb_rows::{NewRows, RowList, Rows};
 use std::alloc::Global;
 
-/// The rows of a network, made anew: those of each switch, of each port of a switch, and of each ACL on each switch to which it
-/// applies (modelled on ovn-northd(8)). `OutOfMemory` comes only where memory ran out.
+/// The rows of a sound network, made anew: those of each switch, of each port of a switch, and of each ACL on each switch to which
+/// it applies (modelled on ovn-northd(8)). Where memory runs out the answer is `OutOfMemory`.
 pub fn full(alloc: Global, records: &Records) -> Result<Rows, OutOfMemory>
     requires { IsSound records.now }
     ensures { IfOk result (λ built. built ≡ rows records.now) }
@@ -62,25 +63,28 @@ fn rows_of_datapath(
     ensures { IfOk result (λ list. HaveSameRows list (datapath_rows records.now switch.now)) }
 {
     let mut made = MadeRows::new(alloc);
-    add_rows_of_switch(alloc, &mut made, records, switch)?;
-    add_rows_of_ports(alloc, &mut made, records, switch.id)?;
+    let unknown = add_rows_of_ports(alloc, &mut made, records, switch.id)?;
+    add_rows_of_switch(alloc, &mut made, records, switch, unknown)?;
     made.into_rows().into_list()
 }
 
-// The rows of the ports of a switch come after the others.
+// The rows of the ports of a switch come after the others. Whether an enabled port has the address `unknown` is returned.
 fn add_rows_of_ports(
     alloc: Global,
     made: &mut MadeRows,
     records: &Records,
     switch: ObjId,
-) -> Result<(), OutOfMemory>
+) -> Result<bool, OutOfMemory>
     requires { IsSound records.now }
-    ensures { OnOk result (made.new ≡ made.old ++ flat_map (port_units records.now) (ports_on records.now switch)) }
+    ensures rows { OnOk result (made.new ≡ made.old ++ flat_map (port_units records.now) (ports_on records.now switch)) }
+    ensures unknown { IfOk result (λ unknown. unknown ≡ has_unknown records.now switch) }
 {
+    let mut unknown = false;
     let mut last = None;
     while let Some(port) = records.port_on(switch, last) {
         add_rows_of_port(alloc, made, records, port)?;
+        unknown |= is_for_unknown(port);
         last = Some(port.id);
     }
-    Ok(())
+    Ok(unknown)
 }

@@ -5,14 +5,14 @@ ghost use Rattle.nb_net.specs.Sound.{IsSound};
 ghost use Rattle.nb_table.specs.Table.{record_of};
 ghost use Rattle.net_meaning.specs.Applies.{is_empty, is_related};
 ghost use Rattle.net_meaning.specs.Switches.{takes_unknown};
-ghost use Rattle.net_rows.specs.Build.{has_unknown, peer_mac, port_l2_input, port_sec_input, switch_acl_input, switch_l2_input};
+ghost use Rattle.net_rows.specs.Build.{peer_mac, port_l2_input, port_sec_input, switch_acl_input};
 ghost use Rattle.nd_units.specs.inner.Made.{has_related, input_on};
 ghost use Rattle.nd_units.specs.inner.Owners.{AreOwners};
 
 use nb_core::{Acl, Addr, Port, Switch, Verdict};
 use nb_tables::Records;
-use net_rows::{AclOnInput, PortL2Input, PortSecInput, SwitchAclInput, SwitchL2Input};
-use nv_base::{Kept, Mac, ObjId, OutOfMemory};
+use net_rows::{AclOnInput, PortL2Input, PortSecInput, SwitchAclInput};
+use nv_base::{Kept, Mac, Name, ObjId, OutOfMemory};
 use std::alloc::Global;
 
 /// The input of the stages of ACLs of a switch to which the ACLs of these owners apply.
@@ -68,32 +68,8 @@ fn is_related(verdict: Verdict) -> bool
     matches!(verdict, Verdict::AllowRelated)
 }
 
-/// The input of the look-up of a switch.
-pub(crate) fn switch_l2_input(records: &Records, switch: ObjId) -> SwitchL2Input
-    requires { IsSound records.now }
-    ensures { result ≡ switch_l2_input records.now switch }
-{
-    SwitchL2Input {
-        unknown: has_unknown(records, switch),
-    }
-}
-
-// Whether an enabled port of the switch has the address `unknown`.
-fn has_unknown(records: &Records, switch: ObjId) -> bool
-    requires { IsSound records.now }
-    ensures { result ≡ has_unknown records.now switch }
-{
-    let mut last = None;
-    while let Some(port) = records.port_on(switch, last) {
-        if is_for_unknown(port) {
-            return true;
-        }
-        last = Some(port.id);
-    }
-    false
-}
-
-fn is_for_unknown(port: &Port) -> bool
+/// Whether a port is enabled and has the address `unknown`.
+pub(crate) fn is_for_unknown(port: &Port) -> bool
     ensures { result ≡ port.now.enabled && takes_unknown port.now }
 {
     port.enabled && takes_unknown(port)
@@ -120,19 +96,21 @@ pub(crate) fn port_sec_input(alloc: Global, port: &Port) -> Result<PortSecInput,
     })
 }
 
-/// The input of the look-up of a port.
+/// The input of the lookup of a port, of which the name is at hand.
 pub(crate) fn port_l2_input(
     alloc: Global,
     records: &Records,
     port: &Port,
+    name: Name,
 ) -> Result<PortL2Input, OutOfMemory>
     requires sound { IsSound records.now }
     requires there { record_of (λ x. x.id) port.now.id records.now.ports ≡ Some port.now }
+    requires name { name ≡ port.now.name }
     ensures { IfOk result (λ input. input ≡ port_l2_input records.now port.now) }
 {
     Ok(PortL2Input {
         dp: port.switch,
-        name: port.name.copy(alloc)?,
+        name,
         enabled: port.enabled,
         kind: port.kind,
         addresses: port.addresses.copy(alloc)?,

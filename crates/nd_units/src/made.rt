@@ -138,7 +138,7 @@ impl MadeRows {
         self.rows.append(rows)
     }
 
-    /// The rows of the look-up of a port come after the others.
+    /// The rows of the lookup of a port come after the others.
     pub(crate) fn add_port_l2(
         &mut self,
         alloc: Global,

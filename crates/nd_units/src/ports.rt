@@ -24,7 +24,7 @@ pub(crate) fn add_rows_of_port(
 {
     let security = port_sec_input(alloc, port)?;
     made.add_port_sec(alloc, port.id, &security)?;
-    let lookup = port_l2_input(alloc, records, port)?;
+    let lookup = port_l2_input(alloc, records, port, security.name)?;
     made.add_port_l2(alloc, port.id, &lookup)?;
     Ok(())
 }

@@ -100,6 +100,6 @@ fn command<'a>(alloc: Global) -> Result<Command<'a>, AllocError>
         .help("How many hops a traced packet may take, from 1 to 64 [default: 16]");
     Command::new(alloc, "ovn_nd")
         .version("0.1.0")
-        .about("Compiles an OVN northbound database to logical flows")
+        .about("Answers a script of OVN commands: edits, listings of flows, traces and dumps")
         .arg(hops)
 }

@@ -21,9 +21,7 @@ use Rattle.nb_plain.specs.Plain.{IsBuilt, IsPlain}
 use Rattle.nb_plain.proofs.Plain.{edited_plain, empty_plain}
 use Rattle.net_meaning.proofs.Stateless as plain_networks
 use Rattle.tr_net.specs.Refined.{IsRefined}
-use Rattle.tr_net.proofs.Pipelines.{of_ingress, of_egress, of_late}
-use Rattle.tr_net.proofs.Refinement.{refined}
-use Rattle.tr_net.proofs.StageLaws.{stage_laws}
+use Rattle.tr_net.proofs.Refinement.{stateless_refined}
 use Rattle.nv_serve.specs.Reply.{reply, session_after}
 use Rattle.nv_serve.specs.Session.{Session, new_session}
 use Rattle.nv_serve.proofs.Keeping.{reply_keeps}
@@ -144,9 +142,7 @@ plain_after hops lines = lines_plain (new_session hops) lines empty_plain
 
 -- the rows of a sound plain network do what the network does
 pub plain_refined : (net : Network) → IsSound net → IsPlain net → IsRefined net
-plain_refined net sound plain =
-    let stateless = plain_networks.stateless net plain in
-    refined net sound stateless (of_ingress stage_laws net sound stateless) (of_egress stage_laws net sound stateless) (of_late stage_laws net sound stateless)
+plain_refined net sound plain = stateless_refined net sound (plain_networks.stateless net plain)
 
 -- and so do those of each network that lines leave
 pub each_refined : (hops : ℕ) (lines : List (List ℕ)) → 1 + sum_by length lines < 4294967294 → IsRefined (session_after (new_session hops) lines).network

@@ -123,7 +123,7 @@ impl Session {
         Ok(())
     }
 
-    // The rows, made anew where the network has changed. They are kept no more.
+    // The rows, made anew where the network has changed. They are no longer kept.
     fn take_rows(&mut self, alloc: Global) -> Result<Rows, OutOfMemory>
         ensures rows { IfOk result (λ rows. AreRowsOf rows self.old.network) }
         ensures same { self.new ≡ self.old }

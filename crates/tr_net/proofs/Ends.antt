@@ -63,11 +63,11 @@ abbrev AreRun : Lookup → List Rule → Type 0
 AreRun known rules = AllByRecursion (IsRun known) rules
 
 -- what holds of each piece holds of all
-every_piece : {X Y : Type 0} (P : Y → Type 0) (f : X → List Y) (xs : List X) → ((x : X) → Contains xs x → AllByRecursion P (f x)) → AllByRecursion P (flat_map f xs)
+pub every_piece : {X Y : Type 0} (P : Y → Type 0) (f : X → List Y) (xs : List X) → ((x : X) → Contains xs x → AllByRecursion P (f x)) → AllByRecursion P (flat_map f xs)
 every_piece P f [] each = tt
 every_piece P f (x ∷ xs) each = every_append P (f x) (flat_map f xs) (each x (one_first x xs x refl)) (every_piece P f xs (λ y at. each y (one_later x xs y at)))
 
-every_image : {X Y : Type 0} (P : Y → Type 0) (f : X → Y) (xs : List X) → ((x : X) → P (f x)) → AllByRecursion P (map f xs)
+pub every_image : {X Y : Type 0} (P : Y → Type 0) (f : X → Y) (xs : List X) → ((x : X) → P (f x)) → AllByRecursion P (map f xs)
 every_image P f [] each = tt
 every_image P f (x ∷ xs) each = (each x, every_image P f xs each)
 

@@ -1,6 +1,7 @@
 pub mod Carried
 pub mod Congruence
 pub mod Ends
+pub mod Finds
 pub mod Formed
 pub mod Hits
 pub mod Kept

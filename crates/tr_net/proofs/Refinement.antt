@@ -17,6 +17,8 @@ use Rattle.tr_stage.specs.declared.outcome.Hit.{Hit}
 use Rattle.tr_net.specs.Machine.{ingress, egress, pipelines}
 use Rattle.tr_net.specs.Refined.{IsIngress, IsEgress, IsLate, IsRefined}
 use Rattle.tr_net.proofs.Congruence.{IsPort, IsKept, SamePart, SameParts, walks_alike}
+use Rattle.tr_net.proofs.Pipelines as pipes
+use Rattle.tr_net.proofs.StageLaws.{stage_laws}
 use Rattle.tr_net.proofs.Kept.{arriving_kept, leaving_kept, let_out_kept, at_its_number, are_packets}
 
 module _ (net : Network) (sound : IsSound net) (stateless : IsStateless net) where
@@ -60,3 +62,7 @@ module _ (net : Network) (sound : IsSound net) (stateless : IsStateless net) whe
     pub refined : IsRefined net
     refined hops arrival packet state there formed =
         walks_alike net (pipelines net) (direct_parts net) same_parts (are_packets net sound stateless) hops arrival.id packet state (record { port = arrival; among = there; is = refl }) formed
+
+-- so it is of each sound network without connections
+pub stateless_refined : (net : Network) → IsSound net → IsStateless net → IsRefined net
+stateless_refined net sound stateless = refined net sound stateless (pipes.of_ingress stage_laws net sound stateless) (pipes.of_egress stage_laws net sound stateless) (pipes.of_late stage_laws net sound stateless)

@@ -5,6 +5,7 @@ ghost use Rattle.net_meaning.specs.Stateless.{IsStateless};
 ghost use Rattle.net_meaning.specs.Walk.{Told, events};
 ghost use Rattle.tr_stage.specs.declared.outcome.Hit.{Hit};
 ghost use Rattle.tr_net.specs.Events.{event_of, without_hits};
+ghost use Rattle.tr_net.specs.Reads.{FindWhatTheyRead};
 ghost use Rattle.tr_net.specs.Refined.{IsIngress, IsEgress, IsLate, IsRefined};
 ghost use Rattle.tr_net.specs.Runnable.{AreRunnable};
 
@@ -24,6 +25,11 @@ pub fn stateless_networks_are_refined()
 /// In the rows of each sound network without connections each packet comes to an end, on each of its switches.
 pub fn rows_of_stateless_networks_are_runnable()
     ensures { (net : Network) → IsSound net → IsStateless net → AreRunnable net }
+{}
+
+/// In the rows of each sound network without connections no action reads a field that the packet does not have.
+pub fn rows_find_what_they_read()
+    ensures { (net : Network) → IsSound net → IsStateless net → FindWhatTheyRead net }
 {}
 
 /// The events of a walk by rows, hits left out, are what happens in it.

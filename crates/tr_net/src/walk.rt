@@ -8,11 +8,13 @@ ghost use Rattle.sb_model.specs.declared.stage.Pipeline.TheVariants as pipelines
 ghost use Rattle.nb_net.specs.Network.{same};
 ghost use Rattle.nb_net.specs.Sound.{IsSound};
 ghost use Rattle.net_meaning.specs.Places.{datapath_at};
+ghost use Rattle.net_meaning.specs.Stateless.{IsStateless};
 ghost use Rattle.net_meaning.specs.Walk.{carried, told_of};
 ghost use Rattle.net_meaning.specs.Walk.Target.{Ports};
 ghost use Rattle.net_rows.specs.Build as build;
 ghost use Rattle.tr_net.specs.Events.{event_of};
 ghost use Rattle.tr_net.specs.Machine.{State, machine, numbered, target_of};
+ghost use Rattle.tr_net.specs.Refined.{IsRefined};
 ghost use Rattle.tr_net.specs.Runnable.{AreRunnable};
 ghost use Rattle.tr_net.specs.inner.Telling.{AreRowsOf, table_for, entering, arriving, sending, leaving, going_out, delivering, answering};
 
@@ -37,7 +39,8 @@ const FEW: usize = 32;
 
 /// What is told of a packet that comes in by a port and may take so many hops: a hit for each row that acts, and what becomes of the
 /// packet and of its copies and answers, each to its end before the next (ovn-trace(8)). The network is sound, and the rows are its own,
-/// such that each packet comes to an end in them. `OutOfMemory` comes only where memory ran out.
+/// such that each packet comes to an end in them. Where memory runs out the answer is `OutOfMemory`.
+#[tactic(auto, using(crate::proofs::Refinement::stateless_refined))]
 pub fn trace(
     alloc: Global,
     rows: &Rows,
@@ -50,6 +53,7 @@ pub fn trace(
     requires rows { rows.now ≡ build.rows records.now }
     requires run { AreRunnable records.now }
     ensures events { IfOk result (λ events. events.items ≡ map event_of (machine {S = State} records.now hops port packet.now tt).told) }
+    ensures refinement { OnOk result (IsStateless records.now → IsRefined records.now) }
 {
     let mut events = Vec::with_capacity(alloc, FEW)?;
     let flows = Flows {

@@ -24,9 +24,9 @@ fn put_quoted(out: &mut Vec<u8>, name: &[u8]) -> Result<(), OutOfMemory>
     ensures ok { OnOk result (out.new.items ≡ out.old.items ++ item_text (Text name.now)) }
     ensures err { OnErr result (GrowsAtEnd out.old.items out.new.items) }
 {
-    out.extend_from_slice(b"\"")?;
+    out.push(b'"')?;
     out.extend_from_slice(name)?;
-    out.extend_from_slice(b"\"")?;
+    out.push(b'"')?;
     Ok(())
 }
 
@@ -103,9 +103,7 @@ pub(super) fn put_relation(out: &mut Vec<u8>, rel: Rel, right: &Right) -> Result
     ensures ok { OnOk result (out.new.items ≡ out.old.items ++ relation_text rel right.now) }
     ensures err { OnErr result (GrowsAtEnd out.old.items out.new.items) }
 {
-    out.extend_from_slice(b" ")?;
     out.extend_from_slice(rel_text(rel).as_bytes())?;
-    out.extend_from_slice(b" ")?;
     put_right(out, right)?;
     Ok(())
 }

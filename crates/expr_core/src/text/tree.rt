@@ -3,7 +3,6 @@ ghost use Rattle.nv_base.specs.Growth.{GrowsAtEnd};
 ghost use Rattle.expr_core.specs.Formula.{formulas};
 ghost use Rattle.expr_core.specs.Text.{needs_parentheses, is_joined, enclosed, formula_text, operands_text};
 
-use super::{closing, opening};
 use crate::{Node, Tree, TreeAtom};
 use nv_base::OutOfMemory;
 
@@ -37,9 +36,13 @@ fn put_enclosed<A: TreeAtom>(
     ensures err { OnErr result (GrowsAtEnd out.old.items out.new.items) }
 {
     out.extend_from_slice(front)?;
-    out.extend_from_slice(opening(parentheses).as_bytes())?;
-    put_tree(out, operand)?;
-    out.extend_from_slice(closing(parentheses).as_bytes())?;
+    if parentheses {
+        out.push(b'(')?;
+        put_tree(out, operand)?;
+        out.push(b')')?;
+    } else {
+        put_tree(out, operand)?;
+    }
     Ok(())
 }
 

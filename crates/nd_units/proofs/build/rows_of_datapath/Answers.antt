@@ -1,4 +1,4 @@
-use Rattle.std.proofs.Common.{◌≡◌, [], ◌∙◌}
+use Rattle.std.proofs.Common.{◌≡◌, [], ap, ◌∙◌}
 use Rattle.std.proofs.lemmas.Result.{IfOk-weaker}
 use Rattle.sb_rows.specs.Row.{put_rows}
 use Rattle.nd_units.specs.inner.Made.{datapath_rows}
@@ -9,4 +9,4 @@ use Rattle.nd_units.proofs.build.rows_of_datapath.Goals as goal
 pub returns : goal.returns
 returns c =
     IfOk-weaker c.into_list.result (λ list. list ≡ put_rows [] c.into_rows.result) (λ list. HaveSameRows list (datapath_rows c.args.records.now c.args.switch.now))
-    (λ list is. made_of_datapath c.args.records.now c.args.switch.now _ _ _ c.new-made.ensures c.in_ok-add_rows_of_switch.ensures (c.into_rows.ensures ∙ c.in_ok-add_rows_of_ports.ensures) list is) c.into_list.ensures
+    (λ list is. made_of_datapath c.args.records.now c.args.switch.now _ _ _ c.new-made.ensures c.in_ok-unknown.ensures.rows c.in_ok-add_rows_of_switch.ensures list (is ∙ ap (put_rows []) c.into_rows.ensures)) c.into_list.ensures

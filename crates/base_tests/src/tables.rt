@@ -137,7 +137,7 @@ fn has_rows(table: &Table<Port>, rows: &Rows) -> bool {
         && table.weights() == (size, count as u128)
 }
 
-// Whether each look-up answers as the rows do.
+// Whether each lookup answers as the rows do.
 fn agrees(table: &Table<Port>, rows: &Rows, names: &[Name]) -> bool {
     for (place, name) in names.iter().enumerate() {
         if place < 3 && !has_tagged(table, TagRef::Named(name), rows, Wanted::Named(place as u8)) {

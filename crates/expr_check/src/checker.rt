@@ -100,8 +100,8 @@ fn check_all(alloc: Global, operands: &[Expr], role: Role) -> Result<Vec<Typed>,
 }
 
 /// The match with fields and predicates in place of names, or the first fault from the left: of one part, first that
-/// its name is unknown, then that it may not be asked for in this role, then a width, then a form. It is the last
-/// only where there was no memory.
+/// its name is unknown, then that it may not be asked for in this role, then a width, then a form. After `Memory`
+/// nothing is said of the match.
 #[cycle(check)]
 pub fn check(alloc: Global, expr: &Expr, role: Role) -> Result<Typed, TypeFault>
     ensures typed { IfOk result (λ t. checked role expr.now ≡ Ok t) }

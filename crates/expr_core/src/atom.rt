@@ -10,7 +10,7 @@ pub trait TreeAtom: Sized {
     /// How they are written, and which are comparisons.
     ghost writing: { Writing Self };
 
-    /// The same atom.
+    /// The same atom. Where memory runs out the answer is `OutOfMemory`.
     fn copy_atom(&self, alloc: Global) -> Result<Self, OutOfMemory>
         ensures { IfOk result (λ copied. copied ≡ self.now) };
 

@@ -26,7 +26,7 @@ pub struct Part {
 }
 
 impl Part {
-    /// The same part, at the same offset.
+    /// The same part, at the same offset. Where memory runs out the answer is `OutOfMemory`.
     pub fn copy(&self, alloc: Global) -> Result<Self, OutOfMemory>
         ensures { IfOk result (λ copied. copied ≡ self.now) }
     {

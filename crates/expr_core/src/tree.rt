@@ -64,7 +64,7 @@ impl<A> Tree<A> {
         }
     }
 
-    /// The negation of a formula.
+    /// The negation of a formula. Where memory runs out the answer is `OutOfMemory`.
     pub fn negation(alloc: Global, operand: Tree<A>) -> Result<Self, OutOfMemory>
     where
         A: Drop,
@@ -97,7 +97,7 @@ impl<A> Tree<A> {
 }
 
 impl<A: TreeAtom + Drop> Tree<A> {
-    /// The same formula.
+    /// The same formula. Where memory runs out the answer is `OutOfMemory`.
     pub fn copy(&self, alloc: Global) -> Result<Self, OutOfMemory>
         ensures { IfOk result (λ copied. copied ≡ self.now) }
     {

@@ -19,7 +19,8 @@ pub trait Maker {
     /// How many outputs were made. A count that stands at the last value of `u64` stays there.
     ghost made: { Self → ℕ };
 
-    /// Makes the output of a unit. The count rises by one exactly at `Ok`.
+    /// Makes the output of a unit. The count rises by one exactly at `Ok`. Where memory runs out the answer is
+    /// `OutOfMemory`.
     fn make(
         &mut self,
         alloc: Global,

@@ -1,4 +1,4 @@
-//! The rows of ARP replies and of the look-up of destinations, of switches and of their ports.
+//! The rows of ARP replies and of the lookup of destinations, of switches and of their ports.
 #![tactic(auto)]
 
 mod arp;

@@ -1,4 +1,4 @@
--- The rules of the addresses of a port: those of ARP replies, and those of the look-up.
+-- The rules of the addresses of a port: those of ARP replies, and those of the lookup.
 use Rattle.std.proofs.Common.{◌≡◌, ℕ, Bool, true, false, cond, List, [], ◌∷◌, ◌++◌, map, sym, ap, refl, ◌∙◌, subst, ◌⊎◌, inl, inr}
 use Rattle.std.specs.Prelude.{◌&&◌, not}
 use Rattle.std.specs.List.{Contains, flat_map, list_any}

@@ -30,7 +30,7 @@ same_times a b s positive = by (eqb a b) refl (eqb (a * s) (b * s)) refl
     by false e true f = absurd (false≢true (sym e ∙ eq-eqb a b (sym (mul-div_cancel a positive) ∙ ap (λ n. n / s) (eqb-true (a * s) (b * s) f) ∙ mul-div_cancel b positive)))
     by false e false f = refl
 
--- numbers of 32 bits agree in the bits of a prefix where they agree without the bits behind it
+-- numbers of 32 bits agree in the bits of a prefix where they agree without the bits after it
 prefix_tells : (n base k : ℕ) → n < 2 ^ 32 → base < 2 ^ 32 → k ≤ 32 → eqb (bit_and n (2 ^ 32 - 2 ^ k)) (bit_and base (2 ^ 32 - 2 ^ k)) ≡ eqb (n / 2 ^ k) (base / 2 ^ k)
 prefix_tells n base k n_fits base_fits within =
     ap (λ m. eqb m (bit_and base (2 ^ 32 - 2 ^ k))) (and_high_mask 32 k within n n_fits)

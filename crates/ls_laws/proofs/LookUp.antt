@@ -1,4 +1,4 @@
--- The look-up of destinations finds the port that the meaning finds, and sends what no port has to the ports for unknown addresses.
+-- The lookup of destinations finds the port that the meaning finds, and sends what no port has to the ports for unknown addresses.
 use Rattle.std.proofs.Common.{◌≡◌, ℕ, ◌<◌, Bool, true, false, cond, List, [], ◌∷◌, eqb, sym, ap, refl, ◌∙◌, subst, ◌⊎◌, inl, inr, lit<}
 use Rattle.std.specs.Prelude.{◌||◌, ◌&&◌, Option, Some, None}
 use Rattle.std.specs.Ordering.{is_gt}
@@ -46,7 +46,7 @@ use Rattle.ls_laws.proofs.Selected.{first_of_takers}
 use Rattle.ls_laws.proofs.Tables.{IsSwitchRule, IsPortRule, IsRule, table-gives}
 use Rattle.ls_laws.proofs.Takers.{lower_after, later_after, step_by}
 
--- ---- the look-up
+-- ---- the lookup
 
 -- the rules of a switch, the highest first
 abbrev many_rule : Rule
@@ -60,7 +60,7 @@ unfolding switch_acl_rules switch_l2_rules stage_place
 lookup_rules balances true = refl
 lookup_rules balances false = refl
 
--- the rules for the MACs of ports are of the look-up
+-- the rules for the MACs of ports are of the lookup
 abbrev is_lookup : Stage → Bool
 is_lookup LsInL2Lkup = true
 is_lookup _ = false

@@ -107,7 +107,7 @@ Answers =
     (if is_request packet && not (is_answering switch.id (value packet ArpTpa) port) then answered_for packet (answering net switch.id (value packet ArpTpa))
     else On LsInL2Lkup packet)
 
--- ---- the look-up
+-- ---- the lookup
 
 -- the numbers of the multicast groups
 abbrev pub flood_number : ℕ

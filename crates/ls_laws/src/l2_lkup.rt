@@ -1,4 +1,4 @@
-//! The look-up of destinations.
+//! The lookup of destinations.
 ghost use Rattle.ls_laws.specs.Steps.{LooksUp, FindsNone};
 
 /// What is for many leaves by the group of all ports, and what is for the MAC of an enabled port by that port, of several the one of

@@ -17,7 +17,7 @@ use Rattle.nb_net.proofs.Alike.{same_sym}
 use Rattle.nb_net.proofs.Lists.{same_is, among_left, among_right}
 use Rattle.nb_net.proofs.Totals.{total_cons}
 use Rattle.nb_table.specs.Table.{NumbersRise, record_of}
-use Rattle.nb_tables.proofs.GenericE1.{rises}
+use Rattle.nb_tables.proofs.PlacedRecords.{rises}
 use Rattle.nb_check.specs.inner.Limitless.{IsSoundButLimits}
 use Rattle.nb_check.specs.inner.Weights.{weight, acl_weight, on_switch, on_switches, on_groups, found_count, switch_count, has_port_on}
 use Rattle.nb_check.specs.declared.acl_limits.Measure.{Measure}

@@ -17,7 +17,7 @@ use Rattle.nb_net.proofs.Alike.{same_sym}
 use Rattle.nb_net.proofs.Apart.{with_number_apart}
 use Rattle.nb_net.proofs.RecordLists.{all_push}
 use Rattle.nb_table.specs.Table.{record_of, has_number}
-use Rattle.nb_tables.proofs.GenericE1.{rises}
+use Rattle.nb_tables.proofs.PlacedRecords.{rises}
 use Rattle.nb_check.specs.inner.Limitless.{IsSoundButLimits}
 use Rattle.nb_check.specs.inner.Weights.{switch_count, has_port_on}
 use Rattle.nb_check.proofs.Counted.{alone, any_or, any_same, any_of_number, holds_of, listed_count, among_last, among_with}

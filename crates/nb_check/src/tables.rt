@@ -60,8 +60,8 @@ impl Tables {
         &self.records
     }
 
-    /// Does what an edit asks for, where no test refuses it, and answers what undoes it (ovn-nbctl(8)). A refused edit changes nothing,
-    /// nor does one for which memory ran out.
+    /// Does what an edit asks for, where no test refuses it, and answers what undoes it; else it is refused as the first
+    /// test that fails says (ovn-nbctl(8)). A refused edit changes nothing, nor does one for which memory ran out.
     pub fn apply(&mut self, alloc: Global, edit: Edit) -> Result<Undo, LineFault>
         requires readable { IsReadable edit }
         requires room { self.old.next + 1 < 4294967294 }
@@ -83,8 +83,9 @@ impl Tables {
         self.known = Ceilings::unknown();
     }
 
-    /// Does what all edits of a line ask for, each of the network that those before it leave; where one is refused, none is done (not
-    /// from OVN: ovn-nbctl(8) runs the commands of one call as one transaction).
+    /// Does what all edits of a line ask for, each of the network that those before it leave; at the first that is
+    /// refused the line is refused as that one (not from OVN: ovn-nbctl(8) runs the commands of one call as one
+    /// transaction). Then, or where memory runs out, none is done.
     pub fn apply_all(&mut self, alloc: Global, edits: Items<Edit>) -> Result<(), LineFault>
         requires readable { AllByRecursion IsReadable edits }
         requires room { self.old.next + length edits < 4294967294 }

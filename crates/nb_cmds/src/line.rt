@@ -113,8 +113,9 @@ fn said(alloc: Global, commands: &[Command]) -> Result<Line, LineFault>
 }
 
 /// Reads a line of the script, without its newline: the commands of ovn-nbctl(8) with `--` between, or one query. It is
-/// refused as `read_commands` says, then command by command from the left: for a name that is not built, for an option that
-/// the command doesn't take, for a wrong number of words or a query beside another command (not from OVN), then for each word.
+/// refused as `read_commands` says, then command by command from the left: for a name that is not built, for an option
+/// that the command doesn't take, for a wrong number of words or a query beside another command (not from OVN), then for
+/// each word. Where memory runs out the answer is `Memory`.
 pub fn read_line(alloc: Global, line: &[u8]) -> Result<Line, LineFault>
     ensures read { IfOk result (λ said. read_line line.now ≡ Ok said) }
     ensures refused { IfErr result (λ fault. IsFaultOf (read_line line.now) fault) }

@@ -117,7 +117,7 @@ pub enum Refusal {
 }
 
 impl Kind {
-    /// The kind's name in a refusal.
+    /// The kind's name in a refusal (not from OVN).
     #[tactic(auto, unfolding(crate::specs::Refusal::kind_name))]
     pub fn name(self) -> &'static str
         ensures { result.now ≡ kind_name self }
@@ -148,7 +148,7 @@ impl Kind {
 }
 
 impl MatchRule {
-    /// The rule's name in a refusal.
+    /// The rule's name in a refusal (not from OVN).
     pub fn name(self) -> &'static str
         ensures { result.now ≡ match_rule_name self }
     {
@@ -162,7 +162,7 @@ impl MatchRule {
 }
 
 impl Refusal {
-    /// The code and the name of the refusal.
+    /// The code and the name of the refusal (not from OVN).
     #[tactic(auto, unfolding(crate::specs::Refusal::refusal_label))]
     pub fn label(&self) -> &'static str
         ensures { result.now ≡ refusal_label self.now }
@@ -189,8 +189,8 @@ impl Refusal {
         }
     }
 
-    /// Writes the line that tells the refusal: `refused`, its code and name, and what it is about. After `OutOfMemory`
-    /// what was there is still in front.
+    /// Writes the line that tells the refusal (not from OVN): `refused`, its code and name, and what it is about. After
+    /// `OutOfMemory` what was there is still in front.
     pub fn put_line(&self, out: &mut Vec<u8>) -> Result<(), OutOfMemory>
         ensures ok { OnOk result (out.new.items ≡ out.old.items ++ refusal_line self.now) }
         ensures err { OnErr result (take (vec_len out.old) out.new.items ≡ out.old.items) }

@@ -202,8 +202,9 @@ fn said(alloc: Global, first: u32, options: &[Word], words: &[Word]) -> Result<E
     }
 }
 
-/// Reads a command: the edit that it asks for. It is refused first where it has no name or the name is none, then for an
-/// option that it doesn't take, then for a wrong number of words or a keyword that is none, then for each word from the left.
+/// Reads a command (ovn-nbctl(8)): the edit that it asks for. It is refused first where it has no name or the name is
+/// none, then for an option that it doesn't take, then for a wrong number of words or a keyword that is none, then for
+/// each word from the left. Where memory runs out the answer is `Memory`.
 pub fn read_command(alloc: Global, command: &Command) -> Result<Edit, LineFault>
     requires { is_small command.now ≡ true }
     ensures read { IfOk result (λ edit. read_command command.now ≡ Ok edit) }
@@ -212,7 +213,8 @@ pub fn read_command(alloc: Global, command: &Command) -> Result<Edit, LineFault>
     read_words(alloc, command.first, command.words.as_slice())
 }
 
-/// Reads the command of these words, of which the first has this number in the line, as `read_command` does.
+/// Reads the command of these words (ovn-nbctl(8)), of which the first has this number in the line. It is refused where
+/// `read_command` refuses it, and for the same. Where memory runs out the answer is `Memory`.
 #[tactic(auto, using(crate::proofs::Short::drop_is_short, crate::proofs::Short::is_numbered, crate::proofs::Short::all_are_short))]
 pub fn read_words(alloc: Global, first: u32, words: &[Word]) -> Result<Edit, LineFault>
     requires { is_small (command first words.now) ≡ true }

@@ -12,8 +12,8 @@ use nb_words::{LineFault, Word};
 use nv_base::{Items, Name, is_object_name};
 use std::alloc::Global;
 
-/// The name of a port, a datapath or a load balancer, or `BadName` with the word's number (which names there may be is not
-/// from OVN).
+/// The name of a port, a datapath or a load balancer, or `BadName` with the word's number (which names there may be is
+/// not from OVN). Where memory runs out the answer is `Memory`.
 pub fn object_name(alloc: Global, number: u32, text: &[u8]) -> Result<Name, LineFault>
     ensures read { IfOk result (λ name. object_name number text.now ≡ Ok name) }
     ensures refused { IfErr result (λ fault. IsFaultOf (object_name number text.now) fault) }

@@ -6,7 +6,8 @@ ghost use Rattle.nb_edit.specs.Lists.{parts};
 use nv_base::OutOfMemory;
 use std::alloc::Global;
 
-/// The parts of a word between its separators, without the empty ones (ovn-nb(5), `addresses`, but for the carriage return).
+/// The parts of a word between its separators, without the empty ones (ovn-nb(5), `addresses`, but for the carriage
+/// return). Where memory runs out the answer is `OutOfMemory`.
 pub fn parts(alloc: Global, text: &[u8]) -> Result<Vec<&[u8]>, OutOfMemory>
     ensures { IfOk result (λ found. map (λ part. part.now) found.items ≡ parts text.now) }
 {

@@ -21,7 +21,8 @@ pub trait Record: Drop + Sized {
     fn number(&self) -> ObjId
         ensures { result ≡ number self.now };
 
-    /// Its tags. One may be there twice, and other records may have it too.
+    /// Its tags. One may be there twice, and other records may have it too. Where memory runs out the answer is
+    /// `OutOfMemory`.
     fn tags(&self, alloc: Global) -> Result<Items<Self::Tag>, OutOfMemory>
         ensures { IfOk result (λ list. list ≡ tags self.now) };
 

@@ -93,7 +93,8 @@ impl<R: Record> Table<R> {
         self.sums
     }
 
-    /// Puts a record in at its place. None of its number is there.
+    /// Puts a record in at its place, by number (not from OVN). None of its number is there. It takes no memory: the
+    /// record brings its room.
     pub fn put(&mut self, loose: Loose<R>)
         requires { record_of R.number (R.number loose) self.old ≡ None }
         ensures records { self.new ≡ with_record R.number loose self.old }

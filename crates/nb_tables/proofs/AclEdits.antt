@@ -23,9 +23,9 @@ use Rattle.nb_net.proofs.Alike.{same_names}
 use Rattle.nb_net.proofs.Numbered.{are_used}
 use Rattle.nb_table.specs.Table.{NumbersRise, is_after, with_exchanged, without_number}
 use Rattle.nb_tables.proofs.AclLikes.{one_way, filter_without_number}
-use Rattle.nb_tables.proofs.GenericE1.{new_last, none_without, rises}
-use Rattle.nb_tables.proofs.GenericE2.{alone_goes, none_goes}
-use Rattle.nb_tables.proofs.GenericE4.{acl_smaller}
+use Rattle.nb_tables.proofs.PlacedRecords.{new_last, none_without, rises}
+use Rattle.nb_tables.proofs.NewRecords.{alone_goes, none_goes}
+use Rattle.nb_tables.proofs.AclsThatGo.{acl_smaller}
 
 there_or_not : {X Y : Type 0} (f : X → Y) (o : Option X) → is_some o ≡ is_some (option_map f o)
 there_or_not f None = refl

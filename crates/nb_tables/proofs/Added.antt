@@ -20,7 +20,7 @@ use Rattle.nb_net.proofs.Lists.{all_parts}
 use Rattle.nb_net.proofs.Alike.{same_names}
 use Rattle.nb_net.proofs.RecordLists.{found_holds}
 use Rattle.nb_table.specs.Table.{with_exchanged, NumbersRise}
-use Rattle.nb_tables.proofs.GenericE1.{new_last, named_changed, none_changed, rises, apart_first}
+use Rattle.nb_tables.proofs.PlacedRecords.{new_last, named_changed, none_changed, rises, apart_first}
 
 -- ports whose parts are the same
 pub same_parts : {id owner : ObjId} {name own : List ℕ} {kind : PortKind} {r q : Option (List ℕ)} {a b : List Addr} {s t : List Guard} {on : Bool} → name ≡ own → r ≡ q → a ≡ b → s ≡ t

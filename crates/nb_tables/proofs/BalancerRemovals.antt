@@ -12,9 +12,9 @@ use Rattle.nb_net.specs.Effect.{each_where, where_there, without, without_lb, de
 use Rattle.nb_net.specs.Network.{Network, same, lb_named}
 use Rattle.nb_table.specs.Table.{NumbersRise, with_exchanged}
 use Rattle.nb_tables.specs.inner.Balancers.{vip_leaves}
-use Rattle.nb_tables.proofs.GenericE1.{placed, all_at, apart_numbers}
-use Rattle.nb_tables.proofs.GenericE2.{none_goes}
-use Rattle.nb_tables.proofs.GenericE3.{Listing}
+use Rattle.nb_tables.proofs.PlacedRecords.{placed, all_at, apart_numbers}
+use Rattle.nb_tables.proofs.NewRecords.{none_goes}
+use Rattle.nb_tables.proofs.ListedNumbers.{Listing}
 use Rattle.nb_tables.proofs.Removed.{map_same}
 use Rattle.nb_tables.proofs.RouterRemovals.{IsList}
 

@@ -12,7 +12,7 @@ use Rattle.nb_net.specs.Effect.{effect, without, without_ports}
 use Rattle.nb_net.specs.Network.{Network, port_id, port_named, switch_id}
 use Rattle.nb_net.specs.Sound.{IsSound}
 use Rattle.nb_tables.specs.inner.Leaving.{without_switch}
-use Rattle.nb_tables.proofs.GenericE1.{rises, apart_first}
+use Rattle.nb_tables.proofs.PlacedRecords.{rises, apart_first}
 use Rattle.nb_tables.proofs.Removed.{less_port, named_gone, none_gone, all_stay}
 
 module _ (net : Network) (sound : IsSound net) where

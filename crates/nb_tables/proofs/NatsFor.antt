@@ -16,7 +16,7 @@ use Rattle.nb_net.proofs.RecordLists.{found_holds}
 use Rattle.nb_table.specs.Table.{NumbersRise, without_number, is_after}
 use Rattle.nb_tables.specs.inner.Routers.{is_nat_for}
 use Rattle.nb_tables.proofs.OneByOne.{passed, to_see, seen_done, seen_rise, seen_same, seen_smaller, all_seen}
-use Rattle.nb_tables.proofs.GenericE2.{none_goes}
+use Rattle.nb_tables.proofs.NewRecords.{none_goes}
 use Rattle.nb_tables.proofs.RouterRemovals.{of_nats}
 
 module _ (router : ObjId) (kind : Option NatKind) (at : Option Block) (after : Option ObjId) (net : Network) where

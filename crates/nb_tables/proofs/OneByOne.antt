@@ -12,8 +12,8 @@ use Rattle.nb_net.specs.Network.{Network}
 use Rattle.nb_net.proofs.RecordLists.{all_append, none_found, found_holds}
 use Rattle.nb_table.specs.Table.{NumbersRise, without_number, is_after}
 use Rattle.nb_table.proofs.Undone.{rise_without}
-use Rattle.nb_tables.proofs.GenericE1.{IsPlaced, placed, none_of, none_without}
-use Rattle.nb_tables.proofs.GenericE2.{passing_goes, without_both}
+use Rattle.nb_tables.proofs.PlacedRecords.{IsPlaced, placed, none_of, none_without}
+use Rattle.nb_tables.proofs.NewRecords.{passing_goes, without_both}
 use Rattle.nb_tables.proofs.RouterRemovals.{IsList}
 
 both_all : {X : Type 0} (f g h : X → Bool) (xs : List X) → ((x : X) → IsTrue (f x) → IsTrue (g x) → IsTrue (h x)) → IsTrue (list_all f xs) → IsTrue (list_all g xs) → IsTrue (list_all h xs)

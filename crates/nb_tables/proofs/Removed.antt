@@ -20,7 +20,7 @@ use Rattle.nb_net.proofs.RecordLists.{found_holds}
 use Rattle.nb_table.specs.Table.{NumbersRise, with_exchanged, without_number}
 use Rattle.nb_table.proofs.Undone.{rise_exchanged, rise_without}
 use Rattle.nb_tables.specs.inner.Leaving.{leave, leaving}
-use Rattle.nb_tables.proofs.GenericE1.{IsPlaced, placed, none_without, named_once}
+use Rattle.nb_tables.proofs.PlacedRecords.{IsPlaced, placed, none_without, named_once}
 
 -- Filters, one after another.
 

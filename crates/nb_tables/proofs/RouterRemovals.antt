@@ -23,8 +23,8 @@ use Rattle.nb_net.proofs.RecordLists.{found_holds}
 use Rattle.nb_table.specs.Table.{NumbersRise, without_number}
 use Rattle.nb_table.proofs.Undone.{rise_without}
 use Rattle.nb_tables.specs.inner.Routers.{less_router_port, less_router}
-use Rattle.nb_tables.proofs.GenericE1.{placed, none_without, named_once, rises}
-use Rattle.nb_tables.proofs.GenericE2.{passing_goes, none_goes, apart_last}
+use Rattle.nb_tables.proofs.PlacedRecords.{placed, none_without, named_once, rises}
+use Rattle.nb_tables.proofs.NewRecords.{passing_goes, none_goes, apart_last}
 
 -- Filters, one after another.
 

@@ -20,9 +20,10 @@ pub struct Command {
     pub words: Items<Word>,
 }
 
-/// The commands of a line, without its newline: none where it is blank or a comment. Each `--` without quotes separates two
-/// commands. A line of more than 65,536 bytes is refused as too long, then one that is not UTF-8, then one with an open
-/// quote. The numbers of the words, and the places of their bytes, have 32 bits.
+/// The commands of a line, without its newline: none where it is blank or a comment. Each `--` without quotes separates
+/// two commands. A line of more than 65,536 bytes is refused as too long, then one that is not UTF-8, then one with an
+/// open quote. Where memory runs out the answer is `Memory`. The numbers of the words, and the places of their bytes,
+/// have 32 bits.
 #[tactic(auto, using(crate::proofs::Counts::no_more_words, crate::proofs::Small::commands_are_small))]
 pub fn read_commands(alloc: Global, line: &[u8]) -> Result<Items<Command>, LineFault>
     ensures read { IfOk result (λ commands. read_commands line.now ≡ Ok commands) }

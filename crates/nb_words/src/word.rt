@@ -22,8 +22,9 @@ struct Front<'l> {
     rest: &'l [u8],
 }
 
-/// The words of a line: None exactly where a quote is open at its end. A word is made of bytes as they stand and of parts in
-/// single or double quotes (as a shell reads the words of ovn-nbctl(8), without its escapes).
+/// The words of a line: None exactly where a quote is open at its end. A word is made of bytes as they stand and of parts
+/// in single or double quotes (as a shell reads the words of ovn-nbctl(8), without its escapes). Where memory runs out
+/// the answer is `OutOfMemory`.
 pub fn words_of(alloc: Global, line: &[u8]) -> Result<Option<Items<Word>>, OutOfMemory>
     ensures { IfOk result (λ words. words ≡ words_of line.now) }
 {

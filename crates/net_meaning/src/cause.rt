@@ -17,7 +17,7 @@ pub enum Cause {
 }
 
 impl Cause {
-    /// The name, as a trace gives it.
+    /// The name, as a trace gives it (not from OVN).
     pub fn name(self) -> &'static str
         ensures { result.now ≡ cause_name self }
     {

@@ -160,7 +160,7 @@ port_sec_apart input is others =
     let not_at = every_member (IsNotAt 100) guarded s (not_at_100 input.name input.security) in_guarded in
     by_priority r s (λ same. not_at.1 (sym same ∙ at.1)))
 
--- the stages of port security are not those of the look-up
+-- the stages of port security are not those of the lookup
 pub port_sec_stages : (input : PortSecInput) → AllByRecursion IsOfSecurity (port_sec_rules input)
 unfolding port_sec_rules
 port_sec_stages input =

@@ -1,4 +1,4 @@
--- No two rules of the look-up of a port agree in stage, priority and match.
+-- No two rules of the lookup of a port agree in stage, priority and match.
 use Rattle.std.proofs.Common.{◌≡◌, ◌≢◌, ℕ, ◌<◌, ◌^◌, Bool, true, false, ◌==◌, ◌&&◌, List, [], ◌∷◌, ◌++◌, map, Option, Some, None, ◌⊎◌, inl, inr, refl, sym, ◌∙◌, arith}
 use Rattle.std.specs.Prelude.{if◌then◌else◌}
 use Rattle.std.specs.Bool.{IsTrue}
@@ -146,7 +146,7 @@ looked_up_apart input others = by (is_router_kind input.kind && list_any is_rout
     by true = more_apart input.peer_mac (flat_map macs_of input.addresses) others
     by false = no_more (flat_map macs_of input.addresses) others
 
--- ---- the rules of the look-up
+-- ---- the rules of the lookup
 
 lookups_apart : (name : List ℕ) (macs : List ℕ) → AllByRecursion (λ (mac : ℕ). mac < 2 ^ 48) macs → OfPairs OtherMacs macs → OfPairs RulesDiffer (map (lookup_rule name) macs)
 lookups_apart name macs low others =
@@ -154,7 +154,7 @@ lookups_apart name macs low others =
     (pairs_weaker (λ (mac : ℕ). mac < 2 ^ 48) OtherMacs (λ m n. RulesDiffer (lookup_rule name m) (lookup_rule name n)) macs
     (λ m n low_m low_n other. by_number compared (lookup_rule name m) (lookup_rule name n) (lookup_printable name m low_m) (lookup_printable name n low_n) other) low others)
 
--- a rule of the look-up
+-- a rule of the lookup
 abbrev IsLookup : Rule → Type 0
 IsLookup r = (is_arp r.stage ≡ false) × IsLater r
 

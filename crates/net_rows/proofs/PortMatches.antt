@@ -141,7 +141,7 @@ port_sec_printable input is =
     every_append HasPrintable (disabled_rules input.enabled input.name) (guarded_rules input.name input.security) (disabled_printable input.name is.named input.enabled)
     (guarded_printable input.name is.named input.security is.guards)
 
--- the look-up: a name, MACs and addresses
+-- the lookup: a name, MACs and addresses
 pub record IsL2Input (input : PortL2Input) : Type 0 where
   pub named : IsTrue (is_object_name input.name)
   pub macs : AllByRecursion (λ (mac : ℕ). mac < 2 ^ 48) (flat_map macs_of input.addresses)
@@ -162,7 +162,7 @@ arp_printable_of name (addr.Host mac ips) named all =
 arp_printable_of name addr.Unknown named all = tt
 arp_printable_of name addr.Router named all = tt
 
--- ---- the rules of the look-up
+-- ---- the rules of the lookup
 
 pub lookup_printable : (name : List ℕ) (mac : ℕ) → mac < 2 ^ 48 → HasPrintable (lookup_rule name mac)
 lookup_printable name mac low = leaf_printable _ (to_mac mac low)

@@ -23,7 +23,7 @@ abbrev pub is_arp : Stage → Bool
 is_arp LsInArpRsp = true
 is_arp other = false
 
--- ARP replies and the look-up
+-- ARP replies and the lookup
 abbrev pub is_later : Stage → Bool
 is_later LsInArpRsp = true
 is_later LsInL2Lkup = true

@@ -1,4 +1,4 @@
--- The rows of ARP replies and of the look-up of destinations (ovn-northd(8), 'Ingress Table: ARP/ND responder' and 'Destination
+-- The rows of ARP replies and of the lookup of destinations (ovn-northd(8), 'Ingress Table: ARP/ND responder' and 'Destination
 -- Lookup').
 use Rattle.std.specs.Prelude.{ℕ, Bool, ◌&&◌, ◌==◌, if◌then◌else◌, List, [], ◌∷◌, ◌++◌, map, Option, Some, None}
 use Rattle.std.specs.List.{flat_map, list_any}

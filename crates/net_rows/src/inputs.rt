@@ -33,14 +33,14 @@ pub struct AclOnInput {
     pub tracks: bool,
 }
 
-/// The look-up of a switch. The key is the switch.
+/// The lookup of a switch. The key is the switch.
 #[derive(Clone, Copy, Debug, PartialEq, Eq)]
 pub struct SwitchL2Input {
     /// Whether an enabled port of it has the address `unknown`.
     pub unknown: bool,
 }
 
-/// The look-up of a switch port. The key is the port.
+/// The lookup of a switch port. The key is the port.
 #[derive(Drop, PartialEq, Eq)]
 pub struct PortL2Input {
     /// The number of its switch.

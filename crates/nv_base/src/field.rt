@@ -62,7 +62,7 @@ pub enum Field {
     QuoteDst,
     /// The destination port of that packet.
     QuoteDport,
-    /// What the last look-up among the connections found.
+    /// What the last lookup among the connections found.
     CtState,
     /// 1 where the connection that it found is blocked.
     CtMarkBlocked,

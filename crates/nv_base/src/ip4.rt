@@ -11,7 +11,8 @@ use crate::{BadText, OutOfMemory};
 #[derive(Clone, Copy, Debug, PartialEq, Eq, PartialOrd, Ord, Hash)]
 pub struct Ip4(pub u32);
 
-/// Reads four decimals 0 to 255 without leading zeros, joined by `.`.
+/// Reads an IPv4 address (RFC 791): four decimals 0 to 255 without leading zeros, joined by `.`. `BadText` exactly where
+/// the text is none.
 pub fn read_ip4(text: &[u8]) -> Result<Ip4, BadText>
     ensures { result ≡ ok_or (ip4_of text.now) bad_text }
 {

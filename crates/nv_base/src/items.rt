@@ -28,7 +28,7 @@ impl<T> Items<T> {
         }
     }
 
-    /// The empty list, with room for so many items.
+    /// The empty list, with room for so many items. Where memory runs out the answer is `OutOfMemory`.
     pub fn with_capacity(alloc: Global, count: usize) -> Result<Self, OutOfMemory>
         ensures { IfOk result (λ list. list ≡ []) }
     {

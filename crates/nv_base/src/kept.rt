@@ -6,7 +6,7 @@ use std::alloc::Global;
 
 /// A value that can be copied whole, and whose `==` is equality.
 pub trait Kept: Sized + Eq {
-    /// An equal value.
+    /// An equal value. Where memory runs out the answer is `OutOfMemory`.
     fn copy(&self, alloc: Global) -> Result<Self, OutOfMemory>
         ensures { IfOk result (λ copied. copied ≡ self.now) };
 

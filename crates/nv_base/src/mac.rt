@@ -25,7 +25,8 @@ impl Model for Mac {
     ghost inverse = { λ n. record { 0 = n } };
 }
 
-/// Reads six pairs of hexadecimal digits of either case, joined by `:`.
+/// Reads a MAC (ovn-nb(5), `addresses`): six pairs of hexadecimal digits of either case, joined by `:`. `BadText` exactly
+/// where the text is none.
 pub fn read_mac(text: &[u8]) -> Result<Mac, BadText>
     ensures { result ≡ ok_or (mac_of text.now) bad_text }
 {

@@ -18,7 +18,7 @@ impl Model for Name {
 }
 
 impl Name {
-    /// The name that these bytes spell.
+    /// The name that these bytes spell. Where memory runs out the answer is `OutOfMemory`.
     pub fn from_slice(alloc: Global, bytes: &[u8]) -> Result<Self, OutOfMemory>
         ensures { IfOk result (λ name. name ≡ bytes.now) }
     {

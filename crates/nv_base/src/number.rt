@@ -72,7 +72,8 @@ fn number_of(text: &[u8]) -> Option<u128>
     }
 }
 
-/// Reads a decimal without leading zeros and below 2^128, or `0x` and 1 to 32 hexadecimal digits of either case.
+/// Reads a number: a decimal without leading zeros and below 2^128, or `0x` and 1 to 32 hexadecimal digits of either case
+/// (after the constants of ovn-sb(5), 'Logical_Flow TABLE', match). `BadText` exactly where the text is none.
 pub fn read_number(text: &[u8]) -> Result<u128, BadText>
     ensures { result ≡ ok_or (number_of text.now) bad_text }
 {

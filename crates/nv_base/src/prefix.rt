@@ -43,7 +43,8 @@ fn with_length(base: Ip4, text: &[u8]) -> Result<Prefix, BadText>
     }
 }
 
-/// Reads an address, alone (then the length is 32) or before `/` and a decimal 0 to 32 without leading zeros.
+/// Reads a prefix (RFC 4632): an address, alone (then the length is 32) or before `/` and a decimal 0 to 32 without
+/// leading zeros. `BadText` exactly where the text is none.
 pub fn read_prefix(text: &[u8]) -> Result<Prefix, BadText>
     ensures { result ≡ ok_or (prefix_of text.now) bad_text }
 {

@@ -19,7 +19,8 @@ pub trait Sink {
     /// What a put may do: the sink before, the bytes offered, the answer, and the sink after.
     ghost put_gives: { Self → List ℕ → Result ℕ SinkFailed → Self → Type 0 };
 
-    /// Takes bytes from the front of `bytes`, at least one, and answers how many.
+    /// Takes bytes from the front of `bytes`, at least one, and answers how many. At `SinkFailed` it took none, and
+    /// counts a fault.
     fn put(&mut self, bytes: &[u8]) -> Result<usize, SinkFailed>
         requires { 0 < length bytes.now }
         ensures step { put_gives self.old bytes.now result self.new }

@@ -19,7 +19,8 @@ pub trait Source {
     /// What a take may do: the source before, what `into` then holds, the answer, and the source after.
     ghost take_gives: { Self → List ℕ → Result ℕ SourceFailed → Self → Type 0 };
 
-    /// Writes the next bytes to the front of `into`, and answers how many. It answers 0 only at the end.
+    /// Writes the next bytes to the front of `into`, and answers how many. It answers 0 only at the end. At
+    /// `SourceFailed` the bytes still to come are as before, and it counts a fault.
     fn take(&mut self, into: &mut [u8]) -> Result<usize, SourceFailed>
         requires { 0 < length into.old }
         ensures step { take_gives self.old into.new result self.new }

@@ -34,7 +34,7 @@ unfolding IsStrictlySortedBy
 rise_none V cmp = tt
 
 module _ {K V : Type 0} where
-  -- what holds of each key holds of those in front, of those behind, and of one between
+  -- what holds of each key holds of those in front, of those after, and of one between
   all_front : (P : K → Type 0) (l r : List (K × V)) → AllByRecursion P (keys_of (l ++ r)) → AllByRecursion P (keys_of l)
   all_front P [] r a = tt
   all_front P (x ∷ l) r a = (a.0, all_front P l r a.1)

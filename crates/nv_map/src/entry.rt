@@ -22,7 +22,7 @@ impl<K, V> Model for Entry<K, V> {
 }
 
 impl<K, V> Entry<K, V> {
-    /// An entry of this key and this value.
+    /// An entry of this key and this value. At `OutOfMemory` both are gone.
     pub fn new(alloc: Global, key: K, value: V) -> Result<Self, OutOfMemory>
     where
         K: Drop,

@@ -32,8 +32,9 @@ impl From<AllocError> for ArgumentFault {
     }
 }
 
-/// Accepts the arguments, of which the first is the program's name, exactly where `clap` finds no fault in them. The answer
-/// is how many hops a traced packet may take, from 1 to 64: what `--hops` says, and 16 where it is not given (not from OVN).
+/// Accepts the arguments, of which the first is the program's name, exactly where `clap` finds no fault in them. The
+/// answer is how many hops a traced packet may take, from 1 to 64: what `--hops` says, and 16 where it is not given (not
+/// from OVN). The fault is `Refused` only for arguments in which `clap` finds one, and `Memory` where memory runs out.
 #[tactic(auto, unfolding(crate::specs::Options::hops_in))]
 pub fn accept_arguments(alloc: Global, arguments: &[String]) -> Result<u8, ArgumentFault>
     ensures accepted { OnOk result (accepts (map string_bytes arguments.now) ≡ true) }
@@ -68,6 +69,7 @@ fn fault_of(error: &Error) -> ArgumentFault
 }
 
 /// The help or the version, where the arguments ask for one of them. The text is `clap`'s, and no clause speaks of it.
+/// Where memory runs out the answer is `AllocError`.
 pub fn requested_text(alloc: Global, arguments: &[String]) -> Result<Option<String>, AllocError>
     ensures asked { IfOk result (λ text. IfSome text (λ _. AskForText (faults (map string_bytes arguments.now)))) }
     ensures given { IfOk result (λ text. IfNone text (¬ AskOnlyForText (faults (map string_bytes arguments.now)))) }

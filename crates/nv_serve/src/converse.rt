@@ -14,7 +14,8 @@ const PIECE: usize = 4096;
 // No more of an input is run than so many bytes.
 const INPUT_LIMIT: usize = 268_435_456;
 
-// Reads the input piece by piece, and answers each line before the next is read for.
+/// Reads the input piece by piece, and answers each line before the next is read for (not from OVN). `Stop` is why no
+/// more lines are run: the source or the sink failed, the input is longer than 268,435,456 bytes, or memory ran out.
 pub fn converse<S: Source, K: Sink>(
     alloc: Global,
     server: &mut Server,

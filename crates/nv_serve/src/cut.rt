@@ -4,7 +4,7 @@ ghost use Rattle.nv_serve.specs.inner.StateAfter.{EndsNoLine, CutsLine};
 
 use memchr::memchr;
 
-// Cuts the bytes at their first newline, which is in neither part.
+/// Cuts the bytes at their first newline, which is in neither part (not from OVN). None exactly where they have none.
 pub fn cut_line(bytes: &[u8]) -> Option<(&[u8], &[u8])>
     ensures cut { IfSome result (λ parts. CutsLine bytes.now parts.0.now parts.1.now) }
     ensures none { IfNone result (EndsNoLine bytes.now) }

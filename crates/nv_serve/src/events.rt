@@ -8,7 +8,8 @@ use nv_base::{ObjId, OutOfMemory, put_dec};
 use pkt_core::{Packet, put_packet};
 use tr_net::Event;
 
-// Writes the lines of events, and leaves out those of hits where it is minimal.
+/// Writes the lines of events, and leaves out those of hits where it is minimal (ovn-trace(8); their form is not from
+/// OVN). After `OutOfMemory` nothing is said of what is written.
 pub fn put_events(
     records: &Records,
     minimal: bool,

@@ -16,7 +16,8 @@ use std::alloc::Global;
 // So many datapaths are listed at a time.
 const DATAPATHS: usize = 8;
 
-// Puts the listing of one of the switches, or of all, some at a time: no more than the listing of these is in memory.
+/// Puts the listing of one of the switches, or of all, some at a time: no more than the listing of these is in memory
+/// (ovn-sbctl(8), `lflow-list`). `Stop` where the sink fails or memory runs out: a front of the listing was put.
 pub fn put_datapaths<K: Sink>(
     alloc: Global,
     rows: &Rows,

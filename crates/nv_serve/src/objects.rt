@@ -3,7 +3,7 @@ ghost use Rattle.std.specs.Prelude.{◌≡◌};
 use nb_dump::Objects;
 use nb_tables::Records;
 
-// The objects of the network, as they are dumped.
+/// The objects of the network, as they are dumped (not from OVN).
 pub fn objects(records: &Records) -> Objects<'_>
     ensures { result ≡ records.now }
 {

@@ -4,7 +4,7 @@ ghost use Rattle.nv_serve.specs.inner.Writing.{Wrote, PutFailed};
 
 use nv_io::{Sink, SinkFailed};
 
-// Puts all of the bytes, piece by piece.
+/// Puts all of the bytes, piece by piece (not from OVN). At `SinkFailed` a front of them was put.
 pub fn put_all<K: Sink>(sink: &mut K, bytes: &[u8]) -> Result<(), SinkFailed>
     ensures ok { OnOk result (Wrote K.put_gives K.state sink.old sink.new bytes.now) }
     ensures err { OnErr result ((part : List ℕ) × IsPrefix part bytes.now × PutFailed K.put_gives K.state sink.old sink.new part) }

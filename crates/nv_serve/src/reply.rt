@@ -23,7 +23,8 @@ use pkt_core::Packet;
 use pkt_micro::Micro;
 use std::alloc::Global;
 
-// Runs a line, and writes its reply, but not a listing.
+/// Runs a line, and writes its reply, but not a listing (not from OVN). After `OutOfMemory` nothing is said of the
+/// session and of what is written.
 #[tactic(auto, unfolding(crate::specs::Reply::reply))]
 pub fn run_line(
     alloc: Global,

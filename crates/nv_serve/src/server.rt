@@ -28,6 +28,7 @@ pub struct Server {
 }
 
 impl Server {
+    /// The server before the first line, where a traced packet may take so many hops (not from OVN). It takes no memory.
     pub fn new(alloc: Global, hops: u8) -> Self
         ensures session { result.session ≡ new_session hops }
         ensures line { result.line.items ≡ [] }
@@ -40,7 +41,8 @@ impl Server {
         }
     }
 
-    // Runs the line, puts its reply, and begins the next.
+    /// Runs the line, puts its reply, and begins the next (not from OVN). `Stop` where the sink fails or memory runs out:
+    /// a front of the reply was put.
     pub fn answer<K: Sink>(&mut self, alloc: Global, sink: &mut K) -> Result<(), Stop>
         requires { self.old.session.network.next + length self.old.line.items < 4294967294 }
         ensures session { OnOk result (self.new.session ≡ (reply self.old.session self.old.line.items).after) }
@@ -106,7 +108,8 @@ impl Server {
         self.answer(alloc, sink)
     }
 
-    // Takes the next bytes of the input, and answers each line that they end.
+    /// Takes the next bytes of the input, and answers each line that they end (not from OVN). `Stop` where the sink fails
+    /// or memory runs out: a front of the replies was put.
     pub fn feed<K: Sink>(&mut self, alloc: Global, bytes: &[u8], sink: &mut K) -> Result<(), Stop>
         requires { self.old.session.network.next + length self.old.line.items + length bytes.now < 4294967294 }
         ensures next { OnOk result (self.new.session.network.next + length self.new.line.items

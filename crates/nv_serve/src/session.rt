@@ -51,6 +51,8 @@ impl Model for Session {
 }
 
 impl Session {
+    /// The session before the first line: the network without objects, where a traced packet may take so many hops (not
+    /// from OVN). It takes no memory.
     #[tactic(auto, using(nb_plain::proofs::Plain::empty_plain))]
     pub fn new(hops: u8) -> Self
         ensures { result ≡ new_session hops }
@@ -62,6 +64,7 @@ impl Session {
         }
     }
 
+    /// The records of the network.
     pub fn records(&self) -> &Records
         ensures records { result.now ≡ self.now.network }
         ensures sound { IsSound self.now.network }
@@ -69,7 +72,8 @@ impl Session {
         self.tables.records()
     }
 
-    // Does what all edits of a line ask for, or nothing.
+    /// Does what all edits of a line ask for, or nothing where one is refused or memory runs out (not from OVN:
+    /// ovn-nbctl(8) runs the commands of one call as one transaction).
     #[tactic(auto, using(crate::proofs::Reached::plain_edited))]
     pub fn apply_all(&mut self, alloc: Global, edits: Items<Edit>) -> Result<(), LineFault>
         requires readable { AllByRecursion IsReadable edits }
@@ -85,7 +89,8 @@ impl Session {
         Ok(())
     }
 
-    // What the rows do with a packet that comes in by a port. They are made where the network has changed, and kept.
+    /// What the rows do with a packet that comes in by a port (ovn-trace(8)). They are made where the network has
+    /// changed, and kept. Where memory runs out the answer is `OutOfMemory`.
     pub fn trace(
         &mut self,
         alloc: Global,
@@ -103,7 +108,8 @@ impl Session {
         Ok(events)
     }
 
-    // Puts the listing of the flows of one datapath, or of all. The rows are made where the network has changed, and kept.
+    /// Puts the listing of the flows of one datapath, or of all (ovn-sbctl(8), `lflow-list`). The rows are made where the
+    /// network has changed, and kept. `Stop` where the sink fails or memory runs out: a front of the listing was put.
     #[tactic(auto, unfolding(crate::specs::Reply::flows), using(crate::proofs::Writing::stopped_first))]
     pub fn put_flows<K: Sink>(
         &mut self,

@@ -20,7 +20,7 @@ pub enum Stop {
 }
 
 impl Stop {
-    // The status of a run that is stopped.
+    /// The status of a run that is stopped (not from OVN).
     pub fn status(&self) -> Status
         ensures { result ≡ status_of self.now }
     {

@@ -72,7 +72,8 @@ impl Packet {
         turned
     }
 
-    /// The TCP reset that answers a TCP packet: addresses and ports exchanged, the flags RST and ACK, TTL 255.
+    /// The TCP reset that answers a TCP packet (RFC 9293, 3.5.2; modelled on the actions `tcp_reset` and `reject` of
+    /// ovn-sb(5), 'Logical_Flow TABLE'): addresses and ports exchanged, the flags RST and ACK, TTL 255. All else stays.
     pub fn reset(&self) -> Packet
         ensures { result ≡ reset self.now }
     {
@@ -83,7 +84,9 @@ impl Packet {
         reset
     }
 
-    /// The ICMP error that answers the packet, which it quotes. The working fields stay.
+    /// The ICMP error that answers the packet, which it quotes (RFC 792; modelled on the actions `icmp4` and `reject` of
+    /// ovn-sb(5), 'Logical_Flow TABLE'): IPv4, addresses exchanged, TTL 255, type and code of the reason. The working
+    /// fields stay, and all else is zero.
     pub fn icmp_error(&self, reason: IcmpReason) -> Packet
         ensures { result ≡ icmp_error self.now reason }
     {
@@ -120,7 +123,8 @@ impl Packet {
         self.set(Field::QuoteDport, u128::from(tuple.dport));
     }
 
-    /// The reply to an ARP request, that this MAC has the address that it asks for.
+    /// The reply to an ARP request, that this MAC has the address that it asks for (RFC 826; made as by the flows of
+    /// ovn-northd(8), 'Ingress Table: ARP/ND responder'): to the sender, operation 2. All else stays.
     pub fn arp_reply(&self, mac: Mac) -> Packet
         ensures { result ≡ arp_reply self.now mac }
     {
@@ -135,7 +139,8 @@ impl Packet {
         reply
     }
 
-    /// The broadcast ARP request, from this MAC and address, for the MAC of an address.
+    /// The broadcast ARP request, from this MAC and address, for the MAC of an address (RFC 826; modelled on the action
+    /// `arp` of ovn-sb(5), 'Logical_Flow TABLE'): operation 1, the target's MAC zero. All else is zero.
     pub fn arp_request(mac: Mac, from: Ip4, wanted: Ip4) -> Packet
         ensures { result ≡ arp_request mac from wanted }
     {

@@ -31,7 +31,7 @@ pub struct Micro {
 /// - `Contradiction`, with the first field by its number that is given two values;
 /// - `NoInport`, where no port is said.
 ///
-/// `Memory` comes only where memory ran out.
+/// After `Memory` nothing is said of the match.
 pub fn packet_of(alloc: Global, typed: &Typed) -> Result<Micro, MicroFault>
     requires { IsTyped role.Micro typed.now }
     ensures micro { IfOk result (λ m. microflow typed.now ≡ Ok m) }

@@ -67,7 +67,8 @@ fn compares(field: Field, item: Item) -> Typed
     Typed::atom(TypedAtom::Compare(field, Bits::Whole, Rel::Eq, Right::Item(item)))
 }
 
-/// The list of one action, which has no block.
+/// The list of one action, which has no block (ovn-sb(5), 'Logical_Flow TABLE', actions). Where memory runs out the
+/// answer is `OutOfMemory`.
 pub fn one_step(alloc: Global, step: Step) -> Result<Items<Action>, OutOfMemory>
     ensures { IfOk result (λ actions. actions ≡ Action.Step step ∷ []) }
 {
@@ -154,7 +155,8 @@ pub fn bit_is_set(field: Field, number: u8) -> Typed
     ))
 }
 
-/// The match of the packets that both take.
+/// The match `one && other`, of the packets that both take (ovn-sb(5), 'Logical_Flow TABLE', match). Where memory runs
+/// out the answer is `OutOfMemory`.
 pub fn both(alloc: Global, one: Typed, other: Typed) -> Result<Typed, OutOfMemory>
     ensures { IfOk result (λ t. t ≡ all_of (one ∷ other ∷ [])) }
 {
@@ -164,7 +166,8 @@ pub fn both(alloc: Global, one: Typed, other: Typed) -> Result<Typed, OutOfMemor
     Ok(Typed::conjunction(operands))
 }
 
-/// The match of the packets that one of the two takes.
+/// The match `one || other`, of the packets that one of the two takes (ovn-sb(5), 'Logical_Flow TABLE', match). Where
+/// memory runs out the answer is `OutOfMemory`.
 pub fn either(alloc: Global, one: Typed, other: Typed) -> Result<Typed, OutOfMemory>
     ensures { IfOk result (λ t. t ≡ one_of (one ∷ other ∷ [])) }
 {
@@ -174,7 +177,8 @@ pub fn either(alloc: Global, one: Typed, other: Typed) -> Result<Typed, OutOfMem
     Ok(Typed::disjunction(operands))
 }
 
-/// The actions that send a packet out by the port or the multicast group of this name.
+/// The actions `outport = "name"; output;`, which send a packet out by the port or the multicast group of this name
+/// (ovn-sb(5), 'Logical_Flow TABLE', actions). Where memory runs out the answer is `OutOfMemory`.
 pub fn goes_out_by(alloc: Global, name: Name) -> Result<Items<Action>, OutOfMemory>
     ensures { IfOk result (λ actions. actions ≡ goes_out_by name) }
 {

@@ -154,7 +154,8 @@ impl Stage {
         self.facts().kind
     }
 
-    /// The name, as a listing of flows gives it.
+    /// The name, as a listing of flows gives it (after ovn-sbctl(8), `lflow-list`; which stages there are is not from
+    /// OVN).
     #[tactic(auto, unfolding(crate::specs::Stage::stage_name))]
     pub fn name(self) -> &'static str
         ensures { result.now ≡ stage_name self }

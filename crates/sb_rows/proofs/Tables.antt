@@ -100,7 +100,7 @@ point_of_test rows t i point = (λ k d le below. is_below (key_of (get_or rows k
     is_not_below : (n : ℕ) → ltb n t ≡ false → t ≤ n
     is_not_below n h = grind (arith, nat_tests)
 
--- a table begins behind a row of a lower one where the row after that is of no lower one
+-- a table begins after a row of a lower one where the row after that is of no lower one
 pub begins_behind : (rows : List Row) → IsInRowOrder rows → (t near : ℕ) (x y : Row) → near + 1 < length rows → key_of (get_or rows near x) < t → t ≤ key_of (get_or rows (near + 1) y)
     → IsPartitionPoint (λ r. key_of r < t) (λ r. t ≤ key_of r) rows (near + 1)
 begins_behind rows up t near x y within lower upper = (

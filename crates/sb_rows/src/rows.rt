@@ -47,7 +47,9 @@ impl Rows {
         }
     }
 
-    /// The rows of a list, of which one that is there twice is one row. No text is written again.
+    /// The rows of a list as a set, in row order (ovn-sb(5), 'Logical_Flow TABLE'; the order is not from OVN): one that
+    /// is there twice is one row. Those that agree in datapath, stage, priority, hint and match are equal, and each match
+    /// is well-typed. No text is written again. Where memory runs out the answer is `OutOfMemory`.
     pub fn of_all(alloc: Global, new: NewRows) -> Result<Rows, OutOfMemory>
         requires agree { AgreeAsOne new }
         requires typed { All HasTypedMatch new }
@@ -92,7 +94,7 @@ impl Rows {
         self.put_new(new)
     }
 
-    /// The same of rows that came one by one. No row is in memory twice.
+    /// The same of rows that came one by one. No row is in memory twice. After `OutOfMemory` the rows are as before.
     pub fn put_new(&mut self, rows: NewRows) -> Result<(), OutOfMemory>
         requires apart { AreApart (self.old ++ rows) }
         requires typed { All HasTypedMatch rows }
@@ -132,6 +134,7 @@ impl Rows {
         self.sorted.len()
     }
 
+    /// Whether there is no row.
     pub fn is_empty(&self) -> bool
         ensures { IsTrue result ↔ (self.now ≡ []) }
     {

@@ -156,7 +156,7 @@ module _ (laws : Laws) (net : Network) (sound : IsSound net) (stateless : IsStat
       by [] is = refl
       by (p ∷ ports) is = leaves_to unknown_number ∙ ap (λ all. Some (GoesOn (Ports all) (carried packet))) is
 
-  -- the look-up
+  -- the lookup
   lookup_is : sees (run_from flows 121 LsInL2Lkup packet).outcome ≡ Some (carrying (sent_on net dp packet))
   lookup_is =
       ap sees (taken flows 120 LsInL2Lkup packet _ (here LsInL2Lkup (λ d. cond (is_multicast (value packet EthDst)) (leaves_by packet flood_number) (found_at packet (port_for net d (value packet EthDst)))) (laws.looks_up net of.0 packet on)))

@@ -3,7 +3,7 @@ use Rattle.std.specs.Option.{option_copied}
 use Rattle.std.specs.Prelude.{is_some}
 use Rattle.nb_core.specs.declared.acl.Acl.{Acl}
 use Rattle.nb_net.specs.Network.{same}
-use Rattle.nb_tables.proofs.GenericE1.{rises}
+use Rattle.nb_tables.proofs.PlacedRecords.{rises}
 use Rattle.nb_check.specs.inner.Weights.{weight, switch_count}
 use Rattle.nb_check.proofs.Rest.{next_rest, no_rest}
 use Rattle.nb_check.proofs.Sums.{fewer, sum_goes_on, sum_over, sum_ends, sum_begins}

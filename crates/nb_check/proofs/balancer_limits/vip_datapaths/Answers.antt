@@ -3,7 +3,7 @@ use Rattle.nb_core.specs.declared.balancer.Lb.{Lb}
 use Rattle.nb_core.specs.declared.router.Router.{Router}
 use Rattle.nb_core.specs.declared.switch.Switch.{Switch}
 use Rattle.nb_net.specs.Amounts.{total}
-use Rattle.nb_tables.proofs.GenericE1.{rises}
+use Rattle.nb_tables.proofs.PlacedRecords.{rises}
 use Rattle.nb_check.specs.inner.Attached.{attached_vips}
 use Rattle.nb_check.specs.inner.Within.{up_to}
 use Rattle.nb_check.proofs.Attached.{all_attached}

@@ -2,7 +2,7 @@ use Rattle.std.proofs.Common.{sym, ap, ◌∙◌, ◌&&◌, refl}
 use Rattle.nb_core.specs.declared.switch.Port.{Port}
 use Rattle.nb_net.specs.Network.{same}
 use Rattle.nb_table.specs.Table.{is_after}
-use Rattle.nb_tables.proofs.GenericE1.{rises}
+use Rattle.nb_tables.proofs.PlacedRecords.{rises}
 use Rattle.nb_tables.proofs.Peering.{found_is_record}
 use Rattle.nb_check.specs.inner.Within.{up_to}
 use Rattle.nb_check.proofs.Neighbours.{pairs_at, all_beside}

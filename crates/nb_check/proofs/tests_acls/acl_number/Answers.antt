@@ -1,5 +1,5 @@
 use Rattle.nb_core.specs.declared.acl.Acl.{Acl}
-use Rattle.nb_tables.proofs.GenericE1.{rises}
+use Rattle.nb_tables.proofs.PlacedRecords.{rises}
 use Rattle.nb_check.proofs.tests_acls.acl_number.Goals as goal
 
 pub acl_like-requires-clause-rise : goal.acl_like-requires-clause-rise

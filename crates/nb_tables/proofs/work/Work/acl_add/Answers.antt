@@ -5,7 +5,7 @@ use Rattle.nb_core.specs.declared.acl.Acl.{Acl}
 use Rattle.nb_net.specs.Network.{Network}
 use Rattle.nb_table.specs.Table.{with_exchanged}
 use Rattle.nb_tables.proofs.AclEdits.{no_owner, same_acl_there, added_acl}
-use Rattle.nb_tables.proofs.GenericE1.{rises}
+use Rattle.nb_tables.proofs.PlacedRecords.{rises}
 use Rattle.nb_tables.proofs.work.Work.acl_add.Goals as goal
 
 pub returns-in_default-clause-ok : goal.returns-in_default-clause-ok

@@ -1,6 +1,6 @@
 use Rattle.nb_core.specs.declared.acl.Acl.{Acl}
 use Rattle.nb_tables.proofs.AclEdits.{no_owner_loses}
-use Rattle.nb_tables.proofs.GenericE1.{rises}
+use Rattle.nb_tables.proofs.PlacedRecords.{rises}
 use Rattle.nb_tables.proofs.work.Work.acl_del.Goals as goal
 
 pub returns-in_default-clause-ok : goal.returns-in_default-clause-ok

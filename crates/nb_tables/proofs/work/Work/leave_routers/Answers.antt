@@ -1,6 +1,6 @@
 use Rattle.std.proofs.Common.{◌∙◌}
 use Rattle.nb_tables.proofs.BalancerRemovals.{of_routers, in_router}
-use Rattle.nb_tables.proofs.GenericE3.{left_smaller, left_rise, left_same, all_left}
+use Rattle.nb_tables.proofs.ListedNumbers.{left_smaller, left_rise, left_same, all_left}
 use Rattle.nb_tables.proofs.work.Work.leave_routers.Goals as goal
 
 pub loop-router-smaller : goal.loop-router-smaller

@@ -1,6 +1,6 @@
 use Rattle.std.proofs.Common.{◌∙◌}
 use Rattle.nb_tables.proofs.BalancerRemovals.{of_switches, in_switch}
-use Rattle.nb_tables.proofs.GenericE3.{left_smaller, left_rise, left_same, all_left}
+use Rattle.nb_tables.proofs.ListedNumbers.{left_smaller, left_rise, left_same, all_left}
 use Rattle.nb_tables.proofs.work.Work.leave_switches.Goals as goal
 
 pub loop-switch-smaller : goal.loop-switch-smaller

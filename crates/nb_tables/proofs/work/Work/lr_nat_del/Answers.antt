@@ -1,7 +1,7 @@
 use Rattle.std.proofs.Common.{◌∙◌}
 use Rattle.std.proofs.lemmas.Result.{on_ok_weaker}
 use Rattle.nb_core.specs.declared.router.Nat.{Nat}
-use Rattle.nb_tables.proofs.GenericE1.{rises}
+use Rattle.nb_tables.proofs.PlacedRecords.{rises}
 use Rattle.nb_tables.proofs.NatsFor.{nats_deleted, no_nats_deleted}
 use Rattle.nb_tables.proofs.work.Work.lr_nat_del.Goals as goal
 

@@ -1,6 +1,6 @@
 use Rattle.std.proofs.Common.{◌∙◌}
 use Rattle.std.proofs.lemmas.Result.{on_ok_weaker}
-use Rattle.nb_tables.proofs.GenericE1.{rises}
+use Rattle.nb_tables.proofs.PlacedRecords.{rises}
 use Rattle.nb_core.specs.declared.router.Binding.{Binding}
 use Rattle.nb_tables.proofs.RouterRemovals.{port_deleted, no_port_deleted}
 use Rattle.nb_tables.proofs.work.Work.lrp_del.Goals as goal

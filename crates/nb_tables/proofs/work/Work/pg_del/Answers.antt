@@ -3,7 +3,7 @@ use Rattle.std.proofs.lemmas.Result.{on_ok_weaker}
 use Rattle.nb_core.specs.declared.acl.Acl.{Acl}
 use Rattle.nb_net.specs.Network.{Network}
 use Rattle.nb_table.specs.Table.{without_number}
-use Rattle.nb_tables.proofs.GenericE1.{rises}
+use Rattle.nb_tables.proofs.PlacedRecords.{rises}
 use Rattle.nb_tables.proofs.GroupEdits.{group_deleted, no_group_deleted}
 use Rattle.nb_tables.proofs.work.Work.pg_del.Goals as goal
 

@@ -2,7 +2,7 @@ use Rattle.std.proofs.Common.{◌∙◌}
 use Rattle.std.proofs.lemmas.Result.{on_ok_weaker}
 use Rattle.nb_core.specs.declared.acl.Acl.{Acl}
 use Rattle.nb_tables.proofs.AclEdits.{none_like_removed, like_removed}
-use Rattle.nb_tables.proofs.GenericE1.{rises}
+use Rattle.nb_tables.proofs.PlacedRecords.{rises}
 use Rattle.nb_tables.proofs.work.Work.remove_acl_like.Goals as goal
 
 pub acl_like-requires-clause-rise : goal.acl_like-requires-clause-rise

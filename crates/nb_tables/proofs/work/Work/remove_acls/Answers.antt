@@ -1,6 +1,6 @@
 use Rattle.std.proofs.Common.{◌∙◌}
 use Rattle.nb_net.specs.Network.{same}
-use Rattle.nb_tables.proofs.GenericE4.{acl_smaller, acl_rise, acl_same, acls_done}
+use Rattle.nb_tables.proofs.AclsThatGo.{acl_smaller, acl_rise, acl_same, acls_done}
 use Rattle.nb_tables.proofs.work.Work.remove_acls.Goals as goal
 
 pub loop-acl-smaller : goal.loop-acl-smaller

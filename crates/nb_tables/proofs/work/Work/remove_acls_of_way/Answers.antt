@@ -5,7 +5,7 @@ use Rattle.nb_net.specs.Network.{Network, same}
 use Rattle.nb_table.specs.Table.{is_after}
 use Rattle.nb_tables.proofs.AclEdits.{acl_falls, more_falls}
 use Rattle.nb_tables.proofs.AclLikes.{found_going, staying, fewer_staying, none_going}
-use Rattle.nb_tables.proofs.GenericE4.{acl_rise, acl_same, acls_done}
+use Rattle.nb_tables.proofs.AclsThatGo.{acl_rise, acl_same, acls_done}
 use Rattle.nb_tables.proofs.work.Work.remove_acls_of_way.Goals as goal
 
 pub loop-acl-smaller-in-Continue-1 : goal.loop-acl-smaller-in-Continue-1

@@ -3,7 +3,7 @@ use Rattle.nb_core.specs.declared.router.Router.{Router}
 use Rattle.nb_core.specs.declared.switch.Switch.{Switch}
 use Rattle.nb_net.specs.Network.{Network}
 use Rattle.nb_table.specs.Table.{NumbersRise}
-use Rattle.nb_tables.proofs.GenericE1.{rises}
+use Rattle.nb_tables.proofs.PlacedRecords.{rises}
 use Rattle.nb_tables.proofs.work.Work.remove_lb.Goals as goal
 
 pub leave_switches-requires : goal.leave_switches-requires

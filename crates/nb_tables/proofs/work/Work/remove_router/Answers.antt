@@ -5,7 +5,7 @@ use Rattle.nb_core.specs.declared.router.Route.{Route}
 use Rattle.nb_core.specs.declared.router.RouterPort.{RouterPort}
 use Rattle.nb_net.specs.Network.{Network}
 use Rattle.nb_table.specs.Table.{NumbersRise}
-use Rattle.nb_tables.proofs.GenericE1.{rises}
+use Rattle.nb_tables.proofs.PlacedRecords.{rises}
 use Rattle.nb_tables.proofs.work.Work.remove_router.Goals as goal
 
 pub remove_router_ports-requires-clause-ports : goal.remove_router_ports-requires-clause-ports

@@ -4,7 +4,7 @@ use Rattle.nb_core.specs.declared.sets.Group.{Group}
 use Rattle.nb_core.specs.declared.switch.Port.{Port}
 use Rattle.nb_net.specs.Network.{Network}
 use Rattle.nb_table.specs.Table.{NumbersRise}
-use Rattle.nb_tables.proofs.GenericE1.{rises}
+use Rattle.nb_tables.proofs.PlacedRecords.{rises}
 use Rattle.nb_tables.proofs.work.Work.remove_switch.Goals as goal
 
 pub remove_ports_on-requires-clause-ports : goal.remove_ports_on-requires-clause-ports

@@ -2,7 +2,7 @@ use Rattle.std.proofs.Common.{◌∙◌, rules}
 use Rattle.std.proofs.lemmas.Result.{on_ok_weaker}
 use Rattle.nb_core.specs.declared.balancer.Lb.{Lb}
 use Rattle.nb_tables.proofs.BalancerRemovals.{no_vip, last_vip, other_vips}
-use Rattle.nb_tables.proofs.GenericE1.{rises}
+use Rattle.nb_tables.proofs.PlacedRecords.{rises}
 use Rattle.nb_tables.proofs.work.Work.remove_vip.Goals as goal
 
 pub returns-in_default-clause-ok : goal.returns-in_default-clause-ok

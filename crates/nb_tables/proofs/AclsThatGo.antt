@@ -14,8 +14,8 @@ use Rattle.nb_net.specs.Network.{Network, same, port_id}
 use Rattle.nb_net.proofs.RecordLists.{found_holds}
 use Rattle.nb_table.specs.Table.{NumbersRise, without_number}
 use Rattle.nb_table.proofs.Undone.{rise_without}
-use Rattle.nb_tables.proofs.GenericE1.{placed, none_without}
-use Rattle.nb_tables.proofs.GenericE2.{passing_goes}
+use Rattle.nb_tables.proofs.PlacedRecords.{placed, none_without}
+use Rattle.nb_tables.proofs.NewRecords.{passing_goes}
 
 -- one record less
 one_less : {R : Type 0} (number : R → ObjId) (p : R → Bool) (x : R) (rs : List R) → Some x ≡ find p rs → NumbersRise number rs → length (without_number number (number x) rs) < length rs

@@ -17,7 +17,7 @@ use Rattle.nb_net.specs.Sound.{IsSound}
 use Rattle.nb_net.proofs.Numbered.{are_used}
 use Rattle.nb_net.proofs.RecordLists.{all_as, found_holds}
 use Rattle.nb_table.specs.Table.{NumbersRise, with_exchanged, without_number}
-use Rattle.nb_tables.proofs.GenericE1.{new_last, placed, none_of, none_without}
+use Rattle.nb_tables.proofs.PlacedRecords.{new_last, placed, none_of, none_without}
 
 module _ (net : Network) (sound : IsSound net) where
   pub new_router : (r : Router) → r.id ≡ next_number net → with_exchanged (λ x. x.id) r net.routers ≡ net.routers ++ r ∷ []

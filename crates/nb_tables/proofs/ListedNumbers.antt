@@ -10,7 +10,7 @@ use Rattle.nb_net.specs.Network.{Network, same}
 use Rattle.nb_net.proofs.RecordLists.{found_holds}
 use Rattle.nb_table.specs.Table.{NumbersRise, with_exchanged}
 use Rattle.nb_table.proofs.Undone.{rise_exchanged}
-use Rattle.nb_tables.proofs.GenericE1.{IsPlaced, placed, none_without}
+use Rattle.nb_tables.proofs.PlacedRecords.{IsPlaced, placed, none_without}
 use Rattle.nb_tables.proofs.Removed.{without_twice, none_listed, gone, either_same}
 use Rattle.nb_tables.proofs.RouterRemovals.{IsList}
 

@@ -9,6 +9,7 @@ use sb_model::{Stage, one_step};
 use std::alloc::Global;
 
 // The rule of one action, which has no block.
+#[inline]
 pub(crate) fn one_step_rule(
     alloc: Global,
     stage: Stage,

@@ -27,6 +27,7 @@ pub struct Rule {
 
 impl Unit {
     /// Puts a row of the unit after others. After `OutOfMemory` they are as before.
+    #[inline]
     pub fn put(self, rows: &mut NewRows, rule: Rule) -> Result<(), OutOfMemory>
         ensures ok { OnOk result (rows.new ≡ rows.old ++ row_of self rule ∷ []) }
         ensures err { OnErr result (rows.new ≡ rows.old) }

@@ -38,6 +38,7 @@ impl<T> Items<T> {
     }
 
     /// Puts an item last. After `OutOfMemory` the list is as before.
+    #[inline]
     pub fn push(&mut self, item: T) -> Result<(), OutOfMemory>
     where
         T: Drop,

@@ -95,11 +95,7 @@ pub(crate) fn hex_digit(digit: u8) -> u8
     requires { digit < 16 }
     ensures { result ≡ digit_glyph false digit }
 {
-    if digit < 10 {
-        b'0' + digit
-    } else {
-        b'a' + (digit - 10)
-    }
+    b"0123456789abcdef"[usize::from(digit)]
 }
 
 /// Writes the hexadecimal digits at the end of the text, and returns where they begin.

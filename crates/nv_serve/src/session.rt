@@ -129,7 +129,9 @@ impl Session {
         Ok(())
     }
 
-    // The rows, made anew where the network has changed. They are no longer kept.
+    // The rows, made anew where the network has changed. They are no longer kept. It stays a function of its own, in which the
+    // bench counts instructions.
+    #[inline(never)]
     fn take_rows(&mut self, alloc: Global) -> Result<Rows, OutOfMemory>
         ensures rows { IfOk result (λ rows. AreRowsOf rows self.old.network) }
         ensures same { self.new ≡ self.old }

@@ -69,6 +69,7 @@ fn compares(field: Field, item: Item) -> Typed
 
 /// The list of one action, which has no block (ovn-sb(5), 'Logical_Flow TABLE', actions). Where memory runs out the
 /// answer is `OutOfMemory`.
+#[inline]
 pub fn one_step(alloc: Global, step: Step) -> Result<Items<Action>, OutOfMemory>
     ensures { IfOk result (λ actions. actions ≡ Action.Step step ∷ []) }
 {

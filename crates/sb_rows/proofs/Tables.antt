@@ -1,5 +1,5 @@
 -- Rows in row order rise by their tables, and a table's rows are those of one key.
-use Rattle.std.proofs.Common.{◌≡◌, ◌≢◌, ℕ, zero, suc, ◌+◌, ◌*◌, ◌<◌, ◌≤◌, Bool, true, false, cond, List, [], ◌∷◌, length, length-drop, get_or, drop, eqb, ltb, sym, ap, refl, ◌∙◌, arith}
+use Rattle.std.proofs.Common.{◌≡◌, ◌≢◌, ℕ, zero, suc, ◌+◌, ◌*◌, ◌-◌, ◌<◌, ◌≤◌, Bool, true, false, cond, List, [], ◌∷◌, length, length-drop, get_or, drop, eqb, ltb, sym, ap, refl, ◌∙◌, arith}
 use Rattle.std.specs.Prelude.{◌&&◌, Some, None}
 use Rattle.std.specs.declared.cmp.Ordering.{Ordering}
 use Rattle.std.specs.Ordering.{is_lt, nat_cmp, ordering_then}
@@ -17,7 +17,8 @@ use Rattle.sb_model.specs.declared.stage.Stage.{Stage}
 use Rattle.sb_model.specs.declared.row.Row.{Row}
 use Rattle.sb_rows.specs.Row.{key_cmp, row_cmp, IsInRowOrder}
 use Rattle.sb_rows.specs.Match.{is_in_table, select}
-use Rattle.sb_rows.specs.inner.Tables.{table_key, key_of, find_while}
+use Rattle.sb_rows.specs.inner.Beside.{FitsItsKey, key_of_row, order_of_keys}
+use Rattle.sb_rows.specs.inner.Tables.{table_key, rank_key, key_of, find_while}
 use Rattle.sb_rows.proofs.Order.{keys_in_order}
 use Rattle.sb_model.specs.Stage.{stage_place}
 use Rattle.sb_model.proofs.Stages.{place_below, stage_from_place}
@@ -35,14 +36,21 @@ key_from_order x y h =
 pub keys_rise : (xs : List Row) → IsInRowOrder xs → IsNonDecreasingBy key_of xs
 keys_rise xs up = IsNonDecreasingBy-from_all_adjacent key_of xs (λ k d lt. key_from_order _ _ (keys_in_order xs up k d (omega arith) lt))
 
--- rows of two tables are in the order of their tables
-by_table : (dp p t q : ℕ) (rank text : Ordering) → p < 32 → q < 32 → dp * 32 + p ≢ t * 32 + q
-    → nat_cmp (dp * 32 + p) (t * 32 + q) ≡ ordering_then (ordering_then (ordering_then (nat_cmp dp t) (nat_cmp p q)) rank) text
-by_table dp p t q rank text a b other = grind (arith, nat_tests)
+-- the order of two tables is that of their places
+by_table : (dp p t q : ℕ) → p < 32 → q < 32 → nat_cmp (dp * 32 + p) (t * 32 + q) ≡ ordering_then (nat_cmp dp t) (nat_cmp p q)
+by_table dp p t q a b = grind (arith, nat_tests)
 
-pub order_by_table : (x y : Row) → key_of x ≢ key_of y → nat_cmp (key_of x) (key_of y) ≡ row_cmp x y
-unfolding key_cmp row_cmp
-order_by_table x y other = by_table x.dp.0 (stage_place x.stage) y.dp.0 (stage_place y.stage) _ _ (place_below x.stage) (place_below y.stage) other
+-- and that of two rows of a table is that of theirs
+by_rank : (a h b k : ℕ) → a < 65536 → b < 65536 → h < 4294967296 → k < 4294967296
+    → nat_cmp ((65535 - a) * 4294967296 + h) ((65535 - b) * 4294967296 + k) ≡ ordering_then (nat_cmp b a) (nat_cmp h k)
+by_rank a h b k fa fb fh fk = grind (arith, nat_tests)
+
+-- so the order of keys is that of rows but for their matches
+pub keys_order : (x y : Row) → FitsItsKey x → FitsItsKey y → order_of_keys (key_of_row x) (key_of_row y) ≡ key_cmp x y
+unfolding key_cmp
+keys_order x y first second =
+    ap (λ table. ordering_then table (nat_cmp (rank_key x.priority x.hint) (rank_key y.priority y.hint))) (by_table x.dp.0 (stage_place x.stage) y.dp.0 (stage_place y.stage) (place_below x.stage) (place_below y.stage))
+    ∙ ap (ordering_then (ordering_then (nat_cmp x.dp.0 y.dp.0) (nat_cmp (stage_place x.stage) (stage_place y.stage)))) (by_rank x.priority x.hint.0 y.priority y.hint.0 first.0 second.0 first.1 second.1)
 
 -- a row is of a table where it has its key
 key_tells : (dp p t q : ℕ) → p < 32 → q < 32 → eqb (dp * 32 + p) (t * 32 + q) ≡ (eqb dp t && eqb p q)

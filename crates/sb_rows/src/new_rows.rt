@@ -72,7 +72,9 @@ impl NewRows {
         ensures err { OnErr result (self.new ≡ self.old) }
     {
         let mut stored = list.into_stored();
-        self.stored.append(&mut stored)?;
+        if !stored.is_empty() {
+            self.stored.append(&mut stored)?;
+        }
         Ok(())
     }
 
@@ -81,7 +83,9 @@ impl NewRows {
         ensures { IfOk result (λ list. list ≡ put_rows [] self) }
     {
         let mut stored = self.stored;
-        stored.sort_by(|one, other| one.order(other))?;
+        if 1 < stored.len() {
+            stored.sort_by(|one, other| one.order(other))?;
+        }
         Ok(RowList::from_stored(stored))
     }
 

@@ -1,12 +1,12 @@
 //! A row beside what searches look at first, and the text of its match, which orders it and is listed.
-ghost use Rattle.std.specs.Prelude.{◌≡◌, ◌%◌, IfOk};
+ghost use Rattle.std.specs.Prelude.{◌≡◌, ◌<◌, ◌%◌, IfOk};
 ghost use Rattle.expr_core.specs.Formula.{formulas};
 ghost use Rattle.expr_core.specs.Formula.Formula.{And};
 ghost use Rattle.expr_core.specs.Text.{typed_text};
 ghost use Rattle.expr_eval.specs.MatchMeaning.{holds};
 ghost use Rattle.sb_rows.specs.Row.{key_cmp, row_cmp};
-ghost use Rattle.sb_rows.specs.inner.Beside.{has_asked, IsAskedBy, key_of_row, order_of_keys};
-ghost use Rattle.sb_rows.specs.inner.Tables.{table_key, key_of};
+ghost use Rattle.sb_rows.specs.inner.Beside.{FitsItsKey, has_asked, IsAskedBy, key_of_row, order_of_keys};
+ghost use Rattle.sb_rows.specs.inner.Tables.{table_key, rank_key, key_of};
 
 use expr_core::{Bits, Env, Item, Node, Rel, Right, Typed, TypedAtom, put_tree};
 use expr_eval::holds;
@@ -28,13 +28,15 @@ pub(crate) enum Asked {
     LastByte(Field, u8),
 }
 
-// What orders rows before the texts of their matches do.
+// What orders rows before the texts of their matches do: two numbers, of which the first that differs decides. The datapath
+// stands beside them.
 #[derive(Clone, Copy)]
 pub(crate) struct Key {
+    // The place of the row's table among all.
+    table: u64,
+    // The place of the row in its table.
+    rank: u64,
     dp: ObjId,
-    hint: ObjId,
-    priority: u16,
-    stage: Stage,
 }
 
 // A row, and the text of its match.
@@ -122,7 +124,7 @@ impl Stored {
     pub(crate) fn table_key(&self) -> u64
         ensures { result ≡ key_of self.now }
     {
-        table_key(self.key.dp, self.key.stage)
+        self.key.table
     }
 
     // Whether the match holds of the packet. The row is looked at only where the packet has what is asked first.
@@ -134,7 +136,7 @@ impl Stored {
     }
 
     // The order of the row and another by all but their matches: by datapath, stage, falling priority, and hint.
-    #[tactic(auto, unfolding(crate::specs::Row::key_cmp))]
+    #[tactic(auto, using(crate::proofs::Tables::keys_order))]
     pub(crate) fn key_order(&self, other: &Row) -> Ordering
         ensures { result ≡ key_cmp self.now other.now }
     {
@@ -142,13 +144,10 @@ impl Stored {
     }
 
     // The order of the row and another. The rows are looked at only where all but their matches is equal.
-    #[tactic(auto, using(crate::proofs::Tables::order_by_table), unfolding(crate::specs::Row::key_cmp, crate::specs::Row::row_cmp))]
+    #[tactic(auto, using(crate::proofs::Tables::keys_order), unfolding(crate::specs::Row::row_cmp))]
     pub(crate) fn order(&self, other: &Stored) -> Ordering
         ensures { result ≡ row_cmp self.now other.now }
     {
-        if self.table_key() != other.table_key() {
-            return self.table_key().cmp(&other.table_key());
-        }
         match order_of_keys(self.key, other.key) {
             Ordering::Equal => self.text().cmp(other.text()),
             unlike => unlike,
@@ -171,30 +170,22 @@ impl PartialEq for Stored {
 
 // The key of a row.
 fn key_of_row(row: &Row) -> Key
-    ensures { result ≡ key_of_row row.now }
+    ensures key { result ≡ key_of_row row.now }
+    ensures fits { FitsItsKey row.now }
 {
     Key {
+        table: table_key(row.dp, row.stage),
+        rank: rank_key(row.priority, row.hint),
         dp: row.dp,
-        hint: row.hint,
-        priority: row.priority,
-        stage: row.stage,
     }
 }
 
+// The order of keys: by table, then by the place in it.
 #[inline]
 fn order_of_keys(one: Key, other: Key) -> Ordering
     ensures { result ≡ order_of_keys one other }
 {
-    let by_place = one
-        .dp
-        .0
-        .cmp(&other.dp.0)
-        .then(one.stage.place().cmp(&other.stage.place()));
-    let by_rank = other
-        .priority
-        .cmp(&one.priority)
-        .then(one.hint.0.cmp(&other.hint.0));
-    by_place.then(by_rank)
+    one.table.cmp(&other.table).then(one.rank.cmp(&other.rank))
 }
 
 // What the match asks first: of a conjunction, what one of its operands asks.
@@ -257,4 +248,12 @@ pub(crate) fn table_key(dp: ObjId, stage: Stage) -> u64
     ensures { result ≡ table_key dp stage }
 {
     u64::from(dp.0) * 32 + u64::from(stage.place())
+}
+
+// The place of a row in its table: by falling priority, then by hint.
+fn rank_key(priority: u16, hint: ObjId) -> u64
+    ensures key { result ≡ rank_key priority hint }
+    ensures fits { (priority < 65536) × (hint.0 < 4294967296) }
+{
+    u64::from(u16::MAX - priority) * (1 << 32) + u64::from(hint.0)
 }

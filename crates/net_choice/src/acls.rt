@@ -4,7 +4,7 @@ ghost use Rattle.std.specs.Option.{option_copied};
 ghost use Rattle.nb_net.specs.Belongs.{same_way};
 ghost use Rattle.nb_net.specs.Sound.{IsSound};
 ghost use Rattle.net_meaning.specs.AclVerdict.{deciding};
-ghost use Rattle.net_choice.specs.inner.Acls.{first, first_of, first_with, is_before, takes};
+ghost use Rattle.net_choice.specs.inner.Acls.{first, first_of, first_on, first_with, is_before, takes};
 
 use expr_eval::holds;
 use nb_core::{Acl, Way};
@@ -15,18 +15,50 @@ use pkt_core::Packet;
 /// The number of the ACL that decides on a packet that is not tracked, at a switch, in a direction (ovn-nb(5), 'ACL TABLE'): of those
 /// that apply to the switch and whose matches hold, the one of the highest priority, and of several of that priority the one of the
 /// lowest number, which is not from OVN. `None` where no ACL decides. It takes no memory, and looks at the ACLs of the switch and of
-/// the groups of its ports alone, at those of a group once for each of its ports there.
+/// the groups of its ports alone, at those of a group once for each of its ports there; where there is no group, at no port.
 pub fn acl_first(records: &Records, switch: ObjId, way: Way, packet: &Packet) -> Option<ObjId>
     requires { IsSound records.now }
     ensures { result ≡ option_map (λ acl. acl.id) (deciding records.now switch way packet.now) }
 {
-    let mut best = first_of(None, records, switch, way, packet);
+    let own = first_of(None, records, switch, way, packet);
+    first_on(own, records, switch, way, packet).map(|acl| acl.id)
+}
+
+// The first of an ACL and those of the groups of the ports of a switch, among those for the packet. Where there is no group, no port
+// is asked.
+fn first_on<'a>(
+    best: Option<&'a Acl>,
+    records: &'a Records,
+    switch: ObjId,
+    way: Way,
+    packet: &Packet,
+) -> Option<&'a Acl>
+    requires { IsSound records.now }
+    ensures { option_copied result ≡ first_on records.now way packet.now (option_copied best.entry) switch }
+{
+    match records.groups().after(None) {
+        None => best,
+        Some(_) => first_of_ports(best, records, switch, way, packet),
+    }
+}
+
+fn first_of_ports<'a>(
+    best: Option<&'a Acl>,
+    records: &'a Records,
+    switch: ObjId,
+    way: Way,
+    packet: &Packet,
+) -> Option<&'a Acl>
+    requires { IsSound records.now }
+    ensures { option_copied result ≡ first_on records.now way packet.now (option_copied best.entry) switch }
+{
+    let mut best = best;
     let mut last = None;
     while let Some(port) = records.port_on(switch, last) {
         best = first_with(best, records, port.id, way, packet);
         last = Some(port.id);
     }
-    best.map(|acl| acl.id)
+    best
 }
 
 // The first of an ACL and those of the groups that have a port, among those for the packet.

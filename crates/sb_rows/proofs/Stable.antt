@@ -1,5 +1,5 @@
 -- Rows that a stable sort left in order are those that are put one by one.
-use Rattle.std.proofs.Common.{◌≡◌, suc, Bool, true, false, not, cond, List, [], ◌∷◌, ◌++◌, get_or, sym, ap, refl, ◌∙◌, subst, append_assoc, add-one, arith}
+use Rattle.std.proofs.Common.{◌≡◌, suc, Bool, true, false, not, cond, List, [], ◌∷◌, ◌++◌, get_or, length, ◌<◌, sym, ap, refl, ◌∙◌, subst, append_assoc, add-one, arith}
 use Rattle.std.specs.Cmp.{IsStrictWeakOrder}
 use Rattle.std.specs.Ordering.{is_lt, is_gt}
 use Rattle.std.specs.List.{All, filter}
@@ -130,3 +130,9 @@ put_rows_ties (row ∷ more) rows up z =
 pub sorted_is_put : (rows more sorted : List Row) → IsInRowOrder rows → IsStable row_cmp (rows ++ more) sorted → IsInRowOrder sorted → sorted ≡ put_rows rows more
 sorted_is_put rows more sorted up stable sorted_up =
     one_in_order before ranked (put_rows rows more) sorted (put_rows_ordered more rows up) sorted_up (λ z. stable z ∙ sym (put_rows_ties more rows up z))
+
+-- none and one are put as they came
+pub few_are_put : (rows : List Row) → length rows < 2 → rows ≡ put_rows [] rows
+few_are_put [] few = refl
+few_are_put (row ∷ []) few = refl
+few_are_put (row ∷ next ∷ more) few = absurd (omega arith)

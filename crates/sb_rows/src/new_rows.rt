@@ -72,9 +72,10 @@ impl NewRows {
         ensures err { OnErr result (self.new ≡ self.old) }
     {
         let mut stored = list.into_stored();
-        if !stored.is_empty() {
-            self.stored.append(&mut stored)?;
+        if stored.is_empty() {
+            return Ok(());
         }
+        self.stored.append(&mut stored)?;
         Ok(())
     }
 
@@ -83,9 +84,10 @@ impl NewRows {
         ensures { IfOk result (λ list. list ≡ put_rows [] self) }
     {
         let mut stored = self.stored;
-        if 1 < stored.len() {
-            stored.sort_by(|one, other| one.order(other))?;
+        if stored.len() < 2 {
+            return Ok(RowList::from_stored(stored));
         }
+        stored.sort_by(|one, other| one.order(other))?;
         Ok(RowList::from_stored(stored))
     }
 

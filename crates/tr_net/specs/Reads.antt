@@ -2,6 +2,7 @@
 use Rattle.std.specs.Prelude.{Bool, true, ◌&&◌, IsTrue, List, [], ◌∷◌, Contains, Option, Some, None}
 use Rattle.std.specs.List.{list_all}
 use Rattle.nv_base.specs.declared.field.Field.{Field}
+use Rattle.nv_base.specs.declared.field.Field.TheVariants.{ArpSha, ArpSpa, Inport, IpTtl, Outport, Reg0}
 use Rattle.pkt_core.specs.Packet.{Values}
 use Rattle.pkt_core.specs.Prerequisite.{is_there}
 use Rattle.expr_core.specs.Lookup.{Lookup}
@@ -9,7 +10,7 @@ use Rattle.expr_eval.specs.MatchMeaning.{holds}
 use Rattle.act_core.specs.declared.action.Action.{Action}
 use Rattle.act_core.specs.declared.action.Action.TheVariants as action
 use Rattle.act_core.specs.declared.step.Step.{Step}
-use Rattle.act_core.specs.declared.step.Step.TheVariants.{Copy, Exchange}
+use Rattle.act_core.specs.declared.step.Step.TheVariants.{Copy, Exchange, DecTtl, PutArp, GetArp}
 use Rattle.nb_net.specs.Names.{names}
 use Rattle.nb_net.specs.Network.{Network}
 use Rattle.sb_model.specs.declared.row.Row.{Row}
@@ -22,6 +23,9 @@ use Rattle.tr_stage.specs.Machine.Effect.{Changed, Done}
 abbrev pub reads : Step → List Field
 reads (Copy field bits from) = from ∷ []
 reads (Exchange one other) = one ∷ other ∷ []
+reads DecTtl = IpTtl ∷ []
+reads PutArp = Inport ∷ ArpSpa ∷ ArpSha ∷ []
+reads GetArp = Outport ∷ Reg0 ∷ []
 reads _ = []
 
 -- what is asked of the packet that an action leaves; after one that ends the step nothing is

@@ -57,6 +57,18 @@ fn put_action(out: &mut Vec<u8>, action: &Action) -> Result<(), OutOfMemory>
     }
 }
 
+// What stands between an action and the one before it, where there is one.
+fn put_front(out: &mut Vec<u8>, front: &[u8]) -> Result<(), OutOfMemory>
+    ensures ok { OnOk result (out.new.items ≡ out.old.items ++ front.now) }
+    ensures err { OnErr result (out.new.items ≡ out.old.items) }
+{
+    if front.is_empty() {
+        return Ok(());
+    }
+    out.extend_from_slice(front)?;
+    Ok(())
+}
+
 /// Appends the text of an action list: `;` ends each action, and one space separates two. After `OutOfMemory` the bytes
 /// before are first, and part of the text may follow.
 pub fn put_actions(out: &mut Vec<u8>, actions: &[Action]) -> Result<(), OutOfMemory>
@@ -65,7 +77,7 @@ pub fn put_actions(out: &mut Vec<u8>, actions: &[Action]) -> Result<(), OutOfMem
 {
     let mut front = b"".as_slice();
     for action in actions {
-        out.extend_from_slice(front)?;
+        put_front(out, front)?;
         put_action(out, action)?;
         front = b" ".as_slice();
     }

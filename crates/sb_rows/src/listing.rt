@@ -131,7 +131,7 @@ fn put_stage(out: &mut Vec<u8>, stage: Stage) -> Result<(), OutOfMemory>
     put_number(out, u32::from(stage.table()))?;
     out.extend_from_slice(b" (")?;
     out.extend_from_slice(stage.name().as_bytes())?;
-    out.extend_from_slice(b")")?;
+    out.push(b')')?;
     Ok(())
 }
 

@@ -50,3 +50,17 @@ addresses_over ports =
 
 pub security_over : (ports : List Port) → nat_lt 32768 (sum_by (λ port. (port_weight port).1) ports) ≡ nat_lt 32768 (total (λ port. total tags.guard_count port.security) ports)
 security_over ports = same_test 32768 most _ _ (omega arith) (same_cut (λ port. total tags.guard_count port.security) (λ port. (port_weight port).1) most ports (λ port. refl))
+
+-- A sum that is within a bound far below is not cut off.
+not_cut : (bound cap a b : ℕ) → bound < cap → min a cap ≡ min b cap → b ≤ bound → a ≡ b
+not_cut bound cap a b low same less = omega (arith, low, same, less)
+
+pub addresses_whole : (ports : List Port) → total (λ port. total address_count port.addresses) ports ≤ 32768
+    → sum_by (λ port. (port_weight port).0) ports ≡ total (λ port. total address_count port.addresses) ports
+addresses_whole ports =
+    not_cut 32768 most _ _ (omega arith)
+    (same_cut (λ port. total address_count port.addresses) (λ port. (port_weight port).0) most ports (λ port. ap (λ n. min n most) (total_same tags.address_count address_count port.addresses same_counts)))
+
+pub security_whole : (ports : List Port) → total (λ port. total tags.guard_count port.security) ports ≤ 32768
+    → sum_by (λ port. (port_weight port).1) ports ≡ total (λ port. total tags.guard_count port.security) ports
+security_whole ports = not_cut 32768 most _ _ (omega arith) (same_cut (λ port. total tags.guard_count port.security) (λ port. (port_weight port).1) most ports (λ port. refl))

@@ -42,7 +42,7 @@ none_over None none = refl
 none_over (Some own) none = absurd (cc)
 
 -- each kind of a sound network is within its bound
-all_within : (net : Network) → IsSound net → AllByRecursion (λ own. nat_lt (bound own) (amount net own) ≡ false) kinds
+pub all_within : (net : Network) → IsSound net → AllByRecursion (λ own. nat_lt (bound own) (amount net own) ≡ false) kinds
 all_within net sound = none_pass (λ own. nat_lt (bound own) (amount net own)) kinds (none_over (find (λ own. nat_lt (bound own) (amount net own)) kinds) sound.within)
 
 vips_within : (net : Network) → IsSound net → nat_lt 64 (amount net kind.Vip) ≡ false

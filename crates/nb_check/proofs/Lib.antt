@@ -1,6 +1,7 @@
 pub mod AclSums
 pub mod Alike
 pub mod Attached
+pub mod Bounded
 pub mod Clipped
 pub mod Counted
 pub mod Edited

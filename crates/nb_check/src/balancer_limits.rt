@@ -75,8 +75,8 @@ pub(crate) fn is_vip_datapath_over(records: &Records) -> bool
     vip_datapaths(records, u64::from(bound(Kind::VipDatapath))).is_none()
 }
 
-// How many there are.
-fn vip_datapaths(records: &Records, bound: u64) -> Option<u64>
+/// How many there are, where they are within the bound.
+pub(crate) fn vip_datapaths(records: &Records, bound: u64) -> Option<u64>
     requires limitless { IsSoundButLimits records.now }
     ensures { result ≡ up_to bound (amount records.now kind.VipDatapath) }
 {

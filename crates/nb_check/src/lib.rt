@@ -2,6 +2,7 @@
 #![tactic(auto)]
 
 mod acl_limits;
+mod amounts;
 mod apply;
 mod balancer_limits;
 mod bounds;

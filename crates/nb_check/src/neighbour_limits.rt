@@ -21,8 +21,8 @@ pub(crate) fn is_neighbour_over(records: &Records) -> bool
     neighbours(records, u64::from(bound(Kind::Neighbour))).is_none()
 }
 
-// How many they know.
-fn neighbours(records: &Records, bound: u64) -> Option<u64>
+/// How many they know, where they are within the bound.
+pub(crate) fn neighbours(records: &Records, bound: u64) -> Option<u64>
     requires limitless { IsSoundButLimits records.now }
     ensures { result ≡ up_to bound (amount records.now kind.Neighbour) }
 {

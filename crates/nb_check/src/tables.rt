@@ -1,5 +1,7 @@
-ghost use Rattle.std.specs.Prelude.{◌≡◌, ◌+◌, ◌<◌, None, Ok, OnOk, OnErr, IfOk, IfErr, length};
+ghost use Rattle.std.specs.Prelude.{◌≡◌, ◌+◌, ◌<◌, ◌⊎◌, None, Ok, OnOk, OnErr, IfOk, IfErr, length};
 ghost use Rattle.std.specs.List.{AllByRecursion};
+ghost use Rattle.nb_core.specs.declared.refusal.Kind.TheVariants as kinds;
+ghost use Rattle.nb_net.specs.Amounts.{amount};
 ghost use Rattle.nb_net.specs.Effect.{effect};
 ghost use Rattle.nb_net.specs.Network.{empty_network};
 ghost use Rattle.nb_net.specs.Readable.{IsReadable};
@@ -9,12 +11,13 @@ ghost use Rattle.nb_net.specs.Transactions.{applied, edited};
 ghost use Rattle.nb_tables.specs.Undo.{back};
 ghost use Rattle.nb_words.specs.Fault.{IsFaultOf};
 
+use crate::amounts::amount;
 use crate::apply::{apply, apply_each, undo_all};
 use crate::ceilings::Ceilings;
-use nb_core::Edit;
+use nb_core::{Edit, Kind};
 use nb_tables::{Records, Undo};
 use nb_words::LineFault;
-use nv_base::Items;
+use nv_base::{Items, OutOfMemory};
 use std::alloc::Global;
 use std::marker::Model;
 
@@ -58,6 +61,15 @@ impl Tables {
         ensures sound { IsSound self.now }
     {
         &self.records
+    }
+
+    /// How much of a kind the network has, as the limits count it; of VIPs and backends the most that one load balancer, or one VIP, has
+    /// (not from OVN). Only what is counted once for each switch of an ACL takes memory.
+    pub fn count(&self, alloc: Global, kind: Kind) -> Result<u64, OutOfMemory>
+        ensures amount { IfOk result (λ count. count ≡ amount self.now kind) }
+        ensures memory { OnErr result ((kind ≡ kinds.AclSwitch) ⊎ (kind ≡ kinds.MatchText)) }
+    {
+        amount(alloc, &self.records, kind)
     }
 
     /// Does what an edit asks for, where no test refuses it, and answers what undoes it; else it is refused as the first

@@ -1,7 +1,6 @@
 -- Rows in row order rise by their tables, and a table's rows are those of one key.
-use Rattle.std.proofs.Common.{◌≡◌, ◌≢◌, ℕ, zero, suc, ◌+◌, ◌*◌, ◌-◌, ◌<◌, ◌≤◌, Bool, true, false, cond, List, [], ◌∷◌, length, length-drop, get_or, drop, eqb, ltb, sym, ap, refl, ◌∙◌, arith}
+use Rattle.std.proofs.Common.{◌≡◌, ℕ, zero, suc, ◌+◌, ◌*◌, ◌-◌, ◌<◌, ◌≤◌, Bool, true, false, cond, List, [], ◌∷◌, length, length-drop, get_or, drop, eqb, ltb, sym, ap, refl, ◌∙◌, arith}
 use Rattle.std.specs.Prelude.{◌&&◌, Some, None}
-use Rattle.std.specs.declared.cmp.Ordering.{Ordering}
 use Rattle.std.specs.Ordering.{is_lt, nat_cmp, ordering_then}
 use Rattle.std.specs.List.{All, AllWithin, find}
 use Rattle.std.specs.List.Sorted.{IsNonDecreasingBy, IsPartitionPoint}
@@ -15,7 +14,7 @@ use Rattle.expr_core.specs.Lookup.{Lookup}
 use Rattle.expr_eval.specs.MatchMeaning.{holds}
 use Rattle.sb_model.specs.declared.stage.Stage.{Stage}
 use Rattle.sb_model.specs.declared.row.Row.{Row}
-use Rattle.sb_rows.specs.Row.{key_cmp, row_cmp, IsInRowOrder}
+use Rattle.sb_rows.specs.Row.{key_cmp, IsInRowOrder}
 use Rattle.sb_rows.specs.Match.{is_in_table, select}
 use Rattle.sb_rows.specs.inner.Beside.{FitsItsKey, key_of_row, order_of_keys}
 use Rattle.sb_rows.specs.inner.Tables.{table_key, rank_key, key_of, find_while}

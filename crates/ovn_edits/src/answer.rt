@@ -1,3 +1,4 @@
+use crate::counts::put_counts;
 use crate::edits::readable_edits;
 use crate::room::has_room;
 use nb_check::Tables;
@@ -7,11 +8,11 @@ use nb_words::{Command, LineFault, read_commands};
 use nv_base::OutOfMemory;
 use std::alloc::Global;
 
-// Whether the commands are the query `dump` alone.
-fn is_dump(commands: &[Command]) -> bool {
+// Whether the commands are this query alone.
+fn is_query(commands: &[Command], query: &[u8]) -> bool {
     match commands {
         [command] => match command.words.as_slice() {
-            [word] => word.text.as_slice() == b"dump".as_slice(),
+            [word] => word.text.as_slice() == query,
             _ => false,
         },
         _ => false,
@@ -51,8 +52,10 @@ fn run_line(
     if commands.is_empty() {
         return Ok(());
     }
-    if is_dump(commands) {
+    if is_query(commands, b"dump") {
         put_records(out, tables.records())?;
+    } else if is_query(commands, b"count") {
+        put_counts(alloc, tables, out)?;
     } else {
         let edits = readable_edits(alloc, commands)?;
         if !has_room(tables.records().next(), edits.as_slice().len()) {
@@ -70,7 +73,7 @@ fn put_ok(out: &mut Vec<u8>) -> Result<(), OutOfMemory> {
     Ok(())
 }
 
-/// Does what the line asks for, and appends its answer: the lines of a dump, `ok`, or its refusal.
+/// Does what the line asks for, and appends its answer: the lines of a dump or of the counts and `ok`, or its refusal.
 pub(crate) fn put_answer(
     alloc: Global,
     tables: &mut Tables,

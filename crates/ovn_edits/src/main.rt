@@ -1,8 +1,9 @@
 //! `ovn_edits`: reads a script of editing commands on standard input, does what each line asks for, and answers each by `ok` or by its
-//! refusal; `dump` alone in a line is answered by the network, as the script that makes it.
+//! refusal; `dump` alone in a line is answered by the network, as the script that makes it, and `count` by how much there is of each kind.
 #![tactic(auto)]
 
 mod answer;
+mod counts;
 mod edits;
 mod room;
 

@@ -1,15 +1,14 @@
 -- How much there is in a sound network: of each kind no more than its bound.
-use Rattle.std.proofs.Common.{◌≡◌, ℕ, ◌≤◌, true, false, nat_lt, Option, Some, arith, subst, sym}
+use Rattle.std.proofs.Common.{◌≡◌, ℕ, ◌≤◌, false, nat_lt, Option, Some, arith, ap, ◌∙◌}
 use Rattle.std.proofs.lemmas.Bool.Decides.{nat_tests}
-use Rattle.std.specs.Prelude.{IsSome}
-use Rattle.nb_core.specs.declared.refusal.Kind.{Kind}
+use Rattle.std.specs.Prelude.{IsSome, is_some}
 use Rattle.nb_core.specs.declared.refusal.Kind.TheVariants as kind
-use Rattle.nb_net.specs.Amounts.{amount, bound}
+use Rattle.nb_net.specs.Amounts.{amount}
 use Rattle.nb_net.specs.Network.{Network}
 use Rattle.nb_net.specs.Sound.{IsSound}
 use Rattle.nb_check.specs.inner.Within.{up_to}
 use Rattle.nb_check.proofs.KnownAfter.{all_within}
-use Rattle.nb_check.proofs.Sums.{told, within}
+use Rattle.nb_check.proofs.Sums.{within}
 
 low : (limit n : ℕ) → nat_lt limit n ≡ false → n ≤ limit
 low limit n e = grind (arith, nat_tests, e)
@@ -47,7 +46,7 @@ pub is_told : (limit n : ℕ) (sum : Option ℕ) → n ≤ limit → sum ≡ up_
 is_told limit n sum less is = is ∙ within limit n less
 
 pub some_told : (n : ℕ) (sum : Option ℕ) → sum ≡ Some n → IsSome sum
-some_told n sum is = subst (λ (o : Option ℕ). IsSome o) (sym is) tt
+some_told n sum is = ap (λ (o : Option ℕ). is_some o) is
 
 pub the_told : (n s : ℕ) (sum : Option ℕ) → sum ≡ Some n → sum ≡ Some s → s ≡ n
 the_told n s sum is own = cc

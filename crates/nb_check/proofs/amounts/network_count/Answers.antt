@@ -1,11 +1,13 @@
-use Rattle.std.proofs.Common.{ap, ◌∙◌, arith, length}
+use Rattle.std.proofs.Common.{◌≡◌, ap, ◌∙◌, arith, length}
 use Rattle.std.specs.Prelude.{sum_by}
+use Rattle.nb_core.specs.declared.refusal.Kind.TheVariants as kind
 use Rattle.nb_core.specs.declared.router.RouterPort.{RouterPort}
+use Rattle.nb_net.specs.Amounts.{amount}
 use Rattle.nb_check.proofs.Bounded.{networks_low}
 use Rattle.nb_check.proofs.amounts.network_count.Goals as goal
 
 pub overflow_cast-result : goal.overflow_cast-result
 overflow_cast-result c =
-    let same = c.weights.ensures.first ∙ ap (sum_by (λ (port : RouterPort). length port.nets)) c.router_ports.ensures in
+    let same : c.weights.result.0 ≡ amount c.args.records.now kind.Network = c.weights.ensures.first ∙ ap (sum_by (λ (port : RouterPort). length port.nets)) c.router_ports.ensures in
     let low = networks_low c.args.records.now c.requires in
     omega (arith, same, low)

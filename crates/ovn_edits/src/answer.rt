@@ -1,21 +1,56 @@
+use crate::choice::put_deciding;
 use crate::counts::put_counts;
 use crate::edits::readable_edits;
 use crate::room::has_room;
 use nb_check::Tables;
 use nb_dump::{Objects, put_dump};
 use nb_tables::Records;
-use nb_words::{Command, LineFault, read_commands};
+use nb_words::{Command, LineFault, Word, read_commands};
 use nv_base::OutOfMemory;
 use std::alloc::Global;
 
-// Whether the commands are this query alone.
-fn is_query(commands: &[Command], query: &[u8]) -> bool {
-    match commands {
-        [command] => match command.words.as_slice() {
-            [word] => word.text.as_slice() == query,
-            _ => false,
-        },
-        _ => false,
+// What a line asks for that is no edit.
+enum Query<'c> {
+    // The network as a script.
+    Dump,
+    // How much there is of each kind.
+    Count,
+    // Which ACLs of a switch decide on a packet from one MAC to another.
+    Deciding(&'c Word, &'c Word, &'c Word),
+}
+
+// The query that the commands are.
+fn query_of(commands: &[Command]) -> Option<Query> {
+    let [command] = commands else {
+        return None;
+    };
+    match command.words.as_slice() {
+        [word] if is_word(word, b"dump") => Some(Query::Dump),
+        [word] if is_word(word, b"count") => Some(Query::Count),
+        [word, switch, source, destination] if is_word(word, b"deciding") => {
+            Some(Query::Deciding(switch, source, destination))
+        }
+        _ => None,
+    }
+}
+
+fn is_word(word: &Word, text: &[u8]) -> bool {
+    word.text.as_slice() == text
+}
+
+// Appends the answer to a query.
+fn put_query(
+    alloc: Global,
+    tables: &Tables,
+    out: &mut Vec<u8>,
+    query: Query,
+) -> Result<(), OutOfMemory> {
+    match query {
+        Query::Dump => put_records(out, tables.records()),
+        Query::Count => put_counts(alloc, tables, out),
+        Query::Deciding(switch, source, destination) => {
+            put_deciding(alloc, tables.records(), out, switch, source, destination)
+        }
     }
 }
 
@@ -52,10 +87,8 @@ fn run_line(
     if commands.is_empty() {
         return Ok(());
     }
-    if is_query(commands, b"dump") {
-        put_records(out, tables.records())?;
-    } else if is_query(commands, b"count") {
-        put_counts(alloc, tables, out)?;
+    if let Some(query) = query_of(commands) {
+        put_query(alloc, tables, out, query)?;
     } else {
         let edits = readable_edits(alloc, commands)?;
         if !has_room(tables.records().next(), edits.as_slice().len()) {
@@ -73,7 +106,7 @@ fn put_ok(out: &mut Vec<u8>) -> Result<(), OutOfMemory> {
     Ok(())
 }
 
-/// Does what the line asks for, and appends its answer: the lines of a dump or of the counts and `ok`, or its refusal.
+/// Does what the line asks for, and appends its answer: the lines of a query and `ok`, or its refusal.
 pub(crate) fn put_answer(
     alloc: Global,
     tables: &mut Tables,

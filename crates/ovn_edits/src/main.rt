@@ -1,8 +1,10 @@
 //! `ovn_edits`: reads a script of editing commands on standard input, does what each line asks for, and answers each by `ok` or by its
-//! refusal; `dump` alone in a line is answered by the network, as the script that makes it, and `count` by how much there is of each kind.
+//! refusal; `dump` alone in a line is answered by the network, as the script that makes it, `count` by how much there is of each kind,
+//! and `deciding` before a switch and two MACs by the ACL that decides in each direction on a packet from the first to the second.
 #![tactic(auto)]
 
 mod answer;
+mod choice;
 mod counts;
 mod edits;
 mod room;

@@ -1,0 +1,59 @@
+use nb_core::Way;
+use nb_tables::Records;
+use nb_words::Word;
+use net_choice::acl_first;
+use nv_base::{BadText, Field, Mac, Name, OutOfMemory, put_dec, read_mac};
+use pkt_core::Packet;
+use std::alloc::Global;
+
+// A packet from one MAC to another.
+fn packet_between(source: Mac, destination: Mac) -> Packet {
+    let mut packet = Packet::zero();
+    packet.set(Field::EthSrc, u128::from(source.0));
+    packet.set(Field::EthDst, u128::from(destination.0));
+    packet
+}
+
+// The packet of these two words.
+fn packet_of(source: &Word, destination: &Word) -> Result<Packet, BadText> {
+    Ok(packet_between(
+        read_mac(source.text.as_slice())?,
+        read_mac(destination.text.as_slice())?,
+    ))
+}
+
+// Appends a direction and the number of the ACL that decides in it, or `none`.
+fn put_choice(out: &mut Vec<u8>, way: &[u8], acl: Option<u32>) -> Result<(), OutOfMemory> {
+    out.extend_from_slice(way)?;
+    out.push(b' ')?;
+    match acl {
+        Some(number) => put_dec(out, u128::from(number))?,
+        None => out.extend_from_slice(b"none")?,
+    }
+    out.push(b'\n')?;
+    Ok(())
+}
+
+/// Appends the ACL of a switch that decides on a packet from one MAC to another, in each direction. Nothing is appended where a word is
+/// none of these.
+pub(crate) fn put_deciding(
+    alloc: Global,
+    records: &Records,
+    out: &mut Vec<u8>,
+    switch: &Word,
+    source: &Word,
+    destination: &Word,
+) -> Result<(), OutOfMemory> {
+    let name = Name::from_slice(alloc, switch.text.as_slice())?;
+    let Some(switch) = records.switch_id(&name) else {
+        return Ok(());
+    };
+    let Ok(packet) = packet_of(source, destination) else {
+        return Ok(());
+    };
+    let from = acl_first(records, switch, Way::From, &packet);
+    put_choice(out, b"from-lport", from.map(|acl| acl.0))?;
+    let to = acl_first(records, switch, Way::To, &packet);
+    put_choice(out, b"to-lport", to.map(|acl| acl.0))?;
+    Ok(())
+}

@@ -15,14 +15,6 @@ both_ways true false to back = sym (to refl)
 both_ways false true to back = back refl
 both_ways false false to back = refl
 
-pub or_assoc : (a b c : Bool) → ((a || b) || c) ≡ (a || (b || c))
-or_assoc true b c = refl
-or_assoc false b c = refl
-
-pub or_none : (a : Bool) → (a || false) ≡ a
-or_none true = refl
-or_none false = refl
-
 -- numbers are compared in either order
 pub same_turned : (a b : ObjId) → same a b ≡ same b a
 same_turned a b = grind (arith, nat_tests)

@@ -1,5 +1,6 @@
 -- The owners whose ACLs apply to a switch, and what the inputs of units say of the network.
 use Rattle.std.proofs.Common.{◌≡◌, ◌<◌, Bool, true, false, not, ◌&&◌, ◌||◌, cond, List, [], ◌∷◌, ◌++◌, append-nil, map, Some, None, refl, sym, ap, ◌∙◌, subst, arith}
+use Rattle.std.proofs.Math.Bool.{or-false}
 use Rattle.std.specs.Prelude.{◌↔◌, filter}
 use Rattle.std.specs.List.{AllByRecursion, Contains, flat_map, list_any}
 use Rattle.std.proofs.lemmas.Bool.{and_parts}
@@ -136,11 +137,7 @@ only_one switch q (s ∷ switches) rise found = by (same switch.id s.id) refl fo
     by true is at rest =
         let one : s ≡ switch = same_Some s switch at in
         let above = subst (λ (x : Switch). AllByRecursion (λ y. x.id.0 < y.id.0) switches) one rise.0 in
-        rw (same_turned s.id switch.id ∙ is, none_above switch.id q switches above) (or_none (q s) ∙ ap q one)
-      where
-        or_none : (b : Bool) → (b || false) ≡ b
-        or_none true = refl
-        or_none false = refl
+        rw (same_turned s.id switch.id ∙ is, none_above switch.id q switches above) (or-false (q s) ∙ ap q one)
     by false is at rest = rw (same_turned s.id switch.id ∙ is) (rest at)
 
 -- a load balancer is attached to the switch where it lists one

@@ -1,4 +1,5 @@
 use Rattle.std.proofs.Common.{◌&&◌, ◌||◌, ◌++◌, ap, refl, sym, ◌∙◌}
+use Rattle.std.proofs.Math.Bool.{or-false, or_assoc}
 use Rattle.std.specs.Prelude.{Some}
 use Rattle.std.specs.List.{flat_map, list_any}
 use Rattle.nb_core.specs.declared.switch.Port.{Port}
@@ -8,7 +9,6 @@ use Rattle.nb_table.specs.Table.{is_after}
 use Rattle.nb_tables.proofs.Peering.{found_is_record}
 use Rattle.nd_units.specs.inner.Made.{port_units}
 use Rattle.nd_units.specs.inner.Owners.{ports_on}
-use Rattle.nd_units.proofs.Any.{or_assoc, or_none}
 use Rattle.nd_units.proofs.Applied.{some_unknown}
 use Rattle.nd_units.proofs.Sound.{ports_rise}
 use Rattle.nd_units.proofs.Through.{all_left, these_after, these_fewer, these_next, these_none, these_or, these_whole}
@@ -50,7 +50,7 @@ returns-clause-rows c =
 pub returns-clause-unknown : goal.returns-clause-unknown
 returns-clause-unknown c =
     let left = these_after (λ (x : Port). x.id) (λ (x : Port). same c.args.switch x.switch) c.loop-port.last c.args.records.now.ports in
-    sym (or_none c.loop-port.unknown)
+    sym (or-false c.loop-port.unknown)
     ∙ ap (λ b. c.loop-port.unknown || b) (these_none (λ (x : Port). x.id) (λ (x : Port). same c.args.switch x.switch) c.loop-port.last c.args.records.now.ports c.in_default.ensures
     (λ (x : Port). x.enabled && takes_unknown x) (list_any (λ (x : Port). x.enabled && takes_unknown x) left) refl)
     ∙ c.loop-port.invariant.unknown

@@ -1,5 +1,6 @@
 -- The greatest amount of a list, looked for one by one.
 use Rattle.std.proofs.Common.{◌≡◌, ℕ, ◌<◌, ◌≤◌, Bool, true, false, nat_lt, max, List, [], ◌∷◌, arith, refl, sym, ap, ◌∙◌}
+use Rattle.std.specs.Ordering.{nat_cmp, ord_max}
 use Rattle.std.proofs.lemmas.Bool.Decides.{nat_tests}
 use Rattle.nb_net.specs.Amounts.{greatest}
 
@@ -8,6 +9,10 @@ is_more most n more = grind (arith, nat_tests, more)
 
 pub is_no_more : (most n : ℕ) → n ≤ most → nat_lt most n ≡ false
 is_no_more most n less = grind (arith, nat_tests, less)
+
+-- The greater of two.
+pub greater : (a b : ℕ) → ord_max nat_cmp a b ≡ max a b
+greater a b = grind (arith, nat_tests)
 
 -- The greatest so far is with those that are left the greatest of all.
 pub most_begins : (all : ℕ) → max 0 all ≡ all

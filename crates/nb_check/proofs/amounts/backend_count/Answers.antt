@@ -1,7 +1,7 @@
-use Rattle.std.proofs.Common.{sym, ◌∙◌, ap, max, length}
+use Rattle.std.proofs.Common.{◌∙◌, ap, max, length}
 use Rattle.nb_core.specs.declared.balancer.Lb.{Lb}
 use Rattle.nb_net.specs.Amounts.{greatest}
-use Rattle.nb_check.proofs.Greatest.{most_begins, most_goes_on, most_ends}
+use Rattle.nb_check.proofs.Greatest.{greater, most_begins, most_goes_on, most_ends}
 use Rattle.nb_check.proofs.Rest.{next_left, none_left, first_left}
 use Rattle.nb_check.proofs.Sums.{fewer}
 use Rattle.nb_check.proofs.amounts.backend_count.Goals as goal
@@ -14,9 +14,9 @@ loop-after-init c = most_begins _ ∙ ap (greatest (λ (lb : Lb). greatest (λ v
 
 pub loop-after-preserved : goal.loop-after-preserved
 loop-after-preserved c =
-    most_goes_on (λ (lb : Lb). greatest (λ vip. length vip.backends) lb.vips) c.loop-after.most c.max.result _ _ c.in-Some.lb.now _ c.loop-after.invariant
+    most_goes_on (λ (lb : Lb). greatest (λ vip. length vip.backends) lb.vips) c.loop-after.most c.max-most.result _ _ c.in-Some.lb.now _ c.loop-after.invariant
     (next_left (λ (lb : Lb). lb.id) c.loop-after.after c.args.records.now.lbs c.in-Some.lb.now c.lbs.result.now c.lbs.ensures c.in-Some.ensures.rise c.in-Some.ensures.record)
-    (c.max.ensures ∙ ap (max c.loop-after.most) c.most_backends.ensures)
+    (c.max-most.ensures ∙ greater _ _ ∙ ap (max c.loop-after.most) c.most_backends.ensures)
 
 pub returns : goal.returns
 returns c = most_ends (λ (lb : Lb). greatest (λ vip. length vip.backends) lb.vips) _ _ _ c.loop-after.invariant (none_left (λ (lb : Lb). lb.id) c.loop-after.after c.args.records.now.lbs c.lbs.result.now c.lbs.ensures c.in_default.ensures.record)

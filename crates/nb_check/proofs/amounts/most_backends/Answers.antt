@@ -1,7 +1,6 @@
 use Rattle.std.proofs.Common.{ap, ◌∙◌, max, length, List}
 use Rattle.nb_core.specs.declared.balancer.Backend.{Backend}
-use Rattle.nb_net.specs.Amounts.{greatest}
-use Rattle.nb_check.proofs.Greatest.{most_begins, most_goes_on, most_ends}
+use Rattle.nb_check.proofs.Greatest.{greater, most_begins, most_goes_on, most_ends}
 use Rattle.nb_check.proofs.Rest.{next_dropped, none_dropped}
 use Rattle.nb_check.proofs.amounts.most_backends.Goals as goal
 
@@ -10,9 +9,9 @@ loop-vip-init c = most_begins _
 
 pub loop-vip-preserved : goal.loop-vip-preserved
 loop-vip-preserved c =
-    most_goes_on (λ vip. length vip.backends) c.loop-vip.most c.max.result _ _ c.vip-item.result _ c.loop-vip.invariant
+    most_goes_on (λ vip. length vip.backends) c.loop-vip.most c.max-most.result _ _ c.vip-item.result _ c.loop-vip.invariant
     (next_dropped c.as_slice-vip-items.result.now c.args.lb.now.vips c.loop-vip.vip-index c.vip-item.result c.as_slice-vip-items.ensures c.loop-vip-test.true c.vip-item.is)
-    (c.max.ensures ∙ ap (λ (l : List Backend). max c.loop-vip.most (length l)) c.as_slice.ensures)
+    (c.max-most.ensures ∙ greater _ _ ∙ ap (λ (l : List Backend). max c.loop-vip.most (length l)) c.as_slice.ensures)
 
 pub returns : goal.returns
 returns c =

@@ -16,7 +16,11 @@ enum Query<'c> {
     // How much there is of each kind.
     Count,
     // Which ACLs of a switch decide on a packet from one MAC to another.
-    Deciding(&'c Word, &'c Word, &'c Word),
+    Deciding {
+        switch: &'c Word,
+        source: &'c Word,
+        destination: &'c Word,
+    },
 }
 
 // The query that the commands are.
@@ -28,7 +32,11 @@ fn query_of(commands: &[Command]) -> Option<Query> {
         [word] if is_word(word, b"dump") => Some(Query::Dump),
         [word] if is_word(word, b"count") => Some(Query::Count),
         [word, switch, source, destination] if is_word(word, b"deciding") => {
-            Some(Query::Deciding(switch, source, destination))
+            Some(Query::Deciding {
+                switch,
+                source,
+                destination,
+            })
         }
         _ => None,
     }
@@ -44,13 +52,15 @@ fn put_query(
     tables: &Tables,
     out: &mut Vec<u8>,
     query: Query,
-) -> Result<(), OutOfMemory> {
+) -> Result<(), LineFault> {
     match query {
-        Query::Dump => put_records(out, tables.records()),
-        Query::Count => put_counts(alloc, tables, out),
-        Query::Deciding(switch, source, destination) => {
-            put_deciding(alloc, tables.records(), out, switch, source, destination)
-        }
+        Query::Dump => Ok(put_records(out, tables.records())?),
+        Query::Count => Ok(put_counts(alloc, tables, out)?),
+        Query::Deciding {
+            switch,
+            source,
+            destination,
+        } => put_deciding(alloc, tables.records(), out, switch, source, destination),
     }
 }
 
@@ -106,7 +116,7 @@ fn put_ok(out: &mut Vec<u8>) -> Result<(), OutOfMemory> {
     Ok(())
 }
 
-/// Does what the line asks for, and appends its answer: the lines of a query and `ok`, or its refusal.
+/// Does what the line asks for, and appends its answer: `ok`, after the lines of a query, or its refusal.
 pub(crate) fn put_answer(
     alloc: Global,
     tables: &mut Tables,

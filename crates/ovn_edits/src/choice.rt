@@ -1,8 +1,8 @@
-use nb_core::Way;
+use nb_core::{Refusal, Way};
 use nb_tables::Records;
-use nb_words::Word;
+use nb_words::{LineFault, Word};
 use net_choice::acl_first;
-use nv_base::{BadText, Field, Mac, Name, OutOfMemory, put_dec, read_mac};
+use nv_base::{Field, Mac, Name, OutOfMemory, put_dec, read_mac};
 use pkt_core::Packet;
 use std::alloc::Global;
 
@@ -14,12 +14,12 @@ fn packet_between(source: Mac, destination: Mac) -> Packet {
     packet
 }
 
-// The packet of these two words.
-fn packet_of(source: &Word, destination: &Word) -> Result<Packet, BadText> {
-    Ok(packet_between(
-        read_mac(source.text.as_slice())?,
-        read_mac(destination.text.as_slice())?,
-    ))
+// The MAC of the word of this number, or `BadMac`.
+fn mac_of(word: &Word, number: u32) -> Result<Mac, LineFault> {
+    match read_mac(word.text.as_slice()) {
+        Ok(mac) => Ok(mac),
+        Err(_) => Err(LineFault::Refused(Refusal::BadMac(number))),
+    }
 }
 
 // Appends a direction and the number of the ACL that decides in it, or `none`.
@@ -34,8 +34,8 @@ fn put_choice(out: &mut Vec<u8>, way: &[u8], acl: Option<u32>) -> Result<(), Out
     Ok(())
 }
 
-/// Appends the ACL of a switch that decides on a packet from one MAC to another, in each direction. Nothing is appended where a word is
-/// none of these.
+/// Appends the ACL of a switch that decides on a packet from one MAC to another, in each direction. The words are the second to the
+/// fourth of the line: a switch that is not there is `NoSuchObject`, and a MAC that is none `BadMac`.
 pub(crate) fn put_deciding(
     alloc: Global,
     records: &Records,
@@ -43,14 +43,14 @@ pub(crate) fn put_deciding(
     switch: &Word,
     source: &Word,
     destination: &Word,
-) -> Result<(), OutOfMemory> {
+) -> Result<(), LineFault> {
+    let source = mac_of(source, 3)?;
+    let destination = mac_of(destination, 4)?;
     let name = Name::from_slice(alloc, switch.text.as_slice())?;
     let Some(switch) = records.switch_id(&name) else {
-        return Ok(());
+        return Err(LineFault::Refused(Refusal::NoSuchObject(name)));
     };
-    let Ok(packet) = packet_of(source, destination) else {
-        return Ok(());
-    };
+    let packet = packet_between(source, destination);
     let from = acl_first(records, switch, Way::From, &packet);
     put_choice(out, b"from-lport", from.map(|acl| acl.0))?;
     let to = acl_first(records, switch, Way::To, &packet);

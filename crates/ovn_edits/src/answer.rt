@@ -60,7 +60,7 @@ fn put_query(
             switch,
             source,
             destination,
-        } => put_deciding(alloc, tables.records(), out, switch, source, destination),
+        } => put_deciding(alloc, tables, out, switch, source, destination),
     }
 }
 

@@ -1,5 +1,5 @@
+use nb_check::Tables;
 use nb_core::{Refusal, Way};
-use nb_tables::Records;
 use nb_words::{LineFault, Word};
 use net_choice::acl_first;
 use nv_base::{Field, Mac, Name, OutOfMemory, put_dec, read_mac};
@@ -38,12 +38,13 @@ fn put_choice(out: &mut Vec<u8>, way: &[u8], acl: Option<u32>) -> Result<(), Out
 /// fourth of the line: a switch that is not there is `NoSuchObject`, and a MAC that is none `BadMac`.
 pub(crate) fn put_deciding(
     alloc: Global,
-    records: &Records,
+    tables: &Tables,
     out: &mut Vec<u8>,
     switch: &Word,
     source: &Word,
     destination: &Word,
 ) -> Result<(), LineFault> {
+    let records = tables.records();
     let source = mac_of(source, 3)?;
     let destination = mac_of(destination, 4)?;
     let name = Name::from_slice(alloc, switch.text.as_slice())?;

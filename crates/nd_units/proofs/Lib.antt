@@ -5,3 +5,4 @@ pub mod Any
 pub mod Same
 pub mod Sound
 pub mod Through
+pub mod Unguarded

@@ -22,7 +22,7 @@ pub fn read_ip4(text: &[u8]) -> Result<Ip4, BadText>
     }
 }
 
-/// Writes a byte in decimal so that it ends there, and returns where it begins.
+/// Writes a byte in decimal so that it ends at `end`, and returns where it begins.
 fn write_octet(text: &mut [u8; 15], byte: u8, end: usize) -> usize
     requires { (3 ≤ end) × (end ≤ 15) }
     ensures begins { end ≤ result + 3 }
@@ -32,7 +32,7 @@ fn write_octet(text: &mut [u8; 15], byte: u8, end: usize) -> usize
     write_digits(u64::from(byte), text, end)
 }
 
-/// Writes a byte in decimal after `.` so that it ends there, and returns where the `.` is.
+/// Writes a byte in decimal after `.` so that it ends at `end`, and returns where the `.` is.
 fn write_next_octet(text: &mut [u8; 15], byte: u8, end: usize) -> usize
     requires { (4 ≤ end) × (end ≤ 15) }
     ensures begins { end ≤ result + 4 }

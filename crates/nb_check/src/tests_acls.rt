@@ -2,7 +2,7 @@
 ghost use Rattle.std.specs.Prelude.{◌≡◌, IfOk, IfErr};
 ghost use Rattle.expr_check.specs.Printed.{IsPrintable};
 ghost use Rattle.nb_core.specs.declared.edit.Edit.TheVariants as edit;
-ghost use Rattle.nb_edit.specs.Readings.{role_of};
+ghost use Rattle.nb_read.specs.Readings.{role_of};
 ghost use Rattle.nb_net.specs.Sound.{IsSound};
 ghost use Rattle.nb_net.specs.Tests.{acl_number};
 ghost use Rattle.nb_check.specs.inner.Tested.{Passes, Refuses};

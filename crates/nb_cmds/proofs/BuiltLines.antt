@@ -15,9 +15,10 @@ use Rattle.nb_edit.specs.Commands.{suits, fits, is_once, is_well_formed, other_o
 use Rattle.nb_edit.specs.Edits as edits
 use Rattle.nb_edit.specs.Edits.{owner_kind, rule}
 use Rattle.nb_edit.specs.Forms.{form, verbs, verb_of}
-use Rattle.nb_edit.specs.Keywords.{is_whole, verdict_of}
-use Rattle.nb_edit.specs.Lists.{addresses, guards}
-use Rattle.nb_edit.specs.Readings.{object_name, owner_name, way, verdict, state, priority, acl_match}
+use Rattle.nb_read.specs.Keywords.{verdict_of}
+use Rattle.nb_edit.specs.Keywords.{is_whole}
+use Rattle.nb_read.specs.Lists.{addresses, guards}
+use Rattle.nb_read.specs.Readings.{object_name, owner_name, way, verdict, state, priority, acl_match}
 use Rattle.nb_edit.specs.declared.form.Place.TheVariants as place
 use Rattle.nb_edit.specs.declared.form.Tail.TheVariants.{Ends}
 use Rattle.nb_edit.specs.declared.verb.Verb.{Verb}

@@ -39,7 +39,7 @@ use Rattle.expr_check.specs.Check.{checked}
 use Rattle.expr_check.specs.declared.fault.TypeFault.{TypeFault}
 use Rattle.expr_check.proofs.Passed.{well_typed}
 use Rattle.nb_core.specs.declared.refusal.Refusal.{Refusal}
-use Rattle.nb_edit.specs.Readings.{checked_match, parsed_match}
+use Rattle.nb_read.specs.Readings.{checked_match, parsed_match}
 use Rattle.nb_net.proofs.Reading.{goes_on, there_after}
 use Rattle.pkt_core.specs.Packet.{Values, IsPacket, place, value, with_value, with_values, zero_packet}
 use Rattle.pkt_core.proofs.Only.{place_within, field_at}
@@ -58,10 +58,6 @@ From {X} f = X
 
 abbrev Equality : Type 0
 Equality = From numbered
-
--- a match that passes the check of microflows is well-typed
-pub is_typed : (e : Formula Atom) (t : Formula TypedAtom) → checked role.Micro e ≡ Ok t → IsTyped role.Micro t
-is_typed e t passes = (well_typed role.Micro e t passes).1
 
 -- ---- packets
 

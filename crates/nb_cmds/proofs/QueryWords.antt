@@ -9,7 +9,7 @@ use Rattle.nb_words.specs.Commands.{read_commands}
 use Rattle.nb_words.specs.declared.command.Command.{Command}
 use Rattle.nb_words.specs.declared.word.Word.{Word}
 use Rattle.nb_edit.specs.Commands.{option_count}
-use Rattle.nb_edit.specs.Readings.{object_name}
+use Rattle.nb_read.specs.Readings.{object_name}
 use Rattle.nb_net.proofs.Reading.{goes_on, goes_on_anyway, not_refused}
 use Rattle.nb_net.proofs.WordReadings.{object_name_given}
 use Rattle.pkt_core.specs.Packet.{IsPacket}

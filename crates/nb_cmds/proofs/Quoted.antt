@@ -12,7 +12,7 @@ use Rattle.nb_words.specs.Commands.{command, commands_of, is_between, numbered, 
 use Rattle.nb_words.specs.Quoting.{is_quotable, quoted_word}
 use Rattle.nb_words.specs.Words.{words_of}
 use Rattle.nb_words.proofs.Quoting.{quoted_words_are_read}
-use Rattle.nb_edit.specs.Call.{and_then}
+use Rattle.nb_read.specs.Then.{and_then}
 use Rattle.nb_edit.specs.Forms.{verbs}
 use Rattle.nb_cmds.specs.Lines.{said}
 use Rattle.nb_cmds.specs.Quoted.{quoted_switch, IsRead}

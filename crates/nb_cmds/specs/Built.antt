@@ -7,7 +7,7 @@ use Rattle.nb_core.specs.declared.refusal.Refusal.TheVariants.{NotInProfile}
 use Rattle.nb_words.specs.Commands.{command}
 use Rattle.nb_words.specs.declared.command.Command.{Command}
 use Rattle.nb_words.specs.declared.word.Word.{Word}
-use Rattle.nb_edit.specs.Call.{and_then}
+use Rattle.nb_read.specs.Then.{and_then}
 use Rattle.nb_edit.specs.Commands.{is_taken, option_count, read_command}
 use Rattle.nb_edit.specs.declared.verb.Verb.{Verb}
 use Rattle.nb_edit.specs.declared.verb.Verb.TheVariants.{LspSetAddresses, AclAdd}

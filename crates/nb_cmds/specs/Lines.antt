@@ -7,7 +7,7 @@ use Rattle.nb_core.specs.declared.refusal.Refusal.TheVariants.{UnknownCommand, W
 use Rattle.nb_words.specs.Commands.{read_commands}
 use Rattle.nb_words.specs.declared.command.Command.{Command}
 use Rattle.nb_words.specs.declared.word.Word.{Word}
-use Rattle.nb_edit.specs.Call.{and_then}
+use Rattle.nb_read.specs.Then.{and_then}
 use Rattle.nb_edit.specs.Commands.{option_count}
 use Rattle.nb_cmds.specs.Built.{edit_of}
 use Rattle.nb_cmds.specs.Queries.{no_other_option, asked}

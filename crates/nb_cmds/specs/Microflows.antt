@@ -5,8 +5,8 @@ use Rattle.expr_parse.specs.Grammar.{reading}
 use Rattle.nb_core.specs.declared.refusal.MicroRule.TheVariants as rule
 use Rattle.nb_core.specs.declared.refusal.Refusal.{Refusal}
 use Rattle.nb_core.specs.declared.refusal.Refusal.TheVariants.{WrongWords, BadMicroflow}
-use Rattle.nb_edit.specs.Call.{and_then}
-use Rattle.nb_edit.specs.Readings.{parsed_match}
+use Rattle.nb_read.specs.Then.{and_then}
+use Rattle.nb_read.specs.Readings.{parsed_match}
 use Rattle.pkt_micro.specs.Microflow.{microflow}
 use Rattle.pkt_micro.specs.declared.fault.MicroFault.{MicroFault}
 use Rattle.pkt_micro.specs.declared.fault.MicroFault.TheVariants as fault

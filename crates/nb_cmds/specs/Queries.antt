@@ -5,9 +5,9 @@ use Rattle.nb_core.specs.declared.refusal.Refusal.{Refusal}
 use Rattle.nb_core.specs.declared.refusal.Refusal.TheVariants.{WrongWords, NotInProfile}
 use Rattle.nb_words.specs.declared.command.Command.{Command}
 use Rattle.nb_words.specs.declared.word.Word.{Word}
-use Rattle.nb_edit.specs.Call.{and_then}
+use Rattle.nb_read.specs.Then.{and_then}
 use Rattle.nb_edit.specs.Commands.{option_count}
-use Rattle.nb_edit.specs.Readings.{object_name}
+use Rattle.nb_read.specs.Readings.{object_name}
 use Rattle.nb_cmds.specs.Microflows.{micro_of}
 use Rattle.nb_cmds.specs.declared.query.Query.{Query}
 use Rattle.nb_cmds.specs.declared.query.Query.TheVariants.{FlowList, Trace, Dump}

@@ -2,36 +2,12 @@
 ghost use Rattle.std.specs.Prelude.{◌≡◌, ◌≤◌, ◌<◌, ◌+◌, ◌^◌, Ok, IfOk, IfErr, IfSome, true, length, position};
 ghost use Rattle.nb_words.specs.Commands.{is_small};
 ghost use Rattle.nb_words.specs.Fault.{IsFaultOf};
-ghost use Rattle.nb_edit.specs.Commands.{is_taken};
-ghost use Rattle.nb_edit.specs.Keywords.{is_flag};
 ghost use Rattle.nb_cmds.specs.Built.{is_refused, refused_option, is_router, router_place, related_place, unbuilt, unbuilt_word, not_built, built, optioned, edit_of};
 
 use nb_core::{Edit, Refusal};
-use nb_edit::{Flag, Verb, option_count, read_command, read_words};
+use nb_edit::{Verb, is_taken, option_count, read_command, read_words};
 use nb_words::{Command, LineFault, Word};
 use std::alloc::Global;
-
-// Whether the word is this option, as far as its name goes.
-fn is_flag(flag: Flag, text: &[u8]) -> bool
-    ensures { result ≡ is_flag flag text.now }
-{
-    match flag {
-        Flag::MayExist => text == b"--may-exist".as_slice(),
-        Flag::IfExists => text == b"--if-exists".as_slice(),
-        Flag::Policy => text.starts_with(b"--policy="),
-        Flag::OwnerType => text.starts_with(b"--type="),
-    }
-}
-
-// Whether the word is an option that the command takes, as far as its name goes.
-fn is_taken(verb: Verb, word: &Word) -> bool
-    ensures { result ≡ is_taken verb word.now }
-{
-    verb.form()
-        .flags
-        .iter()
-        .any(|flag| is_flag(*flag, word.text.as_slice()))
-}
 
 // Whether the option is refused: the command does not take it, or it asks for ACLs of port groups.
 fn is_refused(verb: Verb, word: &Word) -> bool

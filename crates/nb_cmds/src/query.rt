@@ -9,7 +9,8 @@ ghost use Rattle.nb_cmds.specs.Queries.{is_minimal, takes, no_other_option, trac
 use crate::microflow::micro_of;
 use crate::task::Question;
 use nb_core::Refusal;
-use nb_edit::{object_name, option_count};
+use nb_edit::option_count;
+use nb_read::object_name;
 use nb_words::{Command, LineFault, Word};
 use nv_base::Name;
 use pkt_micro::Micro;

@@ -4,6 +4,7 @@ use Rattle.std.specs.List.{list_any, slice_get}
 use Rattle.std.specs.Str.{bytes_eq}
 use Rattle.nb_core.specs.declared.refusal.Refusal.{Refusal}
 use Rattle.nb_words.specs.declared.word.Word.{Word}
+use Rattle.nb_read.specs.Then.{and_then}
 
 -- a command: its options, the words after its name, and the number of the first of these in the line
 pub record Call : Type 0 where
@@ -47,11 +48,6 @@ if_exists call = stands call (codes "--if-exists")
 -- what a reading makes of the word at this place: it gets its number and its bytes
 abbrev pub at : {X : Type 0} → Call → ℕ → (ℕ → List ℕ → Result X Refusal) → Result X Refusal
 at call place reading = reading (number call place) (text call place)
-
--- go on with what was read
-abbrev pub and_then : {X Y : Type 0} → Result X Refusal → (X → Result Y Refusal) → Result Y Refusal
-and_then (Ok x) go_on = go_on x
-and_then (Err refusal) go_on = Err refusal
 
 -- what a reading makes of the word at this place, where there is one
 abbrev pub maybe : {X : Type 0} → Call → ℕ → (ℕ → List ℕ → Result X Refusal) → Result (Option X) Refusal

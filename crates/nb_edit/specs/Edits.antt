@@ -15,9 +15,10 @@ use Rattle.nb_core.specs.declared.router.RouteBy.{RouteBy}
 use Rattle.nb_core.specs.declared.router.RouteBy.TheVariants.{Dst, Src}
 use Rattle.nb_edit.specs.declared.verb.Verb.{Verb}
 use Rattle.nb_edit.specs.declared.verb.Verb.TheVariants as verb
-use Rattle.nb_edit.specs.Call.{Call, number, text, is_there, at, maybe, from, and_then, stands, may_exist, if_exists}
-use Rattle.nb_edit.specs.Lists.{names, members, networks, addresses, guards, port_options, is_router_port}
-use Rattle.nb_edit.specs.Readings.{object_name, set_name, owner_name, way, verdict, proto, nat_kind, port_kind, state, mac, ip, network, nexthop, logical, vip, backends, priority, acl_match}
+use Rattle.nb_read.specs.Then.{and_then}
+use Rattle.nb_edit.specs.Call.{Call, number, text, is_there, at, maybe, from, stands, may_exist, if_exists}
+use Rattle.nb_read.specs.Lists.{names, members, networks, addresses, guards, port_options, is_router_port}
+use Rattle.nb_read.specs.Readings.{object_name, set_name, owner_name, way, verdict, proto, nat_kind, port_kind, state, mac, ip, network, nexthop, logical, vip, backends, priority, acl_match}
 
 -- `--policy`: the address of a packet that a route looks at
 abbrev pub policy : Call → Option RouteBy

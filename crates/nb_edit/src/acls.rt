@@ -4,12 +4,11 @@ ghost use Rattle.nb_words.specs.Fault.{IsFaultOf};
 ghost use Rattle.nb_edit.specs.Edits.{edit_of};
 
 use crate::call::Call;
-use crate::matching::acl_match;
-use crate::names::owner_name;
-use crate::rules::{maybe_way, rule};
+use crate::maybe::maybe_way;
+use crate::rules::rule;
 use crate::verb::Verb;
-use crate::words::{priority, verdict, way};
 use nb_core::Edit;
+use nb_read::{acl_match, owner_name, priority, verdict, way};
 use nb_words::LineFault;
 use std::alloc::Global;
 

@@ -3,11 +3,11 @@ ghost use Rattle.std.specs.Prelude.{◌≡◌, ◌≤◌, Ok, IfOk, IfErr, lengt
 ghost use Rattle.nb_words.specs.Fault.{IsFaultOf};
 ghost use Rattle.nb_edit.specs.Edits.{edit_of};
 
-use crate::balancing::{backends, maybe_proto, maybe_vip, vip};
 use crate::call::Call;
-use crate::names::{maybe_name, object_name};
+use crate::maybe::{maybe_name, maybe_proto, maybe_vip};
 use crate::verb::Verb;
 use nb_core::Edit;
+use nb_read::{backends, object_name, vip};
 use nb_words::LineFault;
 use std::alloc::Global;
 

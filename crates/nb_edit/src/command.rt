@@ -61,8 +61,8 @@ fn fits(places: &[Place], tail: Tail, words: &[Word]) -> bool
     }
 }
 
-// Whether the word is an option that the command takes, as far as its name goes.
-fn is_taken(verb: Verb, word: &Word) -> bool
+/// Whether the word is an option that the command takes, as far as its name goes (ovn-nbctl(8)).
+pub fn is_taken(verb: Verb, word: &Word) -> bool
     ensures { result ≡ is_taken verb word.now }
 {
     verb.form()

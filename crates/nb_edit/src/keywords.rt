@@ -1,90 +1,9 @@
-//! The keywords of commands and options.
+//! The keywords that stand at the places of a command, and its options.
 ghost use Rattle.std.specs.Prelude.{◌≡◌};
-ghost use Rattle.nb_edit.specs.Keywords.{way_of, verdict_of, proto_of, nat_kind_of, port_kind_of, state_of, begins, may_stand, is_option, is_flag, is_whole};
+ghost use Rattle.nb_edit.specs.Keywords.{may_stand, is_option, is_flag, is_whole};
 
 use crate::form::{Flag, Place};
-use nb_core::{NatKind, PortKind, Proto, Verdict, Way};
-
-pub(crate) fn way_of(text: &[u8]) -> Option<Way>
-    ensures { result ≡ way_of text.now }
-{
-    if text == b"from-lport".as_slice() {
-        Some(Way::From)
-    } else if text == b"to-lport".as_slice() {
-        Some(Way::To)
-    } else {
-        None
-    }
-}
-
-pub(crate) fn verdict_of(text: &[u8]) -> Option<Verdict>
-    ensures { result ≡ verdict_of text.now }
-{
-    if text == b"allow".as_slice() {
-        Some(Verdict::Allow)
-    } else if text == b"allow-related".as_slice() {
-        Some(Verdict::AllowRelated)
-    } else if text == b"allow-stateless".as_slice() {
-        Some(Verdict::AllowStateless)
-    } else if text == b"drop".as_slice() {
-        Some(Verdict::Drop)
-    } else if text == b"reject".as_slice() {
-        Some(Verdict::Reject)
-    } else {
-        None
-    }
-}
-
-pub(crate) fn proto_of(text: &[u8]) -> Option<Proto>
-    ensures { result ≡ proto_of text.now }
-{
-    if text == b"tcp".as_slice() {
-        Some(Proto::Tcp)
-    } else if text == b"udp".as_slice() {
-        Some(Proto::Udp)
-    } else {
-        None
-    }
-}
-
-pub(crate) fn nat_kind_of(text: &[u8]) -> Option<NatKind>
-    ensures { result ≡ nat_kind_of text.now }
-{
-    if text == b"snat".as_slice() {
-        Some(NatKind::Snat)
-    } else if text == b"dnat".as_slice() {
-        Some(NatKind::Dnat)
-    } else if text == b"dnat_and_snat".as_slice() {
-        Some(NatKind::DnatAndSnat)
-    } else {
-        None
-    }
-}
-
-pub(crate) fn port_kind_of(text: &[u8]) -> Option<PortKind>
-    ensures { result ≡ port_kind_of text.now }
-{
-    if text == b"".as_slice() {
-        Some(PortKind::Host)
-    } else if text == b"router".as_slice() {
-        Some(PortKind::Router)
-    } else {
-        None
-    }
-}
-
-/// Whether a port is to be enabled.
-pub(crate) fn state_of(text: &[u8]) -> Option<bool>
-    ensures { result ≡ state_of text.now }
-{
-    if text == b"enabled".as_slice() {
-        Some(true)
-    } else if text == b"disabled".as_slice() {
-        Some(false)
-    } else {
-        None
-    }
-}
+use nb_read::{nat_kind_of, proto_of, state_of, verdict_of, way_of};
 
 // Whether the text has a `=`.
 fn has_value(text: &[u8]) -> bool

@@ -4,14 +4,10 @@ ghost use Rattle.nb_words.specs.Fault.{IsFaultOf};
 ghost use Rattle.nb_edit.specs.Edits.{edit_of};
 
 use crate::call::Call;
-use crate::names::{maybe_name, object_name};
-use crate::networks::networks;
+use crate::maybe::{maybe_logical, maybe_name, maybe_nat_kind, maybe_network, no_more};
 use crate::verb::Verb;
-use crate::words::{
-    ip, logical, mac, maybe_logical, maybe_nat_kind, maybe_network, nat_kind, network, nexthop,
-    no_more, state,
-};
 use nb_core::Edit;
+use nb_read::{ip, logical, mac, nat_kind, network, networks, nexthop, object_name, state};
 use nb_words::LineFault;
 use std::alloc::Global;
 

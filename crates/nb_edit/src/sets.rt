@@ -4,10 +4,9 @@ ghost use Rattle.nb_words.specs.Fault.{IsFaultOf};
 ghost use Rattle.nb_edit.specs.Edits.{edit_of};
 
 use crate::call::Call;
-use crate::members::members;
-use crate::names::{names, set_name};
 use crate::verb::Verb;
 use nb_core::Edit;
+use nb_read::{members, names, set_name};
 use nb_words::LineFault;
 use std::alloc::Global;
 

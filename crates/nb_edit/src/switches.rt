@@ -3,14 +3,11 @@ ghost use Rattle.std.specs.Prelude.{◌≡◌, ◌≤◌, Ok, IfOk, IfErr, lengt
 ghost use Rattle.nb_words.specs.Fault.{IsFaultOf};
 ghost use Rattle.nb_edit.specs.Edits.{edit_of};
 
-use crate::addresses::addresses;
 use crate::call::Call;
-use crate::guards::guards;
-use crate::names::object_name;
-use crate::options::{port_options, router_port_once};
+use crate::maybe::router_port_once;
 use crate::verb::Verb;
-use crate::words::{port_kind, state};
 use nb_core::Edit;
+use nb_read::{addresses, guards, object_name, port_kind, port_options, state};
 use nb_words::LineFault;
 use std::alloc::Global;
 

@@ -8,8 +8,8 @@ use Rattle.nb_core.specs.declared.refusal.Refusal.TheVariants.{BadAddress, NotIn
 use Rattle.nb_core.specs.declared.switch.Addr.{Addr}
 use Rattle.nb_core.specs.declared.switch.Addr.TheVariants.{Unknown, Router, Host}
 use Rattle.nb_core.specs.declared.switch.Guard.{Guard}
-use Rattle.nb_edit.specs.Lists.{parts, has_mac, is_ip, has_ip, new_mac, new_ips, host, next_address, addresses, is_base, has_net, guards_mac, guard_mac, new_nets, guarded, next_guard, guards}
-use Rattle.nb_edit.specs.Readings.{mac, ip, prefix}
+use Rattle.nb_read.specs.Lists.{parts, has_mac, is_ip, has_ip, new_mac, new_ips, host, next_address, addresses, is_base, has_net, guards_mac, guard_mac, new_nets, guarded, next_guard, guards}
+use Rattle.nb_read.specs.Readings.{mac, ip, prefix}
 use Rattle.nb_words.specs.declared.word.Word.{Word}
 use Rattle.nv_base.specs.Block.{Block}
 use Rattle.nv_base.specs.declared.ip4.Ip4.{Ip4}

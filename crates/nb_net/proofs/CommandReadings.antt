@@ -12,13 +12,14 @@ use Rattle.nb_core.specs.declared.refusal.Refusal.TheVariants.{WrongWords}
 use Rattle.nb_core.specs.declared.router.NatKind.{NatKind}
 use Rattle.nb_edit.specs.declared.verb.Verb.{Verb}
 use Rattle.nb_edit.specs.declared.verb.Verb.TheVariants as verb
-use Rattle.nb_edit.specs.Call.{Call, call, number, text, is_there, at, maybe, from, and_then}
+use Rattle.nb_read.specs.Then.{and_then}
+use Rattle.nb_edit.specs.Call.{Call, call, number, text, is_there, at, maybe, from}
 use Rattle.nb_edit.specs.Commands.{is_well_formed, formed, tested, named, said, option_count, read_command, other_option}
 use Rattle.nb_edit.specs.Edits.{owner_kind, router_port_once, no_more, logical_of, rule, edit_of}
 use Rattle.nb_edit.specs.Forms.{form, verb_of}
-use Rattle.nb_edit.specs.Lists.{names, members, networks, addresses, guards, port_options}
+use Rattle.nb_read.specs.Lists.{names, members, networks, addresses, guards, port_options}
 use Rattle.nb_edit.proofs.Fits.{has_places}
-use Rattle.nb_edit.specs.Readings.{object_name, is_set_name, set_name, is_owner_name, owner_name, way, verdict, proto, nat_kind, port_kind, state, mac, ip, network, nexthop, logical, vip, backends, priority, role_of, acl_match}
+use Rattle.nb_read.specs.Readings.{object_name, is_set_name, set_name, is_owner_name, owner_name, way, verdict, proto, nat_kind, port_kind, state, mac, ip, network, nexthop, logical, vip, backends, priority, role_of, acl_match}
 use Rattle.nb_words.specs.declared.command.Command.{Command}
 use Rattle.nb_words.specs.declared.word.Word.{Word}
 use Rattle.nv_base.specs.Name.{is_object_name}

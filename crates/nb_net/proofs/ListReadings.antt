@@ -8,9 +8,9 @@ use Rattle.nb_core.specs.declared.balancer.Backend.{Backend}
 use Rattle.nb_core.specs.declared.balancer.Frontend.{Frontend}
 use Rattle.nb_core.specs.declared.refusal.Refusal.TheVariants.{BadAddress, NotInProfile}
 use Rattle.nb_core.specs.declared.sets.Member.{Member}
-use Rattle.nb_edit.specs.Keywords.{begins}
-use Rattle.nb_edit.specs.Lists.{names, members, is_same_network, is_network_there, next_network, networks, is_router_port, port_options}
-use Rattle.nb_edit.specs.Readings.{object_name, prefix, member_of, frontend_of, has_port_as, backend, backends_of, backends}
+use Rattle.nb_read.specs.Keywords.{begins}
+use Rattle.nb_read.specs.Lists.{names, members, is_same_network, is_network_there, next_network, networks, is_router_port, port_options}
+use Rattle.nb_read.specs.Readings.{object_name, prefix, member_of, frontend_of, has_port_as, backend, backends_of, backends}
 use Rattle.nb_words.specs.declared.word.Word.{Word}
 use Rattle.nv_base.specs.Block.{Block}
 use Rattle.nv_base.specs.Mac.{mac_of}

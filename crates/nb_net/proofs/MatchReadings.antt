@@ -22,7 +22,7 @@ use Rattle.expr_parse.specs.Written.{IsLeaf}
 use Rattle.expr_parse.specs.declared.fault.MatchFault.TheVariants.{Syntax}
 use Rattle.expr_parse.proofs.WellFormed.{formed}
 use Rattle.nb_core.specs.declared.acl.Way.{Way}
-use Rattle.nb_edit.specs.Readings.{role_of, checked_match, parsed_match, acl_match}
+use Rattle.nb_read.specs.Readings.{role_of, checked_match, parsed_match, acl_match}
 
 -- A match without offsets is well-formed as the match is, and opens as many levels.
 

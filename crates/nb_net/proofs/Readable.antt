@@ -18,7 +18,7 @@ use Rattle.nb_core.specs.declared.sets.AddrSet.{AddrSet}
 use Rattle.nb_core.specs.declared.sets.Group.{Group}
 use Rattle.nb_core.specs.declared.switch.Port.{Port}
 use Rattle.nb_core.specs.declared.switch.Switch.{Switch}
-use Rattle.nb_edit.specs.Readings.{is_set_name, role_of}
+use Rattle.nb_read.specs.Readings.{is_set_name, role_of}
 use Rattle.nb_net.specs.Belongs.{is_number}
 use Rattle.nb_net.specs.Effect.{each_where, without, without_ports, without_router_ports, without_lb, add_switch, add_router, delete_switch, delete_router, delete_group, set_port, set_switch_lbs, set_router_lbs}
 use Rattle.nb_net.specs.Network.{Network, next_number, same, switch_id, router_id, group_id}

@@ -16,7 +16,7 @@ use Rattle.nb_core.specs.declared.balancer.Vip.{Vip}
 use Rattle.nb_core.specs.declared.edit.Edit.{Edit}
 use Rattle.nb_core.specs.declared.edit.Edit.TheVariants as edit
 use Rattle.nb_core.specs.declared.switch.PortKind.TheVariants as port_kind
-use Rattle.nb_edit.specs.Readings.{is_set_name}
+use Rattle.nb_read.specs.Readings.{is_set_name}
 use Rattle.nb_net.specs.Belongs.{owner_id, same_frontend}
 use Rattle.nb_net.specs.Effect.{effect, without, add_port, add_router_port, new_vip, add_vip, delete_vip, is_last_vip, with_number, is_detached, acl_like, is_route, is_nat, is_acl, is_binding, policy_or, named_port_ids}
 use Rattle.nb_net.specs.Network.{Network, next_number, same, switch_named, router_named, port_named, router_port_named, lb_named, router_id, router_port_id, lb_id}

@@ -2,7 +2,8 @@
 use Rattle.std.proofs.Common.{◌≡◌, ℕ, Bool, true, false, List, Option, Some, None, Result, Ok, Err, IfOk, IfSome, ok_or, option_map, option_and_then, refl, if◌then◌else◌}
 use Rattle.std.specs.Bool.{IsTrue}
 use Rattle.nb_core.specs.declared.refusal.Refusal.{Refusal}
-use Rattle.nb_edit.specs.Call.{Call, and_then, at, maybe, is_there}
+use Rattle.nb_read.specs.Then.{and_then}
+use Rattle.nb_edit.specs.Call.{Call, at, maybe, is_there}
 use Rattle.nb_net.specs.Readable.{may_be}
 
 -- after what was read

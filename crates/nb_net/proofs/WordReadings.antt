@@ -16,8 +16,8 @@ use Rattle.nb_core.specs.declared.refusal.Refusal.TheVariants.{BadName, BadMac, 
 use Rattle.nb_core.specs.declared.router.NatKind.{NatKind}
 use Rattle.nb_core.specs.declared.router.NatKind.TheVariants as nat
 use Rattle.nb_core.specs.declared.sets.Member.TheVariants as member
-use Rattle.nb_edit.specs.Call.{and_then}
-use Rattle.nb_edit.specs.Readings.{object_name, set_name, is_set_name, owner_name, is_owner_name, is_unicast, unicast, mac, no_address, ip, prefix, cleared, network, nexthop, logical, in_ports, port_of, frontend, frontend_of, frontend_around, vip, priority, member_of}
+use Rattle.nb_read.specs.Then.{and_then}
+use Rattle.nb_read.specs.Readings.{object_name, set_name, is_set_name, owner_name, is_owner_name, is_unicast, unicast, mac, no_address, ip, prefix, cleared, network, nexthop, logical, in_ports, port_of, frontend, frontend_of, frontend_around, vip, priority, member_of}
 use Rattle.nv_base.specs.Block.{Block}
 use Rattle.nv_base.specs.Bytes.{around_first, octet_of, pair_of, number_of_parts}
 use Rattle.nv_base.specs.Ip4.{address, ip4_of}

@@ -19,8 +19,8 @@ use Rattle.nb_core.specs.declared.sets.Member.TheVariants as member
 use Rattle.nb_core.specs.declared.switch.Addr.{Addr}
 use Rattle.nb_core.specs.declared.switch.Addr.TheVariants as addr
 use Rattle.nb_core.specs.declared.switch.Guard.{Guard}
-use Rattle.nb_edit.specs.Lists.{is_same_network, is_ip, is_base}
-use Rattle.nb_edit.specs.Readings.{is_set_name, is_owner_name, is_unicast, cleared, role_of}
+use Rattle.nb_read.specs.Lists.{is_same_network, is_ip, is_base}
+use Rattle.nb_read.specs.Readings.{is_set_name, is_owner_name, is_unicast, cleared, role_of}
 use Rattle.nb_net.specs.Belongs.{same_block, is_snat}
 
 -- no two of a list are the same

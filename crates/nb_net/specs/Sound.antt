@@ -5,7 +5,7 @@ use Rattle.std.specs.Str.{bytes_eq}
 use Rattle.nv_base.specs.Name.{is_object_name}
 use Rattle.nv_base.specs.declared.object.ObjId.{ObjId}
 use Rattle.expr_check.specs.Printed.{IsPrintable}
-use Rattle.nb_edit.specs.Readings.{is_set_name, role_of}
+use Rattle.nb_read.specs.Readings.{is_set_name, role_of}
 use Rattle.nb_net.specs.Amounts.{over_limit}
 use Rattle.nb_net.specs.Belongs.{is_among, same_frontend, same_route, same_nat, same_acl, same_binding}
 use Rattle.nb_net.specs.Network.{Network, same}

@@ -2,7 +2,7 @@
 use Rattle.std.specs.Prelude.{List, [], ◌∷◌, Option, Some, None, Result, Ok, Err}
 use Rattle.nb_core.specs.declared.edit.Edit.{Edit}
 use Rattle.nb_core.specs.declared.refusal.Refusal.{Refusal}
-use Rattle.nb_edit.specs.Call.{and_then}
+use Rattle.nb_read.specs.Then.{and_then}
 use Rattle.nb_net.specs.Effect.{effect}
 use Rattle.nb_net.specs.Network.{Network}
 use Rattle.nb_net.specs.Tests.{refusal}

@@ -17,7 +17,7 @@ use Rattle.nv_base.specs.declared.object.ObjId.{ObjId}
 use Rattle.nb_core.specs.declared.acl.Acl.{Acl}
 use Rattle.nb_core.specs.declared.acl.Way.{Way}
 use Rattle.nb_core.specs.declared.acl.Way.TheVariants.{From, To}
-use Rattle.nb_edit.specs.Readings.{role_of}
+use Rattle.nb_read.specs.Readings.{role_of}
 use Rattle.nb_net.specs.Belongs.{same_way}
 use Rattle.nb_net.specs.Effect.{without}
 use Rattle.nb_net.specs.Network.{Network, same}

@@ -1,7 +1,7 @@
 //! ACLs that are removed from their owners.
 ghost use Rattle.std.specs.Prelude.{◌≡◌, ◌&&◌, OnOk};
 ghost use Rattle.expr_check.specs.Printed.{IsPrintable};
-ghost use Rattle.nb_edit.specs.Readings.{role_of};
+ghost use Rattle.nb_read.specs.Readings.{role_of};
 ghost use Rattle.nb_net.specs.Belongs.{same_way};
 ghost use Rattle.nb_net.specs.Effect.{without, is_rule};
 ghost use Rattle.nb_net.specs.Network.{same};

@@ -2,7 +2,7 @@
 ghost use Rattle.std.specs.Prelude.{◌≡◌, OnOk};
 ghost use Rattle.expr_check.specs.Printed.{IsPrintable};
 ghost use Rattle.nb_core.specs.declared.edit.Edit.TheVariants as edit;
-ghost use Rattle.nb_edit.specs.Readings.{role_of};
+ghost use Rattle.nb_read.specs.Readings.{role_of};
 ghost use Rattle.nb_net.specs.Effect.{effect, without};
 ghost use Rattle.nb_net.specs.Network.{same};
 ghost use Rattle.nb_net.specs.Sound.{IsSound};

@@ -4,7 +4,7 @@ ghost use Rattle.std.specs.List.{AllByRecursion};
 ghost use Rattle.std.specs.Str.{bytes_eq};
 ghost use Rattle.expr_check.specs.Printed.{IsPrintable};
 ghost use Rattle.expr_core.specs.Text.{typed_text};
-ghost use Rattle.nb_edit.specs.Readings.{role_of};
+ghost use Rattle.nb_read.specs.Readings.{role_of};
 ghost use Rattle.nb_net.specs.Effect.{acl_like};
 ghost use Rattle.nb_table.specs.Table.{NumbersRise};
 

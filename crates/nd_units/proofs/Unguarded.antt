@@ -1,7 +1,5 @@
 -- An enabled port without guards has no rows of port security.
-use Rattle.std.proofs.Common.{◌≡◌, Bool, true, List, [], ◌∷◌, ◌++◌, length, append-nil, arith, sym, refl, ap, ◌∙◌}
-use Rattle.std.specs.Prelude.{◌==◌}
-use Rattle.std.proofs.lemmas.Bool.Decides.{nat_tests}
+use Rattle.std.proofs.Common.{◌≡◌, Bool, true, List, [], ◌++◌, append-nil, sym, ap, ◌∙◌}
 use Rattle.nb_core.specs.declared.switch.Guard.{Guard}
 use Rattle.nb_core.specs.declared.switch.Port.{Port}
 use Rattle.net_rows.specs.Build.{port_sec_input}
@@ -9,10 +7,6 @@ use Rattle.net_rows.specs.PortSecurity.{port_sec_rules, disabled_rules, guarded_
 use Rattle.net_rows.specs.Unit.{unit_of, unit_rows, said_by}
 use Rattle.sb_model.specs.declared.row.Row.{Row}
 use Rattle.sb_rows.specs.Row.{put_rows}
-
-pub is_none : {X : Type 0} (xs : List X) → (length xs == 0) ≡ true → xs ≡ []
-is_none [] none = refl
-is_none (x ∷ xs) none = absurd (grind (arith, nat_tests, none))
 
 pub no_rows : (port : Port) (made : List Row) → port.enabled ≡ true → port.security ≡ [] → made ≡ made ++ unit_rows (unit_of port.switch port.id) (port_sec_rules (port_sec_input port))
 unfolding unit_rows port_sec_rules

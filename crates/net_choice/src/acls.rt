@@ -42,6 +42,7 @@ fn first_on<'a>(
     }
 }
 
+// The first of an ACL and those of the groups of a switch's ports, among those for the packet.
 fn first_of_ports<'a>(
     best: Option<&'a Acl>,
     records: &'a Records,

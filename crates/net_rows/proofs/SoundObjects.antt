@@ -15,8 +15,8 @@ use Rattle.nb_core.specs.declared.router.RouterPort.{RouterPort}
 use Rattle.nb_core.specs.declared.switch.Guard.{Guard}
 use Rattle.nb_core.specs.declared.switch.Port.{Port}
 use Rattle.nb_core.specs.declared.switch.Switch.{Switch}
-use Rattle.nb_edit.specs.Lists.{is_base, is_ip}
-use Rattle.nb_edit.specs.Readings.{is_unicast, role_of}
+use Rattle.nb_read.specs.Lists.{is_base, is_ip}
+use Rattle.nb_read.specs.Readings.{is_unicast, role_of}
 use Rattle.nb_net.specs.Belongs.{peer_router_port, is_port, peer_port}
 use Rattle.nb_net.specs.Network.{Network, same}
 use Rattle.nb_net.specs.Readable.{are_addresses, are_apart, are_guards, ips_of, is_block, is_ip4, is_mac, macs_of, may_name, nets_of, same_number}

@@ -17,7 +17,7 @@ use Rattle.expr_core.specs.declared.typed.TypedAtom.TheVariants.{Truth, Bare, Ho
 use Rattle.nb_core.specs.declared.acl.Verdict.{Verdict}
 use Rattle.nb_core.specs.declared.acl.Verdict.TheVariants.{Allow, AllowRelated, AllowStateless, Drop, Reject}
 use Rattle.nb_core.specs.declared.acl.Way.{Way}
-use Rattle.nb_edit.specs.Readings.{role_of}
+use Rattle.nb_read.specs.Readings.{role_of}
 use Rattle.nb_net.specs.Network.{Network}
 use Rattle.nb_net.specs.Readable.{is_priority}
 use Rattle.nb_net.specs.Sound.{IsSound}

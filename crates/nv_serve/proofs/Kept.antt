@@ -9,7 +9,7 @@ use Rattle.std.proofs.Math.Seq.{take-append-add}
 use Rattle.nb_core.specs.declared.refusal.Refusal.TheVariants.{NotUtf8, LineTooLong}
 use Rattle.nb_words.specs.Commands.{line_limit, says_nothing, commands_of}
 use Rattle.nb_words.specs.Words.{words_of}
-use Rattle.nb_edit.specs.Call.{and_then}
+use Rattle.nb_read.specs.Then.{and_then}
 use Rattle.nb_cmds.specs.Lines.{said, read_line}
 use Rattle.nb_cmds.specs.declared.line.Line.TheVariants.{Nothing}
 use Rattle.nv_serve.specs.Session.{Session}

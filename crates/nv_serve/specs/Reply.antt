@@ -11,7 +11,7 @@ use Rattle.nb_cmds.specs.declared.line.Line.{Line}
 use Rattle.nb_cmds.specs.declared.line.Line.TheVariants.{Nothing, Edits, Query}
 use Rattle.nb_cmds.specs.declared.query.Query as query
 use Rattle.nb_cmds.specs.declared.query.Query.TheVariants.{FlowList, Dump, Trace}
-use Rattle.nb_edit.specs.Call.{and_then}
+use Rattle.nb_read.specs.Then.{and_then}
 use Rattle.nb_net.specs.Belongs.{is_number}
 use Rattle.nb_net.specs.Network.{Network}
 use Rattle.nb_net.specs.Transactions.{edited}

@@ -21,7 +21,7 @@ use Rattle.nb_core.specs.declared.switch.Switch.{Switch}
 use Rattle.nb_net.specs.Belongs.{is_router_kind}
 use Rattle.nb_net.specs.Names.{names}
 use Rattle.nb_net.specs.Network.{Network}
-use Rattle.nb_edit.specs.Lists.{is_ip}
+use Rattle.nb_read.specs.Lists.{is_ip}
 use Rattle.nb_net.specs.Addresses.{macs}
 use Rattle.nb_net.specs.Readable.{are_addresses, are_apart, are_guards, ips_of, is_ip4, is_mac, macs_of, may_name, same_number}
 use Rattle.nb_net.specs.Sound.{IsSound}

@@ -19,7 +19,7 @@ use Rattle.net_rows.specs.Build.{rows}
 use Rattle.tr_stage.specs.Machine.{Effect, effect, reset_for, error_for, answer_for}
 use Rattle.tr_stage.specs.Machine.Effect.{Changed, Done}
 
--- the fields that an action reads
+-- the fields that an action reads, those of connection tracking apart
 abbrev pub reads : Step → List Field
 reads (Copy field bits from) = from ∷ []
 reads (Exchange one other) = one ∷ other ∷ []

@@ -23,7 +23,7 @@ has_asked (LastByte field byte) packet = value packet field % 256 == byte
 abbrev pub IsAskedBy : Formula TypedAtom → Asked → Type 0
 IsAskedBy matching asked = (net : Lookup) (packet : Values) → has_asked asked packet ≡ false → holds net packet matching ≡ false
 
--- what orders a row but for its match, and its datapath
+-- what orders a row, but for the text of its match; and its datapath
 abbrev pub key_of_row : Row → Key
 key_of_row row = record { table = key_of row; rank = rank_key row.priority row.hint; dp = row.dp }
 

@@ -1,5 +1,7 @@
 use Rattle.std.proofs.Common.{◌≡◌, [], Result, Ok, Err, OnOk, sym, ◌∙◌}
-use Rattle.nd_units.proofs.Unguarded.{is_none, no_rows}
+use Rattle.std.proofs.lemmas.Bool.{eqb-true}
+use Rattle.std.proofs.lemmas.List.{nil_from_length}
+use Rattle.nd_units.proofs.Unguarded.{no_rows}
 use Rattle.nd_units.proofs.ports.add_rows_of_security.Goals as goal
 
 on_ok : {T E P : Type 0} (r : Result T E) → P → OnOk r P
@@ -9,5 +11,5 @@ on_ok (Err e) p = tt
 -- no rows come
 pub returns-then-is_empty-clause-rows : goal.returns-then-is_empty-clause-rows
 returns-then-is_empty-clause-rows c =
-    let none : c.args.port.now.security ≡ [] = sym c.as_slice.ensures ∙ is_none c.as_slice.result.now (sym c.is_empty.ensures ∙ c.if-is_empty.true) in
+    let none : c.args.port.now.security ≡ [] = sym c.as_slice.ensures ∙ nil_from_length c.as_slice.result.now (eqb-true _ _ (sym c.is_empty.ensures ∙ c.if-is_empty.true)) in
     on_ok c.copy.result (no_rows c.args.port.now c.args.made.now c.if-port.true none)

@@ -20,8 +20,8 @@ use Rattle.nb_cmds.proofs.BuiltLines.{line_built}
 use Rattle.nb_plain.specs.Plain.{IsBuilt, IsPlain}
 use Rattle.nb_plain.proofs.Plain.{edited_plain, empty_plain}
 use Rattle.net_meaning.proofs.Stateless as plain_networks
-use Rattle.tr_net.specs.Refined.{IsRefined}
-use Rattle.tr_net.proofs.Refinement.{stateless_refined}
+use Rattle.tr_walk.specs.Refined.{IsRefined}
+use Rattle.tr_walk.proofs.Refinement.{stateless_refined}
 use Rattle.nv_serve.specs.Reply.{reply, session_after}
 use Rattle.nv_serve.specs.Session.{Session, new_session}
 use Rattle.nv_serve.proofs.Keeping.{reply_keeps}

@@ -15,8 +15,8 @@ use Rattle.sb_model.specs.declared.row.Row.{Row}
 use Rattle.sb_rows.specs.Row.{rows_of}
 use Rattle.sb_rows.specs.Listing.{datapath_listing, is_asked_for}
 use Rattle.net_rows.specs.Build as build
-use Rattle.tr_net.specs.declared.event.Event.{Event}
-use Rattle.tr_net.specs.declared.event.Event.TheVariants as events
+use Rattle.tr_walk.specs.declared.event.Event.{Event}
+use Rattle.tr_walk.specs.declared.event.Event.TheVariants as events
 use Rattle.nv_serve.specs.Events.{event_lines}
 use Rattle.nv_serve.specs.Reply.{Reply, ok_line, answered, datapaths, flows, wanted_datapath, traced, traced_port, reply_to_query, reply_to, reply}
 use Rattle.nv_serve.specs.Session.{Session}

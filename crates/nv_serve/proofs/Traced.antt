@@ -14,8 +14,8 @@ use Rattle.net_meaning.specs.Walk.Told.{Note, Happens}
 use Rattle.net_meaning.specs.declared.event.PlainEvent.{PlainEvent}
 use Rattle.net_meaning.specs.declared.event.PlainEvent.TheVariants as plain
 use Rattle.pkt_micro.specs.declared.microflow.Micro.{Micro}
-use Rattle.tr_net.specs.Events.{event_of, of_plain, plain_event, without_hits}
-use Rattle.tr_net.specs.Machine.{State, machine}
+use Rattle.tr_walk.specs.Events.{event_of, of_plain, plain_event, without_hits}
+use Rattle.tr_walk.specs.Machine.{State, machine}
 use Rattle.tr_stage.specs.declared.outcome.Hit.{Hit}
 use Rattle.nv_serve.specs.Output.{opened}
 use Rattle.nv_serve.specs.Reply.{accept, answered, trace_lines, reply, reply_to, session_after}

@@ -8,8 +8,8 @@ use Rattle.nb_net.specs.Network.{Network}
 use Rattle.nb_table.specs.Table.{record_of}
 use Rattle.sb_model.specs.Stage.{stage_name}
 use Rattle.net_meaning.specs.Cause.{cause_name}
-use Rattle.tr_net.specs.declared.event.Event.{Event}
-use Rattle.tr_net.specs.declared.event.Event.TheVariants.{Hit, Output, Drop, Reject, HopLimit}
+use Rattle.tr_walk.specs.declared.event.Event.{Event}
+use Rattle.tr_walk.specs.declared.event.Event.TheVariants.{Hit, Output, Drop, Reject, HopLimit}
 
 -- the name of the switch or the router of this number, or nothing where there is none
 abbrev pub datapath_name : Network → ObjId → List ℕ

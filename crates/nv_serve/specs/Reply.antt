@@ -19,9 +19,9 @@ use Rattle.nb_tables.specs.Places.{datapath_of, on_datapath, port_of}
 use Rattle.nb_dump.specs.Dump.{dump}
 use Rattle.sb_rows.specs.Listing.{listing}
 use Rattle.net_rows.specs.Build.{rows}
-use Rattle.tr_net.specs.declared.event.Event.{Event}
-use Rattle.tr_net.specs.Events.{event_of}
-use Rattle.tr_net.specs.Machine.{State, machine}
+use Rattle.tr_walk.specs.declared.event.Event.{Event}
+use Rattle.tr_walk.specs.Events.{event_of}
+use Rattle.tr_walk.specs.Machine.{State, machine}
 use Rattle.nv_serve.specs.Events.{event_lines}
 use Rattle.nv_serve.specs.Session.{Session}
 

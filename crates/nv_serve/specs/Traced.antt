@@ -9,8 +9,8 @@ use Rattle.nb_cmds.specs.declared.line.Line.TheVariants.{Query}
 use Rattle.nb_cmds.specs.declared.query.Query.TheVariants.{Trace}
 use Rattle.net_meaning.specs.Switches.{meaning}
 use Rattle.net_meaning.specs.Walk.{events}
-use Rattle.tr_net.specs.Events.{without_hits}
-use Rattle.tr_net.specs.Machine.{State}
+use Rattle.tr_walk.specs.Events.{without_hits}
+use Rattle.tr_walk.specs.Machine.{State}
 use Rattle.nv_serve.specs.Output.{opened}
 use Rattle.nv_serve.specs.Reply.{traced, traced_port, trace_lines, ok_line, reply, session_after}
 use Rattle.nv_serve.specs.Session.{Session}

@@ -1,12 +1,12 @@
 ghost use Rattle.std.specs.Prelude.{◌≡◌, ◌++◌, List, ℕ, OnOk};
 ghost use Rattle.nv_serve.specs.Events.{datapath_name, port_name, event_line, is_hit, told_line, event_lines};
-ghost use Rattle.tr_net.specs.declared.event.Event.TheVariants.{Hit, Output, Drop, Reject, HopLimit};
+ghost use Rattle.tr_walk.specs.declared.event.Event.TheVariants.{Hit, Output, Drop, Reject, HopLimit};
 
 use nb_tables::Records;
 use net_meaning::Cause;
 use nv_base::{ObjId, OutOfMemory, put_dec};
 use pkt_core::{Packet, put_packet};
-use tr_net::Event;
+use tr_walk::Event;
 
 /// Writes the lines of events, and leaves out those of hits where it is minimal (ovn-trace(8); their form is not from
 /// OVN). After `OutOfMemory` nothing is said of what is written.

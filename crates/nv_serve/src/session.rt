@@ -5,7 +5,7 @@ ghost use Rattle.nb_net.specs.Readable.{IsReadable};
 ghost use Rattle.nb_net.specs.Sound.{IsSound};
 ghost use Rattle.nb_net.specs.Transactions.{edited};
 ghost use Rattle.nb_plain.specs.Plain.{IsBuilt, IsPlain};
-ghost use Rattle.tr_net.specs.Refined.{IsRefined};
+ghost use Rattle.tr_walk.specs.Refined.{IsRefined};
 ghost use Rattle.nv_serve.specs.Reply.{flows, traced};
 ghost use Rattle.nv_serve.specs.Session.{new_session};
 ghost use Rattle.nv_serve.specs.inner.KeptRows.{AreRowsOf};
@@ -17,14 +17,14 @@ use nb_check::Tables;
 use nb_core::Edit;
 use nb_tables::Records;
 use nb_words::LineFault;
-use nd_units::full;
+use nd_full::full;
 use nv_base::{Items, ObjId, OutOfMemory};
 use nv_io::Sink;
 use pkt_core::Packet;
 use sb_rows::Rows;
 use std::alloc::Global;
 use std::marker::Model;
-use tr_net::{Event, trace};
+use tr_walk::{Event, trace};
 
 // The network, its rows where they were made since it last changed, and how many hops a traced packet may take.
 #[derive(Drop)]

@@ -2,7 +2,7 @@ use crate::fixture::{PORT, SWITCH};
 use net_meaning::{Cause, PlainEvent};
 use nv_base::Kept;
 use pkt_core::Packet;
-use tr_net::Event;
+use tr_walk::Event;
 
 #[test]
 fn events_are_copied(rt: HostRuntime) {

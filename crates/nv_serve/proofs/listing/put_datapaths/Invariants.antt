@@ -1,6 +1,6 @@
 use Rattle.std.proofs.Common.{length}
 use Rattle.nb_core.specs.declared.switch.Switch.{Switch}
-use Rattle.nd_units.proofs.Through.{left_after}
+use Rattle.nd_full.proofs.Through.{left_after}
 use Rattle.nv_serve.proofs.Listings.{ListedTo}
 use Rattle.nv_serve.proofs.listing.put_datapaths.Given as goal
 

@@ -1,6 +1,6 @@
 use Rattle.std.proofs.Common.{◌∙◌, ap}
 use Rattle.net_meaning.proofs.Stateless.{stateless}
-use Rattle.tr_net.proofs.Ends.{runnable}
+use Rattle.tr_walk.proofs.Ends.{runnable}
 use Rattle.nv_serve.proofs.Reached.{plain_refined}
 use Rattle.nv_serve.proofs.session.Session.trace.Goals as goal
 

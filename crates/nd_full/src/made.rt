@@ -1,0 +1,168 @@
+//! The rows of units, as makers give them.
+ghost use Rattle.std.specs.Prelude.{◌≡◌, [], ◌++◌, OnOk};
+ghost use Rattle.net_rows.specs.Acls.{switch_acl_rules};
+ghost use Rattle.net_rows.specs.LoadBalancers.{switch_lb_rules};
+ghost use Rattle.net_rows.specs.Lookup.{switch_l2_rules, port_l2_rules};
+ghost use Rattle.net_rows.specs.PortSecurity.{switch_sec_rules, port_sec_rules};
+ghost use Rattle.net_rows.specs.Unit.{unit_of, unit_of_datapath, unit_rows};
+ghost use Rattle.nd_full.specs.inner.Made.{acl_unit, switch_units};
+
+use crate::inputs::acl_on_input;
+use inc_table::Maker;
+use ls_acl::{AclOn, SwitchAcl};
+use ls_l2::{PortL2, SwitchL2};
+use ls_lb::SwitchLb;
+use ls_sec::{PortSec, SwitchSec};
+use nb_core::Acl;
+use net_rows::{PortL2Input, PortSecInput, SwitchAclInput, SwitchL2Input};
+use nv_base::{ObjId, OutOfMemory};
+use sb_rows::NewRows;
+use std::alloc::Global;
+use std::marker::Model;
+
+/// The rows so far, and the makers of more. A clause sees it as the list of the rows.
+#[derive(Drop)]
+pub(crate) struct MadeRows {
+    rows: NewRows,
+    switch_sec: SwitchSec,
+    switch_acl: SwitchAcl,
+    switch_lb: SwitchLb,
+    switch_l2: SwitchL2,
+    port_sec: PortSec,
+    port_l2: PortL2,
+    acl_on: AclOn,
+}
+
+impl Model for MadeRows {
+    ghost use Rattle.std.specs.Prelude.{List};
+    ghost use Rattle.sb_model.specs.declared.row.Row.{Row};
+    ghost use Rattle.sb_model.specs.contracts.row.Row as row_of;
+    ghost use Rattle.std.specs.Coded.{codes};
+
+    ghost Value = { List Row };
+
+    ghost coded = { Prim.hlevel (codes, row_of.the_row.coded) };
+
+    ghost view = { λ m. m.rows };
+}
+
+impl MadeRows {
+    /// No rows.
+    pub(crate) fn new(alloc: Global) -> Self
+        ensures { result ≡ [] }
+    {
+        MadeRows {
+            rows: NewRows::new(alloc),
+            switch_sec: SwitchSec::new(),
+            switch_acl: SwitchAcl::new(),
+            switch_lb: SwitchLb::new(),
+            switch_l2: SwitchL2::new(),
+            port_sec: PortSec::new(),
+            port_l2: PortL2::new(),
+            acl_on: AclOn::new(),
+        }
+    }
+
+    /// The rows.
+    pub(crate) fn into_rows(self) -> NewRows
+        ensures { result ≡ self }
+    {
+        self.rows
+    }
+
+    /// The rows of the units of a switch come after the others.
+    pub(crate) fn add_switch(
+        &mut self,
+        alloc: Global,
+        switch: ObjId,
+        acl: &SwitchAclInput,
+        lookup: &SwitchL2Input,
+    ) -> Result<(), OutOfMemory>
+        ensures { OnOk result (self.new ≡ self.old ++ switch_units switch acl.now lookup.now) }
+    {
+        self.add_switch_sec(alloc, switch)?;
+        self.add_switch_acl(alloc, switch, acl)?;
+        self.add_switch_lb(alloc, switch)?;
+        self.add_switch_l2(alloc, switch, lookup)?;
+        Ok(())
+    }
+
+    fn add_switch_sec(&mut self, alloc: Global, switch: ObjId) -> Result<(), OutOfMemory>
+        ensures { OnOk result (self.new ≡ self.old ++ unit_rows (unit_of_datapath switch) switch_sec_rules) }
+    {
+        let rows = self.switch_sec.make(alloc, &switch, &())?;
+        self.rows.append(rows)
+    }
+
+    fn add_switch_acl(
+        &mut self,
+        alloc: Global,
+        switch: ObjId,
+        input: &SwitchAclInput,
+    ) -> Result<(), OutOfMemory>
+        ensures { OnOk result (self.new ≡ self.old ++ unit_rows (unit_of_datapath switch) (switch_acl_rules input.now)) }
+    {
+        let rows = self.switch_acl.make(alloc, &switch, input)?;
+        self.rows.append(rows)
+    }
+
+    fn add_switch_lb(&mut self, alloc: Global, switch: ObjId) -> Result<(), OutOfMemory>
+        ensures { OnOk result (self.new ≡ self.old ++ unit_rows (unit_of_datapath switch) switch_lb_rules) }
+    {
+        let rows = self.switch_lb.make(alloc, &switch, &())?;
+        self.rows.append(rows)
+    }
+
+    fn add_switch_l2(
+        &mut self,
+        alloc: Global,
+        switch: ObjId,
+        input: &SwitchL2Input,
+    ) -> Result<(), OutOfMemory>
+        ensures { OnOk result (self.new ≡ self.old ++ unit_rows (unit_of_datapath switch) (switch_l2_rules input.now)) }
+    {
+        let rows = self.switch_l2.make(alloc, &switch, input)?;
+        self.rows.append(rows)
+    }
+
+    /// The rows of the port security of a port come after the others.
+    pub(crate) fn add_port_sec(
+        &mut self,
+        alloc: Global,
+        port: ObjId,
+        input: &PortSecInput,
+    ) -> Result<(), OutOfMemory>
+        ensures { OnOk result (self.new ≡ self.old ++ unit_rows (unit_of input.now.dp port) (port_sec_rules input.now)) }
+    {
+        let rows = self.port_sec.make(alloc, &port, input)?;
+        self.rows.append(rows)
+    }
+
+    /// The rows of the lookup of a port come after the others.
+    pub(crate) fn add_port_l2(
+        &mut self,
+        alloc: Global,
+        port: ObjId,
+        input: &PortL2Input,
+    ) -> Result<(), OutOfMemory>
+        ensures { OnOk result (self.new ≡ self.old ++ unit_rows (unit_of input.now.dp port) (port_l2_rules input.now)) }
+    {
+        let rows = self.port_l2.make(alloc, &port, input)?;
+        self.rows.append(rows)
+    }
+
+    /// The rows of an ACL on a switch come after the others.
+    pub(crate) fn add_acl(
+        &mut self,
+        alloc: Global,
+        switch: ObjId,
+        tracks: bool,
+        acl: &Acl,
+    ) -> Result<(), OutOfMemory>
+        ensures { OnOk result (self.new ≡ self.old ++ acl_unit switch tracks acl.now) }
+    {
+        let input = acl_on_input(alloc, acl, tracks)?;
+        let rows = self.acl_on.make(alloc, &(acl.id, switch), &input)?;
+        self.rows.append(rows)
+    }
+}

@@ -1,0 +1,60 @@
+//! The rows of a switch, and of the ACLs that apply to it.
+ghost use Rattle.std.specs.Prelude.{◌≡◌, Some, ◌++◌, OnOk};
+ghost use Rattle.nb_net.specs.Sound.{IsSound};
+ghost use Rattle.nb_table.specs.Table.{record_of};
+ghost use Rattle.net_rows.specs.Build.{has_unknown};
+ghost use Rattle.nd_full.specs.inner.Made.{acl_units, rows_at};
+ghost use Rattle.nd_full.specs.inner.Members.{HaveSameRows};
+
+use crate::inputs::switch_acl_input;
+use crate::made::MadeRows;
+use crate::owners::owners_on;
+use nb_core::Switch;
+use nb_tables::Records;
+use net_rows::SwitchL2Input;
+use nv_base::{ObjId, OutOfMemory};
+use std::alloc::Global;
+
+/// The rows of a switch, and of each ACL on it, come to the others. `unknown` says whether an enabled port of it has the address
+/// `unknown`.
+pub(crate) fn add_rows_of_switch(
+    alloc: Global,
+    made: &mut MadeRows,
+    records: &Records,
+    switch: &Switch,
+    unknown: bool,
+) -> Result<(), OutOfMemory>
+    requires sound { IsSound records.now }
+    requires there { record_of (λ x. x.id) switch.now.id records.now.switches ≡ Some switch.now }
+    requires unknown { unknown ≡ has_unknown records.now switch.now.id }
+    ensures { OnOk result (HaveSameRows made.new (made.old ++ rows_at records.now switch.now)) }
+{
+    let owners = owners_on(alloc, records, switch.id)?;
+    let acl_input = switch_acl_input(records, switch, &owners);
+    let l2_input = SwitchL2Input { unknown };
+    made.add_switch(alloc, switch.id, &acl_input, &l2_input)?;
+    for owner in &owners {
+        add_rows_of_acls(alloc, made, records, switch.id, acl_input.tracks, *owner)?;
+    }
+    Ok(())
+}
+
+// The rows of the ACLs of an owner on a switch come after the others.
+fn add_rows_of_acls(
+    alloc: Global,
+    made: &mut MadeRows,
+    records: &Records,
+    switch: ObjId,
+    tracks: bool,
+    owner: ObjId,
+) -> Result<(), OutOfMemory>
+    requires { IsSound records.now }
+    ensures { OnOk result (made.new ≡ made.old ++ acl_units records.now switch tracks owner) }
+{
+    let mut last = None;
+    while let Some(acl) = records.acl_of(owner, last) {
+        made.add_acl(alloc, switch, tracks, acl)?;
+        last = Some(acl.id);
+    }
+    Ok(())
+}

@@ -1,5 +1,0 @@
-use Rattle.nd_units.proofs.All.{made_all}
-use Rattle.nd_units.proofs.build.rows_of_units.Goals as goal
-
-pub returns : goal.returns
-returns c = made_all c.args.records.now c.requires c.new-made.result _ c.new-made.ensures c.in_ok-add_rows_of_switches.ensures

@@ -1,5 +1,0 @@
-use Rattle.nd_units.proofs.Sound.{ports_rise}
-use Rattle.nd_units.proofs.inputs.peer_mac.Goals as goal
-
-pub peer_router_port-requires-clause-rise : goal.peer_router_port-requires-clause-rise
-peer_router_port-requires-clause-rise c = ports_rise c.args.records.now c.requires.sound

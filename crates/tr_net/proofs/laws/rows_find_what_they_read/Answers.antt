@@ -1,5 +1,0 @@
-use Rattle.tr_net.proofs.Finds.{find}
-use Rattle.tr_net.proofs.laws.rows_find_what_they_read.Goals as goal
-
-pub returns : goal.returns
-returns c = find

@@ -1,0 +1,201 @@
+-- On the rows of a sound network without connections actions read only fields that are there.
+use Rattle.std.proofs.Common.{◌≡◌, ℕ, ◌+◌, Bool, true, false, cond, List, [], ◌∷◌, ◌++◌, map, sym, ap, refl, ◌∙◌, inl, inr, subst}
+use Rattle.std.specs.Prelude.{◌&&◌, ◌==◌, Option, Some, None}
+use Rattle.std.specs.Bool.{IsTrue}
+use Rattle.std.specs.List.{AllByRecursion, Contains, flat_map}
+use Rattle.std.proofs.lemmas.Bool.{and_from, and_parts}
+use Rattle.nv_base.specs.declared.field.Field.TheVariants.{EthSrc, EthDst, EthType, ArpOp, ArpSha, ArpTha, ArpSpa}
+use Rattle.nv_base.specs.declared.ip4.Ip4.{Ip4}
+use Rattle.pkt_core.specs.Packet.{Values, value, with_value}
+use Rattle.pkt_core.specs.Prerequisite.{is_there}
+use Rattle.expr_core.specs.Lookup.{Lookup}
+use Rattle.expr_eval.specs.MatchMeaning.{holds}
+use Rattle.act_core.specs.declared.action.Action.{Action}
+use Rattle.act_core.specs.declared.step.Step.TheVariants as step
+use Rattle.nb_core.specs.declared.acl.Verdict.{Verdict}
+use Rattle.nb_core.specs.declared.acl.Verdict.TheVariants.{Allow, AllowRelated, AllowStateless, Drop, Reject}
+use Rattle.nb_core.specs.declared.acl.Way.{Way}
+use Rattle.nb_core.specs.declared.switch.Addr.{Addr}
+use Rattle.nb_core.specs.declared.switch.Addr.TheVariants as addr
+use Rattle.nb_core.specs.declared.switch.Guard.{Guard}
+use Rattle.nb_core.specs.declared.switch.Port.{Port}
+use Rattle.nb_core.specs.declared.switch.Switch.{Switch}
+use Rattle.nb_net.specs.Belongs.{is_router_kind}
+use Rattle.nb_net.specs.Names.{names}
+use Rattle.nb_net.specs.Network.{Network}
+use Rattle.nb_net.specs.Sound.{IsSound}
+use Rattle.net_meaning.specs.Applies.{applies, balances, is_empty}
+use Rattle.net_meaning.specs.Stateless.{IsStateless}
+use Rattle.net_rows.specs.Acls.{ending, last_table, stage_of, switch_acl_rules}
+use Rattle.net_rows.specs.Build.{acl_on_input, has_unknown, port_l2_input, port_rules, port_sec_input, rows, switch_rules}
+use Rattle.net_rows.specs.Lookup.{answers, arp_rules, arp_rules_of, lookup_rule, looked_up, port_l2_rules, requests, switch_l2_rules}
+use Rattle.net_rows.specs.PortSecurity.{closed_rules, disabled_rules, guard_rules, guarded_rules, open_rules, port_sec_rules}
+use Rattle.net_rows.specs.Unit.{rule}
+use Rattle.net_rows.specs.declared.inputs.PortL2Input.{PortL2Input}
+use Rattle.net_rows.specs.declared.inputs.PortSecInput.{PortSecInput}
+use Rattle.net_rows.specs.declared.rule.Rule.{Rule}
+use Rattle.net_rows.proofs.Elements.{Contains-from_filter, every_append}
+use Rattle.net_rows.proofs.Pairs.{every_member}
+use Rattle.net_rows.proofs.Units.{IsRow, rows-gives}
+use Rattle.sb_model.specs.Make.{all_of, goes_on, goes_out, drops, steps, turns_back}
+use Rattle.sb_model.specs.declared.row.Row.{Row}
+use Rattle.sb_model.specs.declared.stage.Stage.{Stage}
+use Rattle.sb_model.specs.declared.stage.Stage.TheVariants.{LsInArpRsp, LsInCheckPortSec, LsInL2Lkup, LsOutCheckPortSec}
+use Rattle.tr_stage.specs.Machine.{bound_for, number_of}
+use Rattle.ls_laws.proofs.Packets.{other_value}
+use Rattle.ls_laws.proofs.RuleStages.{acl_rule-gives, switch_rules-untracked, untracked_rule, untracked_rules}
+use Rattle.tr_walk.specs.Reads.{FindsWhatItReads, FindWhatTheyRead, actions_find, answer_finds, once_changed}
+use Rattle.tr_walk.proofs.Ends.{every_image, every_piece}
+
+-- a packet is ARP where it was before another field changed
+still_arp : (before packet : Values) → value packet EthType ≡ value before EthType → is_there before ArpOp ≡ true → is_there packet ArpSha ≡ true
+still_arp before packet same is = ap (λ n. n == 0x806) same ∙ is
+
+-- of each packet that the rule takes, its actions read only fields that are there
+record Finds (known : Lookup) (says : Rule) : Type 0 where
+  pub there : (packet : Values) → IsTrue (holds known packet says.matching) → IsTrue (actions_find known says.stage says.actions packet)
+
+abbrev AllFind : Lookup → List Rule → Type 0
+AllFind known rules = AllByRecursion (Finds known) rules
+
+module _ (known : Lookup) where
+  -- ---- the rules of switches
+
+  any : (stage : Stage) (priority : ℕ) (matching : _) (actions : List Action) → ((packet : Values) → IsTrue (actions_find known stage actions packet)) → Finds known (rule stage priority matching actions)
+  any stage priority matching actions find = record { there = λ packet takes. find packet }
+
+  of_switch : (balances unknown : Bool) → AllFind known (untracked_rules balances unknown)
+  unfolding switch_acl_rules switch_l2_rules
+  of_switch balances true = (any _ _ _ _ (λ p. refl), (any _ _ _ _ (λ p. refl), (any _ _ _ _ (λ p. refl), (any _ _ _ _ (λ p. refl), (any _ _ _ _ (λ p. refl), (any _ _ _ _ (λ p. refl), (any _ _ _ _ (λ p. refl), (any _ _ _ _ (λ p. refl), (any _ _ _ _ (λ p. refl), (any _ _ _ _ (λ p. refl), (any _ _ _ _ (λ p. refl), (any _ _ _ _ (λ p. refl), (any _ _ _ _ (λ p. refl), (any _ _ _ _ (λ p. refl), (any _ _ _ _ (λ p. refl), (any _ _ _ _ (λ p. refl), (any _ _ _ _ (λ p. refl), (any _ _ _ _ (λ p. refl), tt))))))))))))))))))
+  of_switch balances false = (any _ _ _ _ (λ p. refl), (any _ _ _ _ (λ p. refl), (any _ _ _ _ (λ p. refl), (any _ _ _ _ (λ p. refl), (any _ _ _ _ (λ p. refl), (any _ _ _ _ (λ p. refl), (any _ _ _ _ (λ p. refl), (any _ _ _ _ (λ p. refl), (any _ _ _ _ (λ p. refl), (any _ _ _ _ (λ p. refl), (any _ _ _ _ (λ p. refl), (any _ _ _ _ (λ p. refl), (any _ _ _ _ (λ p. refl), (any _ _ _ _ (λ p. refl), (any _ _ _ _ (λ p. refl), (any _ _ _ _ (λ p. refl), (any _ _ _ _ (λ p. refl), tt)))))))))))))))))
+
+  -- ---- those of ACLs
+
+  -- what answers a rejected packet came in by a port, as each packet did
+  rejected : (stage : Stage) (answer : Option Values) → answer_finds known stage (turns_back ++ step.Jump true last_table ∷ []) answer ≡ true
+  rejected stage None = refl
+  rejected stage (Some packet) = refl
+
+  of_acl : (way : Way) (priority : ℕ) (matching : _) (verdict : Verdict) → Finds known (rule (stage_of way) priority matching (ending verdict))
+  of_acl way priority matching Allow = any _ _ _ _ (λ p. refl)
+  of_acl way priority matching AllowRelated = any _ _ _ _ (λ p. refl)
+  of_acl way priority matching AllowStateless = any _ _ _ _ (λ p. refl)
+  of_acl way priority matching Drop = any _ _ _ _ (λ p. refl)
+  of_acl way priority matching Reject = any _ _ _ _ (λ p. rejected (stage_of way) _)
+
+  -- ---- those of port security
+
+  lets_in : (priority : ℕ) (matching : _) → Finds known (rule LsInCheckPortSec priority matching goes_on)
+  lets_in priority matching = any _ _ _ _ (λ p. refl)
+
+  lets_out : (priority : ℕ) (matching : _) → Finds known (rule LsOutCheckPortSec priority matching goes_out)
+  lets_out priority matching = any _ _ _ _ (λ p. refl)
+
+  shuts : (stage : Stage) (priority : ℕ) (matching : _) → Finds known (rule stage priority matching drops)
+  shuts stage priority matching = any _ _ _ _ (λ p. refl)
+
+  of_guard : (name : List ℕ) (guard : Guard) → AllFind known (guard_rules name guard)
+  of_guard name guard = by (is_empty guard.nets)
+    where
+      by : (b : Bool) → AllFind known (cond b (open_rules name guard) (closed_rules name guard))
+      by true = (lets_in _ _, (lets_out _ _, tt))
+      by false = (lets_in _ _, (lets_in _ _, (lets_in _ _, (lets_in _ _, (lets_out _ _, (lets_out _ _, tt))))))
+
+  of_guards : (name : List ℕ) (guards : List Guard) → AllFind known (guarded_rules name guards)
+  of_guards name [] = tt
+  of_guards name (guard ∷ guards) = (shuts _ _ _, (shuts _ _ _, every_piece (Finds known) (guard_rules name) (guard ∷ guards) (λ g at. of_guard name g)))
+
+  of_security : (input : PortSecInput) → AllFind known (port_sec_rules input)
+  unfolding port_sec_rules
+  of_security input = every_append (Finds known) (disabled_rules input.enabled input.name) (guarded_rules input.name input.security) (by input.enabled) (of_guards input.name input.security)
+    where
+      by : (b : Bool) → AllFind known (disabled_rules b input.name)
+      by true = tt
+      by false = (shuts _ _ _, tt)
+
+  -- ---- those of addresses
+
+  -- A request that is answered is ARP, and so it is while the answer is made: the sender's addresses are there when they are read.
+  answered : (mac : ℕ) (ip : Ip4) (packet : Values) → IsTrue (holds known packet (all_of (requests ip))) → IsTrue (actions_find known LsInArpRsp (steps (answers mac ip)) packet)
+  answered mac ip packet takes = and_from _ _ (and_from _ _ sha_there refl) (and_from _ _ (and_from _ _ spa_there refl) refl)
+    where
+      is_arp : is_there packet ArpOp ≡ true
+      is_arp = (and_parts _ _ (and_parts _ _ takes).0).0
+
+      one : Values
+      one = with_value packet EthDst (value packet EthSrc)
+
+      two : Values
+      two = with_value one EthSrc mac
+
+      three : Values
+      three = with_value two ArpOp 2
+
+      four : Values
+      four = with_value three ArpTha (value three ArpSha)
+
+      five : Values
+      five = with_value four ArpSha mac
+
+      type_of_three : value three EthType ≡ value packet EthType
+      type_of_three = other_value two ArpOp EthType 2 refl ∙ other_value one EthSrc EthType mac refl ∙ other_value packet EthDst EthType (value packet EthSrc) refl
+
+      type_of_five : value five EthType ≡ value packet EthType
+      type_of_five = other_value four ArpSha EthType mac refl ∙ other_value three ArpTha EthType (value three ArpSha) refl ∙ type_of_three
+
+      sha_there : is_there three ArpSha ≡ true
+      sha_there = still_arp packet three type_of_three is_arp
+
+      spa_there : is_there five ArpSpa ≡ true
+      spa_there = still_arp packet five type_of_five is_arp
+
+  of_address : (name : List ℕ) (mac : ℕ) (ip : Ip4) → AllFind known (arp_rules name mac ip)
+  of_address name mac ip = (any _ _ _ _ (λ p. refl), (record { there = answered mac ip }, tt))
+
+  of_addresses : (name : List ℕ) (addresses : List Addr) → AllFind known (flat_map (arp_rules_of name) addresses)
+  of_addresses name addresses = every_piece (Finds known) (arp_rules_of name) addresses by
+    where
+      by : (a : Addr) → Contains addresses a → AllFind known (arp_rules_of name a)
+      by (addr.Host mac ips) there = every_piece (Finds known) (arp_rules name mac) ips (λ ip at. of_address name mac ip)
+      by _ there = tt
+
+  -- a packet goes out by the port of a name, if there is one
+  sent : (stage : Stage) (number : Option ℕ) (packet : Values) → once_changed (bound_for number packet) (actions_find known stage goes_out) ≡ true
+  sent stage None packet = refl
+  sent stage (Some number) packet = refl
+
+  of_lookup : (name : List ℕ) (mac : ℕ) → Finds known (lookup_rule name mac)
+  of_lookup name mac = any _ _ _ _ (λ p. sent LsInL2Lkup (number_of known name) p)
+
+  of_l2 : (input : PortL2Input) → AllFind known (port_l2_rules input)
+  unfolding port_l2_rules
+  of_l2 input = by input.enabled (is_router_kind input.kind)
+    where
+      by : (enabled router : Bool) → AllFind known (cond enabled (cond router [] (flat_map (arp_rules_of input.name) input.addresses) ++ map (lookup_rule input.name) (looked_up input)) [])
+      by false router = tt
+      by true true = every_image (Finds known) (lookup_rule input.name) (looked_up input) (λ mac. of_lookup input.name mac)
+      by true false =
+          every_append (Finds known) (flat_map (arp_rules_of input.name) input.addresses) (map (lookup_rule input.name) (looked_up input)) (of_addresses input.name input.addresses)
+          (every_image (Finds known) (lookup_rule input.name) (looked_up input) (λ mac. of_lookup input.name mac))
+
+-- ---- the rows
+
+module _ (net : Network) (sound : IsSound net) (stateless : IsStateless net) where
+  of_port_rules : (port : Port) → AllFind (names net) (port_rules net port)
+  of_port_rules port =
+      every_append (Finds (names net)) (port_sec_rules (port_sec_input port)) (port_l2_rules (port_l2_input net port)) (of_security (names net) (port_sec_input port)) (of_l2 (names net) (port_l2_input net port))
+
+  of_row : (row : Row) → IsRow net row → FindsWhatItReads (names net) row
+  of_row row (inl at) =
+      let all = subst (AllFind (names net)) (sym (switch_rules-untracked net at.switch stateless at.among)) (of_switch (names net) (balances net at.switch.id) (has_unknown net at.switch.id)) in
+      subst (FindsWhatItReads (names net)) at.is (every_member (Finds (names net)) (switch_rules net at.switch.id) at.says all at.in_rules).there
+  of_row row (inr (inl at)) =
+      subst (FindsWhatItReads (names net)) at.is (every_member (Finds (names net)) (port_rules net at.port) at.says (of_port_rules at.port) at.in_rules).there
+  of_row row (inr (inr at)) =
+      let there = Contains-from_filter (λ (s : Switch). applies net s.id at.acl) net.switches at.switch at.applied in
+      let input = acl_on_input net at.acl at.switch.id in
+      let is : at.says ≡ untracked_rule input = acl_rule-gives net at.switch stateless there at.acl at.says at.in_rules in
+      subst (FindsWhatItReads (names net)) at.is (subst (Finds (names net)) (sym is) (of_acl (names net) input.way (input.priority + 1000) input.matching input.verdict)).there
+
+  pub find : FindWhatTheyRead net
+  find row there = of_row row (rows-gives net row there)

@@ -1,0 +1,34 @@
+use Rattle.std.proofs.Common.{◌≡◌, ◌++◌, ◌+◌, ◌*◌, drop}
+use Rattle.net_meaning.specs.Walk.Target.{Ports}
+use Rattle.tr_walk.specs.inner.Telling.{sending}
+use Rattle.tr_walk.proofs.walk.+walk.Given as goal
+
+-- each step of a walk is taken by the functions after it, and at last a hop
+abbrev pub decreases-reply : goal.decreases-reply
+decreases-reply l = 8 * l.hops
+
+abbrev pub decreases-deliver : goal.decreases-deliver
+decreases-deliver l = 8 * l.hops
+
+abbrev pub decreases-go_out : goal.decreases-go_out
+decreases-go_out l = 8 * l.hops + 1
+
+abbrev pub decreases-leave : goal.decreases-leave
+decreases-leave l = 8 * l.hops + 2
+
+abbrev pub decreases-copy : goal.decreases-copy
+decreases-copy l = 8 * l.hops + 3
+
+abbrev pub decreases-send : goal.decreases-send
+decreases-send l = 8 * l.hops + 4
+
+abbrev pub decreases-arrive : goal.decreases-arrive
+decreases-arrive l = 8 * l.hops + 5
+
+abbrev pub decreases-enter : goal.decreases-enter
+decreases-enter l = 8 * l.hops + 6
+
+-- what is told so far, and then what the copies tell that are left, is all
+abbrev pub invariant-copy-loop-port : goal.invariant-copy-loop-port
+invariant-copy-loop-port l =
+    l.events.items ++ sending l.flows.records.now l.hops l.arrival (Ports (drop l.port-index l.ports)) l.packet ≡ l.fn.events.items ++ sending l.flows.records.now l.hops l.arrival (Ports l.ports) l.packet

@@ -1,0 +1,68 @@
+-- The events of the steps of a walk by rows.
+use Rattle.std.specs.Prelude.{◌≡◌, ℕ, List, map, Option, option_map}
+use Rattle.nv_base.specs.declared.object.ObjId.{ObjId}
+use Rattle.nv_base.specs.declared.field.Field.TheVariants.{Outport}
+use Rattle.pkt_core.specs.Packet.{Values, value, with_value}
+use Rattle.nb_net.specs.Network.{Network}
+use Rattle.nb_net.specs.Sound.{IsSound}
+use Rattle.sb_model.specs.declared.row.Row.{Row}
+use Rattle.net_meaning.specs.Places.{datapath_at, side_of}
+use Rattle.net_meaning.specs.Walk.{Target, Walked, Onward, told_of, after_told, carried, carrying, then_part, delivered_to, made, left, sent, arrived, enters, hops_left}
+use Rattle.net_meaning.specs.declared.answer.Answer.{Answer}
+use Rattle.net_meaning.specs.declared.answer.Answer.TheVariants.{Reject, Arp}
+use Rattle.net_rows.specs.Build as build
+use Rattle.tr_stage.specs.declared.outcome.Hit.{Hit}
+use Rattle.tr_stage.specs.declared.outcome.Outcome.{Outcome}
+use Rattle.ls_laws.specs.Steps.{last_table}
+use Rattle.tr_walk.specs.declared.event.Event.{Event}
+use Rattle.tr_walk.specs.Events.{event_of}
+use Rattle.tr_walk.specs.Machine.{State, numbered, after_ingress, after_egress, egress, pipelines}
+use Rattle.tr_walk.specs.Runnable.{AreRunnable}
+
+-- the rows are those of a sound network, and each packet comes to an end in them
+pub record AreRowsOf (net : Network) (rows : List Row) : Type 0 where
+  pub sound : IsSound net
+  pub all : rows ≡ build.rows net
+  pub run : AreRunnable net
+
+abbrev pub told : Walked Hit State → List Event
+told walked = map event_of walked.told
+
+-- how a packet goes on while so many hops are left
+abbrev pub onward : Network → ℕ → Option (Onward Hit State)
+onward net hops = hops_left net (pipelines net) hops
+
+-- the table of egress that an answer leaves by
+abbrev pub table_for : Answer → ℕ
+table_for Reject = last_table
+table_for Arp = 0
+
+module _ (net : Network) (hops : ℕ) where
+  -- a packet comes in by a port
+  abbrev pub entering : ObjId → Values → List Event
+  entering arrival packet = told (enters net (pipelines net) (onward net hops) arrival packet tt)
+
+  -- a packet has come to the end of ingress
+  abbrev pub arriving : ObjId → Option Outcome → List Event
+  arriving arrival outcome = told (arrived net (pipelines net) (onward net hops) arrival (option_map carrying (after_ingress net (datapath_at net arrival) outcome)) tt)
+
+  -- a packet is sent to where it goes
+  abbrev pub sending : ObjId → Target → Values → List Event
+  sending arrival target packet = told (sent net (pipelines net) (onward net hops) arrival target packet tt)
+
+  -- a packet leaves by a port, from a table of egress on
+  abbrev pub leaving : ObjId → ObjId → ℕ → Values → List Event
+  leaving arrival port table packet = told (then_part (egress net table port (with_value packet Outport port.0) tt) (left net (pipelines net) (onward net hops) arrival port))
+
+  -- a packet has come to the end of egress
+  abbrev pub going_out : ObjId → ObjId → Option Outcome → List Event
+  going_out arrival port outcome = told (left net (pipelines net) (onward net hops) arrival port (option_map carrying (after_egress outcome)) tt)
+
+  -- a packet is delivered at a port
+  abbrev pub delivering : ObjId → Values → List Event
+  delivering port packet = told (delivered_to net (pipelines net) (onward net hops) port packet tt (side_of net port))
+
+  -- a packet is made in the place of another
+  abbrev pub answering : ObjId → Answer → Values → List Event
+  answering arrival answer packet =
+      told (after_told (told_of answer arrival) (made net (pipelines net) (onward net hops) arrival answer (onward net hops) (numbered (value packet Outport)) (carried packet) tt))

@@ -1,0 +1,73 @@
+//! The run of a packet through a pipeline, as a part of a walk.
+ghost use Rattle.std.specs.Prelude.{◌≡◌, ◌++◌, map, IfOk, OnOk, IsSome};
+ghost use Rattle.sb_model.specs.Stage.{stage_at};
+ghost use Rattle.sb_model.specs.declared.stage.DatapathKind.TheVariants as kinds;
+ghost use Rattle.net_meaning.specs.Places.{datapath_at};
+ghost use Rattle.tr_stage.specs.Machine.{run_pipeline};
+ghost use Rattle.ls_laws.specs.Steps.{flows_at};
+ghost use Rattle.tr_walk.specs.declared.event.Event.TheVariants as variants;
+ghost use Rattle.tr_walk.specs.inner.Telling.{AreRowsOf};
+
+use crate::Event;
+use crate::places::datapath_at;
+use expr_core::Env;
+use nb_tables::Records;
+use nv_base::{ObjId, OutOfMemory};
+use pkt_core::Packet;
+use sb_model::Pipeline;
+use sb_rows::Rows;
+use std::alloc::Global;
+use tr_stage::{Hit, Outcome, run_pipeline};
+
+// For so many hits there is room from the start: as many as most pipelines have.
+const FEW: usize = 16;
+
+/// What a walk goes by: the rows of a network, and the network.
+#[derive(Clone, Copy)]
+pub(crate) struct Flows<'a> {
+    pub(crate) alloc: Global,
+    pub(crate) rows: &'a Rows,
+    pub(crate) records: &'a Records,
+}
+
+/// Runs a packet through a pipeline of the switch of a port, from this table on, and puts its hits after the events. Nothing becomes
+/// of the packet where there is no switch.
+pub(crate) fn run(
+    flows: Flows<'_>,
+    port: ObjId,
+    pipeline: Pipeline,
+    table: u8,
+    packet: &Packet,
+    events: &mut Vec<Event>,
+) -> Result<Option<Outcome>, OutOfMemory>
+    requires rows { AreRowsOf flows.records.now flows.rows.now }
+    requires table { IsSome (stage_at kinds.Switch pipeline table) }
+    ensures hits { OnOk result (events.new.items ≡ events.old.items ++ map variants.Hit (run_pipeline (flows_at flows.entry.records.now (datapath_at flows.entry.records.now port)) pipeline table packet.now).hits) }
+    ensures outcome { IfOk result (λ outcome. outcome ≡ (run_pipeline (flows_at flows.entry.records.now (datapath_at flows.entry.records.now port)) pipeline table packet.now).outcome) }
+{
+    let dp = datapath_at(flows.records, port);
+    if !flows.records.is_switch(dp) {
+        return Ok(None);
+    }
+    let mut hits = Vec::with_capacity(flows.alloc, FEW)?;
+    let outcome = run_pipeline(
+        flows.rows,
+        flows.records,
+        dp,
+        pipeline,
+        table,
+        packet,
+        &mut hits,
+    )?;
+    put_hits(&hits, events)?;
+    Ok(Some(outcome))
+}
+
+fn put_hits(hits: &[Hit], events: &mut Vec<Event>) -> Result<(), OutOfMemory>
+    ensures { OnOk result (events.new.items ≡ events.old.items ++ map variants.Hit hits.now) }
+{
+    for hit in hits {
+        events.push(Event::Hit(*hit))?;
+    }
+    Ok(())
+}

@@ -1,0 +1,337 @@
+//! The walk of a packet: it comes in by a port, leaves by others, and goes on over their peers.
+ghost use Rattle.std.specs.Prelude.{◌≡◌, ◌&&◌, ◌==◌, ◌++◌, map, IfOk, OnOk, IsSome};
+ghost use Rattle.nv_base.specs.declared.field.Field.TheVariants.{Outport, FlagsLoopback};
+ghost use Rattle.pkt_core.specs.Packet.{value};
+ghost use Rattle.sb_model.specs.Stage.{stage_at};
+ghost use Rattle.sb_model.specs.declared.stage.DatapathKind.TheVariants as kinds;
+ghost use Rattle.sb_model.specs.declared.stage.Pipeline.TheVariants as pipelines;
+ghost use Rattle.nb_net.specs.Network.{same};
+ghost use Rattle.nb_net.specs.Sound.{IsSound};
+ghost use Rattle.net_meaning.specs.Places.{datapath_at};
+ghost use Rattle.net_meaning.specs.Stateless.{IsStateless};
+ghost use Rattle.net_meaning.specs.Walk.{carried, told_of};
+ghost use Rattle.net_meaning.specs.Walk.Target.{Ports};
+ghost use Rattle.net_rows.specs.Build as build;
+ghost use Rattle.tr_walk.specs.Events.{event_of};
+ghost use Rattle.tr_walk.specs.Machine.{State, machine, numbered, target_of};
+ghost use Rattle.tr_walk.specs.Refined.{IsRefined};
+ghost use Rattle.tr_walk.specs.Runnable.{AreRunnable};
+ghost use Rattle.tr_walk.specs.inner.Telling.{AreRowsOf, table_for, entering, arriving, sending, leaving, going_out, delivering, answering};
+
+use crate::Event;
+use crate::places::{Side, datapath_at, side_of};
+use crate::ports::{group_of, ports_of};
+use crate::run::{Flows, run};
+use nb_tables::Records;
+use net_meaning::{Answer, Cause};
+use nv_base::{Field, ObjId, OutOfMemory};
+use pkt_core::Packet;
+use sb_model::Pipeline;
+use sb_rows::Rows;
+use std::alloc::Global;
+use tr_stage::Outcome;
+
+// The last table of egress.
+const LAST_TABLE: u8 = 4;
+
+// For so many events there is room from the start: as many as most walks have.
+const FEW: usize = 32;
+
+/// What is told of a packet that comes in by a port and may take so many hops: a hit for each row that acts, and what becomes of the
+/// packet and of its copies and answers, each to its end before the next (ovn-trace(8)). The network is sound, and the rows are its own,
+/// such that each packet comes to an end in them. Where memory runs out the answer is `OutOfMemory`.
+#[tactic(auto, using(crate::proofs::Refinement::stateless_refined))]
+pub fn trace(
+    alloc: Global,
+    rows: &Rows,
+    records: &Records,
+    port: ObjId,
+    packet: &Packet,
+    hops: u32,
+) -> Result<Vec<Event>, OutOfMemory>
+    requires sound { IsSound records.now }
+    requires rows { rows.now ≡ build.rows records.now }
+    requires run { AreRunnable records.now }
+    ensures events { IfOk result (λ events. events.items ≡ map event_of (machine {S = State} records.now hops port packet.now tt).told) }
+    ensures refinement { OnOk result (IsStateless records.now → IsRefined records.now) }
+{
+    let mut events = Vec::with_capacity(alloc, FEW)?;
+    let flows = Flows {
+        alloc,
+        rows,
+        records,
+    };
+    enter(flows, hops, port, packet, &mut events)?;
+    Ok(events)
+}
+
+// A packet comes into a datapath by a port.
+#[cycle(walk)]
+#[tactic(auto, using(crate::proofs::Steps::ingress_begins))]
+fn enter(
+    flows: Flows<'_>,
+    hops: u32,
+    arrival: ObjId,
+    packet: &Packet,
+    events: &mut Vec<Event>,
+) -> Result<(), OutOfMemory>
+    requires { AreRowsOf flows.records.now flows.rows.now }
+    ensures { OnOk result (events.new.items ≡ events.old.items ++ entering flows.entry.records.now hops arrival packet.now) }
+{
+    let start = packet.start(arrival);
+    let outcome = run(flows, arrival, Pipeline::Ingress, 0, &start, events)?;
+    arrive(flows, hops, arrival, &outcome, events)
+}
+
+// What follows ingress.
+#[cycle(walk)]
+fn arrive(
+    flows: Flows<'_>,
+    hops: u32,
+    arrival: ObjId,
+    outcome: &Option<Outcome>,
+    events: &mut Vec<Event>,
+) -> Result<(), OutOfMemory>
+    requires { AreRowsOf flows.records.now flows.rows.now }
+    ensures { OnOk result (events.new.items ≡ events.old.items ++ arriving flows.entry.records.now hops arrival outcome.now) }
+{
+    match outcome {
+        Some(Outcome::Leave(packet, table)) => {
+            if *table > 0 {
+                return Ok(());
+            }
+            send(flows, hops, arrival, packet, events)
+        }
+        Some(Outcome::Made(packet, table, answer)) => {
+            if *table != LAST_TABLE {
+                return Ok(());
+            }
+            reply(flows, hops, arrival, *answer, packet, events)
+        }
+        Some(Outcome::Drop(cause)) => {
+            events.push(Event::Drop(datapath_at(flows.records, arrival), *cause))?;
+            Ok(())
+        }
+        Some(Outcome::Deliver(_)) | None => Ok(()),
+    }
+}
+
+// A packet goes to where its `outport` says. None goes back by its own port, unless it is turned back on purpose.
+#[cycle(walk)]
+#[tactic(auto, using(crate::proofs::Steps::egress_begins))]
+fn send(
+    flows: Flows<'_>,
+    hops: u32,
+    arrival: ObjId,
+    packet: &Packet,
+    events: &mut Vec<Event>,
+) -> Result<(), OutOfMemory>
+    requires { AreRowsOf flows.records.now flows.rows.now }
+    ensures { OnOk result (events.new.items ≡ events.old.items
+        ++ sending flows.entry.records.now hops arrival (target_of flows.entry.records.now (datapath_at flows.entry.records.now arrival) (value packet.now Outport)) (carried packet.now)) }
+{
+    let port = outport(packet);
+    let packet = carried(packet);
+    let dp = datapath_at(flows.records, arrival);
+    match group_of(port) {
+        Some(group) => {
+            let ports = ports_of(flows.alloc, flows.records, dp, group)?;
+            copy(flows, hops, arrival, &ports, &packet, events)
+        }
+        None => {
+            if is_sent_back(arrival, port, &packet) {
+                events.push(Event::Drop(dp, Cause::SamePort))?;
+                return Ok(());
+            }
+            leave(flows, hops, arrival, port, 0, &packet, events)
+        }
+    }
+}
+
+// Copies of a packet leave by all ports but the one that it came in by.
+#[cycle(walk)]
+#[tactic(auto, using(crate::proofs::Steps::egress_begins))]
+fn copy(
+    flows: Flows<'_>,
+    hops: u32,
+    arrival: ObjId,
+    ports: &[ObjId],
+    packet: &Packet,
+    events: &mut Vec<Event>,
+) -> Result<(), OutOfMemory>
+    requires { AreRowsOf flows.records.now flows.rows.now }
+    ensures { OnOk result (events.new.items ≡ events.old.items ++ sending flows.entry.records.now hops arrival (Ports ports.now) packet.now) }
+{
+    for port in ports {
+        if is_same(*port, arrival) {
+            continue;
+        }
+        leave(flows, hops, arrival, *port, 0, packet, events)?;
+    }
+    Ok(())
+}
+
+// A packet leaves by a port, from a table of egress on.
+#[cycle(walk)]
+fn leave(
+    flows: Flows<'_>,
+    hops: u32,
+    arrival: ObjId,
+    port: ObjId,
+    table: u8,
+    packet: &Packet,
+    events: &mut Vec<Event>,
+) -> Result<(), OutOfMemory>
+    requires rows { AreRowsOf flows.records.now flows.rows.now }
+    requires table { IsSome (stage_at kinds.Switch pipelines.Egress table) }
+    ensures { OnOk result (events.new.items ≡ events.old.items ++ leaving flows.entry.records.now hops arrival port table packet.now) }
+{
+    let mut packet = *packet;
+    packet.set(Field::Outport, u128::from(port.0));
+    let outcome = run(flows, port, Pipeline::Egress, table, &packet, events)?;
+    go_out(flows, hops, arrival, port, &outcome, events)
+}
+
+// What follows egress.
+#[cycle(walk)]
+fn go_out(
+    flows: Flows<'_>,
+    hops: u32,
+    arrival: ObjId,
+    port: ObjId,
+    outcome: &Option<Outcome>,
+    events: &mut Vec<Event>,
+) -> Result<(), OutOfMemory>
+    requires { AreRowsOf flows.records.now flows.rows.now }
+    ensures { OnOk result (events.new.items ≡ events.old.items ++ going_out flows.entry.records.now hops arrival port outcome.now) }
+{
+    match outcome {
+        Some(Outcome::Deliver(packet)) => deliver(flows, hops, port, &carried(packet), events),
+        Some(Outcome::Made(packet, table, answer)) => {
+            if *table != LAST_TABLE {
+                return Ok(());
+            }
+            reply(flows, hops, arrival, *answer, packet, events)
+        }
+        Some(Outcome::Drop(cause)) => {
+            events.push(Event::Drop(datapath_at(flows.records, port), *cause))?;
+            Ok(())
+        }
+        Some(Outcome::Leave(_, _)) | None => Ok(()),
+    }
+}
+
+// A packet is delivered at a port: to a host, with its header fields alone, or over to the peer.
+#[cycle(walk)]
+fn deliver(
+    flows: Flows<'_>,
+    hops: u32,
+    port: ObjId,
+    packet: &Packet,
+    events: &mut Vec<Event>,
+) -> Result<(), OutOfMemory>
+    requires { AreRowsOf flows.records.now flows.rows.now }
+    ensures { OnOk result (events.new.items ≡ events.old.items ++ delivering flows.entry.records.now hops port packet.now) }
+{
+    match side_of(flows.records, port) {
+        Side::Host => {
+            events.push(Event::Output(port, packet.headers()))?;
+            Ok(())
+        }
+        Side::NoPeer => {
+            events.push(Event::Drop(datapath_at(flows.records, port), Cause::NoPeer))?;
+            Ok(())
+        }
+        Side::Peer(peer) => {
+            if hops == 0 {
+                events.push(Event::HopLimit(peer))?;
+                return Ok(());
+            }
+            enter(flows, hops - 1, peer, packet, events)
+        }
+    }
+}
+
+// A packet that was made where one came in by a port leaves by its `outport`.
+#[cycle(walk)]
+fn reply(
+    flows: Flows<'_>,
+    hops: u32,
+    arrival: ObjId,
+    answer: Answer,
+    packet: &Packet,
+    events: &mut Vec<Event>,
+) -> Result<(), OutOfMemory>
+    requires { AreRowsOf flows.records.now flows.rows.now }
+    ensures { OnOk result (events.new.items ≡ events.old.items ++ answering flows.entry.records.now hops arrival answer packet.now) }
+{
+    tell_answer(arrival, answer, events)?;
+    if hops == 0 {
+        events.push(Event::HopLimit(arrival))?;
+        return Ok(());
+    }
+    let port = outport(packet);
+    let packet = carried(packet);
+    leave(
+        flows,
+        hops - 1,
+        arrival,
+        port,
+        table_for(answer),
+        &packet,
+        events,
+    )
+}
+
+// A packet that is made is told of, unless it is an ARP request.
+fn tell_answer(arrival: ObjId, answer: Answer, events: &mut Vec<Event>) -> Result<(), OutOfMemory>
+    ensures { OnOk result (events.new.items ≡ events.old.items ++ map event_of (told_of answer arrival)) }
+{
+    match answer {
+        Answer::Reject => events.push(Event::Reject(arrival))?,
+        Answer::Arp => {}
+    }
+    Ok(())
+}
+
+// The table of egress that an answer leaves by: an ARP request goes through all, as other packets do.
+#[tactic(auto, unfolding(sb_model::specs::Stage::stage_at, sb_model::specs::Stage::all_stages))]
+fn table_for(answer: Answer) -> u8
+    ensures table { result ≡ table_for answer }
+    ensures there { IsSome (stage_at kinds.Switch pipelines.Egress result) }
+{
+    match answer {
+        Answer::Reject => LAST_TABLE,
+        Answer::Arp => 0,
+    }
+}
+
+fn is_same(a: ObjId, b: ObjId) -> bool
+    ensures { result ≡ same a b }
+{
+    a.0 == b.0
+}
+
+// Whether a packet would go back by the port that it came in by, and was not turned back on purpose.
+fn is_sent_back(arrival: ObjId, port: ObjId, packet: &Packet) -> bool
+    ensures { result ≡ same port arrival && (value packet.now FlagsLoopback == 0) }
+{
+    is_same(port, arrival) && packet.get(Field::FlagsLoopback) == 0
+}
+
+// What a packet takes with it from part to part: its header fields, the port that it came in by, and whether it may go back.
+fn carried(packet: &Packet) -> Packet
+    ensures { result ≡ carried packet.now }
+{
+    let mut carried = packet.headers();
+    carried.set(Field::Inport, packet.get(Field::Inport));
+    carried.set(Field::FlagsLoopback, packet.get(Field::FlagsLoopback));
+    carried
+}
+
+// The port that a packet goes out by.
+fn outport(packet: &Packet) -> ObjId
+    ensures { result ≡ numbered (value packet.now Outport) }
+{
+    ObjId(packet.get(Field::Outport) as u32)
+}

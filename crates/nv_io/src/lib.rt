@@ -8,9 +8,11 @@ mod mem_source;
 mod sink;
 mod source;
 mod std_stream;
+mod whole;
 
 pub use mem_sink::{MemSink, NullSink};
 pub use mem_source::{CleanSource, MemSource};
 pub use sink::{Sink, SinkFailed};
 pub use source::{Source, SourceFailed};
 pub use std_stream::{StdSink, StdSource};
+pub use whole::put_all;

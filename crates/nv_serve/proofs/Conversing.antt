@@ -7,17 +7,19 @@ use Rattle.nv_io.specs.Counts.{Rose}
 use Rattle.nv_io.specs.State.{SourceState, SinkState}
 use Rattle.nv_io.specs.declared.sink.SinkFailed.{SinkFailed}
 use Rattle.nv_io.specs.declared.source.SourceFailed.{SourceFailed}
-use Rattle.nv_serve.specs.declared.stop.Stop.{Stop}
-use Rattle.nv_serve.specs.declared.stop.Stop.TheVariants as stops
-use Rattle.nv_serve.specs.Session.{Session}
-use Rattle.nv_serve.specs.Reply.{reply, replies, some_refused}
+use Rattle.nv_reply.specs.declared.stop.Stop.{Stop}
+use Rattle.nv_reply.specs.declared.stop.Stop.TheVariants as stops
+use Rattle.nv_reply.specs.Session.{Session}
+use Rattle.nv_reply.specs.Reply.{reply, replies, some_refused}
 use Rattle.nv_serve.specs.Output.{lines_of, complete_lines, input_limit}
-use Rattle.nv_serve.specs.Calls.{IsPrefix, BeginsDue, Gave, Took, Moved, told_left, Point, start_at, IsReady, piece_limit, Calls, no_call, and_take, and_puts, LastTakeGivesNothing}
+use Rattle.nv_io.specs.Passed.{IsPrefix, Gave, Took}
+use Rattle.nv_serve.specs.Calls.{BeginsDue, Moved, told_left, Point, start_at, IsReady, piece_limit, Calls, no_call, and_take, and_puts, LastTakeGivesNothing}
 use Rattle.nv_serve.specs.inner.Pieces.{IsDue, BeginsOutput}
 use Rattle.nv_serve.specs.inner.StateAfter.{IsKeptAfter}
-use Rattle.nv_serve.specs.inner.Writing.{Wrote, PutFailed, StopsWithin}
+use Rattle.nv_io.specs.Writing.{Wrote, PutFailed}
+use Rattle.nv_reply.specs.Stops.{StopsWithin}
 use Rattle.nv_serve.specs.inner.Endings.{Finished, StopEnds, StopCalls}
-use Rattle.nv_serve.proofs.Writing.{gave_nothing, gave_more, gave_still, took_nothing, took_more}
+use Rattle.nv_io.proofs.Writing.{gave_nothing, gave_more, gave_still, took_nothing, took_more}
 use Rattle.nv_serve.proofs.Kept.{reply_kept}
 use Rattle.nv_serve.proofs.StateAfter.{written_end, refused_end}
 

@@ -13,16 +13,17 @@ use Rattle.nv_io.specs.declared.source.SourceFailed.{SourceFailed}
 use Rattle.nv_serve.specs.declared.status.Status.{Status}
 use Rattle.nv_serve.specs.declared.status.Status.TheVariants.{Done, SomeRefused, Usage, ReadFault, WriteFault, InputTooLong, OutOfMemory}
 use Rattle.nv_serve.specs.Output.{opened, output, complete_output, usage_line, is_refused, lines_of, input_limit}
-use Rattle.nv_serve.specs.Reply.{replies}
-use Rattle.nv_serve.specs.Session.{Session}
-use Rattle.nv_serve.specs.Calls.{IsPrefix, BeginsDue, Moved, told_left, start_at, no_call, and_puts, LastTakeGivesNothing}
+use Rattle.nv_reply.specs.Reply.{replies}
+use Rattle.nv_reply.specs.Session.{Session}
+use Rattle.nv_io.specs.Passed.{IsPrefix}
+use Rattle.nv_serve.specs.Calls.{BeginsDue, Moved, told_left, start_at, no_call, and_puts, LastTakeGivesNothing}
 use Rattle.nv_serve.specs.Run.{IsFinished, NothingFollowsAFault}
 use Rattle.nv_serve.specs.Traced.{TracesAreMeant}
-use Rattle.nv_serve.specs.inner.Writing.{Wrote, PutFailed}
-use Rattle.nv_serve.specs.declared.stop.Stop.{Stop}
-use Rattle.nv_serve.specs.declared.stop.Stop.TheVariants as stops
+use Rattle.nv_io.specs.Writing.{Wrote, PutFailed}
+use Rattle.nv_reply.specs.declared.stop.Stop.{Stop}
+use Rattle.nv_reply.specs.declared.stop.Stop.TheVariants as stops
 use Rattle.nv_serve.specs.inner.Endings.{status_of, Finished, StopEnds, StopCalls, Ends, Refuses}
-use Rattle.nv_serve.proofs.Writing.{gave_nothing, took_nothing}
+use Rattle.nv_io.proofs.Writing.{gave_nothing, took_nothing}
 use Rattle.nv_serve.proofs.Lengths.{lines_longer}
 use Rattle.nv_serve.proofs.Traced.{traces_meant}
 

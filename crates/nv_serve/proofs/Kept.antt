@@ -12,8 +12,8 @@ use Rattle.nb_words.specs.Words.{words_of}
 use Rattle.nb_read.specs.Then.{and_then}
 use Rattle.nb_cmds.specs.Lines.{said, read_line}
 use Rattle.nb_cmds.specs.declared.line.Line.TheVariants.{Nothing}
-use Rattle.nv_serve.specs.Session.{Session}
-use Rattle.nv_serve.specs.Reply.{answered, reply, reply_to}
+use Rattle.nv_reply.specs.Session.{Session}
+use Rattle.nv_reply.specs.Reply.{answered, reply, reply_to}
 use Rattle.nv_serve.specs.inner.StateAfter.{IsKeptAfter, kept_limit, and_kept}
 use Rattle.nv_serve.proofs.StateAfter.{stands_first}
 

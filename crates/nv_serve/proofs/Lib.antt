@@ -1,16 +1,10 @@
-pub mod Answering
 pub mod Conversing
 pub mod Cuts
 pub mod Endings
-pub mod Keeping
 pub mod Kept
 pub mod Lengths
-pub mod Listings
 pub mod Outputs
 pub mod Pieces
-pub mod Reached
-pub mod Refusals
 pub mod Splits
 pub mod StateAfter
 pub mod Traced
-pub mod Writing

@@ -4,10 +4,10 @@ use Rattle.std.specs.Prelude.{if◌then◌else◌}
 use Rattle.std.proofs.lemmas.List.{append-nil}
 use Rattle.clap.specs.Words.{Text}
 use Rattle.nv_options.specs.Options.{accepts}
-use Rattle.nv_serve.specs.Session.{Session}
-use Rattle.nv_serve.specs.Reply.{reply, replies, session_after, some_refused}
+use Rattle.nv_reply.specs.Session.{Session}
+use Rattle.nv_reply.specs.Reply.{reply, replies, session_after, some_refused}
 use Rattle.nv_serve.specs.Output.{is_newline, lines_of, complete_lines, opened, output, complete_output, usage_line}
-use Rattle.nv_serve.specs.Calls.{IsPrefix}
+use Rattle.nv_io.specs.Passed.{IsPrefix}
 use Rattle.nv_serve.specs.inner.StateAfter.{IsStateAfter}
 use Rattle.nv_serve.proofs.Splits.{split_has_first, take-butlast}
 use Rattle.nv_serve.proofs.Kept.{reply_nothing}

@@ -3,15 +3,17 @@ use Rattle.std.proofs.Common.{◌≡◌, ℕ, ◌+◌, Bool, ◌||◌, List, [],
 use Rattle.std.proofs.lemmas.List.{append-nil}
 use Rattle.nv_io.specs.State.{SinkState}
 use Rattle.nv_io.specs.declared.sink.SinkFailed.{SinkFailed}
-use Rattle.nv_serve.specs.declared.stop.Stop.{Stop}
-use Rattle.nv_serve.specs.declared.stop.Stop.TheVariants.{OutOfMemory}
-use Rattle.nv_serve.specs.Session.{Session}
-use Rattle.nv_serve.specs.Reply.{reply, replies}
+use Rattle.nv_reply.specs.declared.stop.Stop.{Stop}
+use Rattle.nv_reply.specs.declared.stop.Stop.TheVariants.{OutOfMemory}
+use Rattle.nv_reply.specs.Session.{Session}
+use Rattle.nv_reply.specs.Reply.{reply, replies}
 use Rattle.nv_serve.specs.Output.{lines_of, complete_lines}
-use Rattle.nv_serve.specs.inner.Writing.{Wrote, PutFailed, StopsWithin}
+use Rattle.nv_io.specs.Writing.{Wrote, PutFailed}
+use Rattle.nv_reply.specs.Stops.{StopsWithin}
 use Rattle.nv_serve.specs.inner.StateAfter.{IsStateAfter, IsKeptAfter, and_kept, EndsNoLine, CutsLine}
 use Rattle.nv_serve.specs.inner.Pieces.{IsDue, BeginsOutput}
-use Rattle.nv_serve.proofs.Writing.{wrote_nothing, wrote_after, stops_after}
+use Rattle.nv_io.proofs.Writing.{wrote_nothing, wrote_after}
+use Rattle.nv_reply.proofs.Stops.{stops_after}
 use Rattle.nv_serve.proofs.Kept.{reply_kept, kept_more}
 use Rattle.nv_serve.proofs.StateAfter.{stands_same, written_same, stands_more, written_more, written_prefix}
 

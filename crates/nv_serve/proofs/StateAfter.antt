@@ -2,8 +2,8 @@
 use Rattle.std.proofs.Common.{◌≡◌, ℕ, ◌-◌, Bool, true, false, ◌||◌, List, [], ◌∷◌, ◌++◌, length, take, refl, sym, ap, ◌∙◌, append_assoc}
 use Rattle.std.proofs.lemmas.List.{append-nil}
 use Rattle.std.specs.List.{slice_split}
-use Rattle.nv_serve.specs.Session.{Session}
-use Rattle.nv_serve.specs.Reply.{reply, replies, some_refused, session_after}
+use Rattle.nv_reply.specs.Session.{Session}
+use Rattle.nv_reply.specs.Reply.{reply, replies, some_refused, session_after}
 use Rattle.nv_serve.specs.Output.{is_newline, lines_of, complete_lines}
 use Rattle.nv_serve.specs.inner.StateAfter.{IsStateAfter}
 use Rattle.nv_serve.proofs.Splits.{joined, joined-last, split-append, take-butlast}

@@ -18,11 +18,11 @@ use Rattle.tr_walk.specs.Events.{event_of, of_plain, plain_event, without_hits}
 use Rattle.tr_walk.specs.Machine.{State, machine}
 use Rattle.tr_stage.specs.declared.outcome.Hit.{Hit}
 use Rattle.nv_serve.specs.Output.{opened}
-use Rattle.nv_serve.specs.Reply.{accept, answered, trace_lines, reply, reply_to, session_after}
-use Rattle.nv_serve.specs.Session.{Session}
+use Rattle.nv_reply.specs.Reply.{accept, answered, trace_lines, reply, reply_to, session_after}
+use Rattle.nv_reply.specs.Session.{Session}
 use Rattle.nv_serve.specs.Traced.{TellsMeaning, TracesAreMeant}
 use Rattle.nv_serve.proofs.Lengths.{before_longer}
-use Rattle.nv_serve.proofs.Reached.{each_refined}
+use Rattle.nv_reply.proofs.Reached.{each_refined}
 
 -- what becomes of a packet is an event without a hit
 of_plain_is : (event : PlainEvent) → plain_event (of_plain event) ≡ Some event

@@ -1,27 +1,12 @@
 -- The calls that a run makes of its source and its sink, and the bytes that they pass.
 use Rattle.std.specs.Prelude.{◌≡◌, ℕ, ◌≤◌, List, [], ◌++◌, length, take, Option, Some, None, Result, Ok, Err}
-use Rattle.std.specs.Io.KnownBytes.{Appends, Consumes}
-use Rattle.nv_io.specs.Counts.{count_after}
+use Rattle.nv_io.specs.Passed.{IsPrefix, Gave, Took, Puts}
 use Rattle.nv_io.specs.State.{SourceState, SinkState}
 use Rattle.nv_io.specs.declared.sink.SinkFailed.{SinkFailed}
 use Rattle.nv_io.specs.declared.source.SourceFailed.{SourceFailed}
 use Rattle.nv_serve.specs.Output.{complete_lines}
-use Rattle.nv_serve.specs.Reply.{replies}
-use Rattle.nv_serve.specs.Session.{Session}
-
--- a text that begins another
-abbrev pub IsPrefix : List ℕ → List ℕ → Type 0
-IsPrefix part whole = (more : List ℕ) × (whole ≡ part ++ more)
-
--- the source gave these bytes
-pub record Gave (old new : SourceState) (bytes : List ℕ) : Type 0 where
-  pub told : Consumes old.left new.left bytes
-  pub amount : new.given ≡ count_after old.given (length bytes)
-
--- the sink took these bytes
-pub record Took (old new : SinkState) (bytes : List ℕ) : Type 0 where
-  pub told : Appends old.taken new.taken bytes
-  pub amount : new.amount ≡ count_after old.amount (length bytes)
+use Rattle.nv_reply.specs.Reply.{replies}
+use Rattle.nv_reply.specs.Session.{Session}
 
 -- the source gave some bytes and the sink took some, of which this holds
 abbrev pub Moved : {S K : Type 0} → (S → SourceState) → (K → SinkState) → S × K → S × K → (List ℕ → List ℕ → Type 0) → Type 0
@@ -57,11 +42,6 @@ piece_limit = 4096
 pub record IsReady {S K : Type 0} (point : Point S K) (size : ℕ) : Type 0 where
   pub small : size ≤ piece_limit
   pub answered : point.written ≡ replies point.first (complete_lines point.given)
-
--- puts that all succeeded lead from one sink to another, and passed these bytes
-pub data Puts {K : Type 0} (put_gives : K → List ℕ → Result ℕ SinkFailed → K → Type 0) (old : K) : List ℕ → K → Type 0 where
-  no_put : Puts put_gives old [] old
-  and_put : {k l : K} {n : ℕ} {written : List ℕ} (offered : List ℕ) → Puts put_gives old written k → put_gives k offered (Ok n) l → Puts put_gives old (written ++ take n offered) l
 
 -- takes and puts that all succeeded, in this order, lead from the start to a point
 pub data Calls {S K : Type 0} (take_gives : S → List ℕ → Result ℕ SourceFailed → S → Type 0) (put_gives : K → List ℕ → Result ℕ SinkFailed → K → Type 0) (start : Point S K) : Point S K → Type 0 where

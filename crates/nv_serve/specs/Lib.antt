@@ -1,9 +1,6 @@
 pub mod Calls
-pub mod Events
 pub mod Output
-pub mod Reply
 pub mod Run
-pub mod Session
 pub mod Status
 pub mod Traced
 pub mod inner

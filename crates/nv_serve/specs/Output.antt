@@ -3,8 +3,8 @@ use Rattle.std.specs.Prelude.{ℕ, ◌-◌, Bool, ◌==◌, if◌then◌else◌,
 use Rattle.std.specs.List.{slice_split}
 use Rattle.clap.specs.Words.{Text}
 use Rattle.nv_options.specs.Options.{accepts, hops_in}
-use Rattle.nv_serve.specs.Session.{Session, new_session}
-use Rattle.nv_serve.specs.Reply.{replies, some_refused}
+use Rattle.nv_reply.specs.Session.{Session, new_session}
+use Rattle.nv_reply.specs.Reply.{replies, some_refused}
 
 abbrev pub is_newline : ℕ → Bool
 is_newline byte = byte == 10

@@ -12,8 +12,8 @@ use Rattle.net_meaning.specs.Walk.{events}
 use Rattle.tr_walk.specs.Events.{without_hits}
 use Rattle.tr_walk.specs.Machine.{State}
 use Rattle.nv_serve.specs.Output.{opened}
-use Rattle.nv_serve.specs.Reply.{traced, traced_port, trace_lines, ok_line, reply, session_after}
-use Rattle.nv_serve.specs.Session.{Session}
+use Rattle.nv_reply.specs.Reply.{traced, traced_port, trace_lines, ok_line, reply, session_after}
+use Rattle.nv_reply.specs.Session.{Session}
 
 -- The text is the lines of the events of the rows, and `ok`; and these events are, hits left out, what the network does with the packet.
 pub record TellsMeaning (session : Session) (minimal : Bool) (arrival : Port) (packet : Values) (text : List ℕ) : Type 0 where

@@ -4,8 +4,8 @@ ghost use Rattle.nv_serve.specs.inner.Endings.{Finished, StopEnds, StopCalls};
 ghost use Rattle.nv_serve.specs.inner.StateAfter.{IsKeptAfter};
 
 use crate::server::Server;
-use crate::stop::Stop;
 use nv_io::{Sink, Source};
+use nv_reply::Stop;
 use std::alloc::Global;
 
 // At most so many bytes are read at a time.

@@ -1,25 +1,8 @@
-ghost use Rattle.std.specs.Prelude.{◌≡◌, ◌++◌, ◌+◌, ◌<◌, ℕ, List, [], ◌∷◌, codes, length, nat_eq, sum_by, true};
-ghost use Rattle.std.specs.List.{starts_with};
+ghost use Rattle.std.specs.Prelude.{◌≡◌, ◌++◌, ℕ, List, [], ◌∷◌, true};
 ghost use Rattle.clap.specs.Words.{Text};
 ghost use Rattle.nv_options.specs.Options.{accepts};
-ghost use Rattle.nb_net.specs.Sound.{IsSound};
-ghost use Rattle.nb_plain.specs.Plain.{IsPlain};
-ghost use Rattle.nv_serve.specs.Calls.{IsPrefix};
+ghost use Rattle.nv_io.specs.Passed.{IsPrefix};
 ghost use Rattle.nv_serve.specs.Output.{output, complete_output};
-ghost use Rattle.nv_serve.specs.Reply.{reply, session_after};
-ghost use Rattle.nv_serve.specs.Session.{Session, new_session};
-
-/// Each network that lines leave is sound, as long as the lines have fewer than 4,294,967,293 bytes together.
-pub fn lines_leave_sound_networks()
-    ensures { (hops : ℕ) (lines : List (List ℕ)) → 1 + sum_by length lines < 4294967294
-        → IsSound (session_after (new_session hops) lines).network }
-{}
-
-/// Each network that lines leave is one of switches that track no connections, with hosts at their ports.
-#[tactic(auto, using(crate::proofs::Reached::plain_after))]
-pub fn lines_leave_plain_networks()
-    ensures { (hops : ℕ) (lines : List (List ℕ)) → IsPlain (session_after (new_session hops) lines).network }
-{}
 
 /// The replies to an input's complete lines begin the output of each input that begins with it, where the arguments are
 /// accepted. So does the output of an input that ends with a newline, whatever the arguments.
@@ -29,11 +12,4 @@ pub fn output_goes_on()
         → IsPrefix (complete_output words input) (output words (input ++ more)) }
     ensures at_line_end { (words : List Text) (input more : List ℕ)
         → IsPrefix (output words (input ++ 10 ∷ [])) (output words ((input ++ 10 ∷ []) ++ more)) }
-{}
-
-/// A reply is a refusal exactly where its text begins with `refused `.
-#[tactic(auto, using(crate::proofs::Refusals::says_refused))]
-pub fn refusals_say_so()
-    ensures { (session : Session) (line : List ℕ)
-        → (reply session line).refused ≡ starts_with nat_eq (reply session line).text (codes "refused ") }
 {}

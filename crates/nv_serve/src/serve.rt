@@ -9,13 +9,12 @@ ghost use Rattle.nv_serve.specs.Output.{lines_of, opened, output, complete_outpu
 ghost use Rattle.nv_serve.specs.Run.{IsFinished, NothingFollowsAFault};
 ghost use Rattle.nv_serve.specs.Traced.{TracesAreMeant};
 ghost use Rattle.nv_serve.specs.inner.Endings.{Ends, Refuses};
-ghost use Rattle.nv_serve.specs.inner.Writing.{Wrote, PutFailed};
+ghost use Rattle.nv_io.specs.Writing.{Wrote, PutFailed};
 
 use crate::Status;
 use crate::converse::converse;
-use crate::put_all::put_all;
 use crate::server::Server;
-use nv_io::{Sink, Source};
+use nv_io::{Sink, Source, put_all};
 use nv_options::{ArgumentFault, accept_arguments};
 use std::alloc::Global;
 
@@ -119,7 +118,7 @@ fn answer_lines<S: Source, K: Sink>(alloc: Global, hops: u8, source: &mut S, sin
     match converse(alloc, &mut server, source, sink) {
         Ok(()) if server.some_refused => Status::SomeRefused,
         Ok(()) => Status::Done,
-        Err(stop) => stop.status(),
+        Err(stop) => Status::of(&stop),
     }
 }
 

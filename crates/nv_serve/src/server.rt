@@ -1,19 +1,16 @@
 ghost use Rattle.std.specs.Prelude.{◌≡◌, ◌++◌, ◌+◌, ◌<◌, ◌≤◌, ◌||◌, ℕ, List, [], OnOk, IfErr, length, take, false};
-ghost use Rattle.nv_serve.specs.Reply.{flows, ok_line, reply};
-ghost use Rattle.nv_serve.specs.Session.{new_session};
-ghost use Rattle.nv_serve.specs.Session as spec;
+ghost use Rattle.nv_reply.specs.Reply.{flows, ok_line, reply};
+ghost use Rattle.nv_reply.specs.Session.{new_session};
+ghost use Rattle.nv_reply.specs.Session as spec;
 ghost use Rattle.nv_serve.specs.inner.Pieces.{IsDue, BeginsOutput};
 ghost use Rattle.nv_serve.specs.inner.StateAfter.{IsKeptAfter, and_kept};
-ghost use Rattle.nv_serve.specs.inner.Writing.{Wrote, PutFailed, StopsWithin};
+ghost use Rattle.nv_io.specs.Writing.{Wrote, PutFailed};
+ghost use Rattle.nv_reply.specs.Stops.{StopsWithin};
 
-use crate::answer::Answer;
 use crate::cut::cut_line;
-use crate::put_all::put_all;
-use crate::reply::run_line;
-use crate::session::Session;
-use crate::stop::Stop;
 use nv_base::{ObjId, OutOfMemory};
-use nv_io::Sink;
+use nv_io::{Sink, put_all};
+use nv_reply::{Answer, Session, Stop, run_line};
 use std::alloc::Global;
 
 // No more bytes of a line are kept: its reply depends on no more.

@@ -1,5 +1,8 @@
 ghost use Rattle.std.specs.Prelude.{◌≡◌};
 ghost use Rattle.nv_serve.specs.Status.{exit_status};
+ghost use Rattle.nv_serve.specs.inner.Endings.{status_of};
+
+use nv_reply::Stop;
 
 /// How a run ended.
 #[derive(Clone, Copy, Debug, PartialEq, Eq)]
@@ -33,6 +36,17 @@ impl Status {
             Status::WriteFault => 4,
             Status::InputTooLong => 5,
             Status::OutOfMemory => 6,
+        }
+    }
+    // The status of a run that is stopped.
+    pub(crate) fn of(stop: &Stop) -> Status
+        ensures { result ≡ status_of stop.now }
+    {
+        match stop {
+            Stop::ReadFault => Status::ReadFault,
+            Stop::WriteFault => Status::WriteFault,
+            Stop::InputTooLong => Status::InputTooLong,
+            Stop::OutOfMemory => Status::OutOfMemory,
         }
     }
 }

@@ -9,12 +9,13 @@ use Rattle.nv_io.specs.declared.sink.SinkFailed.{SinkFailed}
 use Rattle.nv_io.specs.declared.source.SourceFailed.{SourceFailed}
 use Rattle.nv_serve.specs.declared.status.Status.{Status}
 use Rattle.nv_serve.specs.declared.status.Status.TheVariants.{Done, SomeRefused, Usage, ReadFault, WriteFault, InputTooLong, OutOfMemory}
-use Rattle.nv_serve.specs.declared.stop.Stop.{Stop}
-use Rattle.nv_serve.specs.declared.stop.Stop.TheVariants as stops
+use Rattle.nv_reply.specs.declared.stop.Stop.{Stop}
+use Rattle.nv_reply.specs.declared.stop.Stop.TheVariants as stops
 use Rattle.nv_serve.specs.Output.{lines_of, complete_lines, opened, output, usage_line, input_limit}
-use Rattle.nv_serve.specs.Reply.{replies, some_refused}
-use Rattle.nv_serve.specs.Session.{Session}
-use Rattle.nv_serve.specs.Calls.{Point, Calls, IsPrefix, BeginsDue, told_left, LastTakeFails, LastPutFails}
+use Rattle.nv_reply.specs.Reply.{replies, some_refused}
+use Rattle.nv_reply.specs.Session.{Session}
+use Rattle.nv_io.specs.Passed.{IsPrefix}
+use Rattle.nv_serve.specs.Calls.{Point, Calls, BeginsDue, told_left, LastTakeFails, LastPutFails}
 
 -- what the source and the sink tell
 abbrev pub States : Type 0

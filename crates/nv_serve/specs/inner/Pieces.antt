@@ -1,9 +1,9 @@
 -- What is due for a piece of the input.
 use Rattle.std.specs.Prelude.{◌≡◌, ℕ, List, ◌++◌}
-use Rattle.nv_serve.specs.Calls.{IsPrefix}
+use Rattle.nv_io.specs.Passed.{IsPrefix}
 use Rattle.nv_serve.specs.Output.{lines_of, complete_lines}
-use Rattle.nv_serve.specs.Reply.{replies}
-use Rattle.nv_serve.specs.Session.{Session}
+use Rattle.nv_reply.specs.Reply.{replies}
+use Rattle.nv_reply.specs.Session.{Session}
 
 -- this text is the replies to the lines that these bytes end, which come after others
 abbrev pub IsDue : Session → List ℕ → List ℕ → List ℕ → Type 0

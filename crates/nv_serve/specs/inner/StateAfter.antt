@@ -2,8 +2,8 @@
 use Rattle.std.specs.Prelude.{◌≡◌, ℕ, ◌+◌, ◌-◌, Bool, List, [], ◌∷◌, ◌++◌, length, take}
 use Rattle.std.specs.List.{slice_split}
 use Rattle.nb_words.specs.Commands.{line_limit}
-use Rattle.nv_serve.specs.Session.{Session}
-use Rattle.nv_serve.specs.Reply.{session_after, some_refused}
+use Rattle.nv_reply.specs.Session.{Session}
+use Rattle.nv_reply.specs.Reply.{session_after, some_refused}
 use Rattle.nv_serve.specs.Output.{is_newline, lines_of, complete_lines}
 
 -- the session, the line that has no end yet, and whether a line was refused, after these bytes, by the session before the first line

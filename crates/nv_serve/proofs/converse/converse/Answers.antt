@@ -1,7 +1,7 @@
 use Rattle.std.proofs.Common.{◌≡◌, Result, Ok, Err, OnOk, take, sym, arith}
 use Rattle.std.proofs.lemmas.List.{append-nil, length-take-le}
 use Rattle.std.proofs.lemmas.Result.{err_from_is_err_and, IfErr-weaker}
-use Rattle.nv_serve.proofs.Writing.{gave_take}
+use Rattle.nv_io.proofs.Writing.{gave_take}
 use Rattle.nv_serve.proofs.Conversing.{conversed_first, read_faulted, conversed_more, stopped_within, parted, too_long, finished, stopped_at_end}
 use Rattle.nv_serve.proofs.converse.converse.Goals as goal
 

@@ -1,7 +1,7 @@
 use Rattle.nv_serve.proofs.Endings.{stopped}
 use Rattle.nv_serve.proofs.Kept.{kept_first}
 use Rattle.std.proofs.Common.{refl, ap, ◌∙◌}
-use Rattle.nv_serve.specs.Session.{new_session}
+use Rattle.nv_reply.specs.Session.{new_session}
 use Rattle.nv_serve.proofs.serve.answer_lines.Goals as goal
 
 -- before the first line

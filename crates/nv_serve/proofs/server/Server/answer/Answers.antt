@@ -1,6 +1,6 @@
 use Rattle.std.proofs.Common.{[], refl}
 use Rattle.std.proofs.lemmas.Result.{err_from_is_err_and}
-use Rattle.nv_serve.proofs.Writing.{wrote_nothing}
+use Rattle.nv_io.proofs.Writing.{wrote_nothing}
 use Rattle.nv_serve.proofs.server.Server.answer.Goals as goal
 
 -- nothing of the reply is put before it is made

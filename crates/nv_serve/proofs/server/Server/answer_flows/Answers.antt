@@ -1,6 +1,7 @@
 use Rattle.std.proofs.lemmas.Result.{err_from_is_err_and}
-use Rattle.nv_serve.specs.declared.stop.Stop.TheVariants.{WriteFault}
-use Rattle.nv_serve.proofs.Writing.{wrote_after, stops_before, stops_after}
+use Rattle.nv_reply.specs.declared.stop.Stop.TheVariants.{WriteFault}
+use Rattle.nv_io.proofs.Writing.{wrote_after}
+use Rattle.nv_reply.proofs.Stops.{stops_before, stops_after}
 use Rattle.nv_serve.proofs.server.Server.answer_flows.Goals as goal
 
 -- `ok` is due after the listing

@@ -1,9 +1,10 @@
 use Rattle.std.proofs.Common.{◌≡◌, ◌||◌, length, eqb, sym, ap, ◌∙◌, subst, arith}
 use Rattle.std.proofs.lemmas.Result.{err_from_is_err_and}
-use Rattle.nv_serve.specs.inner.Writing.{Wrote}
+use Rattle.nv_io.specs.Writing.{Wrote}
 use Rattle.nv_serve.proofs.Kept.{none_there, kept_longer, reply_empty}
 use Rattle.nv_serve.proofs.StateAfter.{or_false}
-use Rattle.nv_serve.proofs.Writing.{wrote_nothing, stopped_first}
+use Rattle.nv_io.proofs.Writing.{wrote_nothing}
+use Rattle.nv_reply.proofs.Stops.{stopped_first}
 use Rattle.nv_serve.proofs.server.Server.end_line.Goals as goal
 
 -- an empty line changes nothing

@@ -4,7 +4,7 @@ use Rattle.std.proofs.lemmas.Result.{err_from_is_err_and}
 use Rattle.nv_serve.specs.inner.StateAfter.{and_kept}
 use Rattle.nv_serve.proofs.Kept.{kept_longer}
 use Rattle.nv_serve.proofs.Pieces.{fed_nothing, fed_line, fed_all, stopped_here, stopped_line}
-use Rattle.nv_serve.proofs.Reached.{reply_next}
+use Rattle.nv_reply.proofs.Reached.{reply_next}
 use Rattle.nv_serve.proofs.server.Server.feed.Goals as goal
 
 pub loop-line-init : goal.loop-line-init

@@ -1,5 +1,5 @@
 use Rattle.std.proofs.Common.{ℕ, ◌+◌, ◌≤◌, List, length}
-use Rattle.nv_serve.specs.Session.{Session}
+use Rattle.nv_reply.specs.Session.{Session}
 use Rattle.nv_serve.specs.inner.StateAfter.{IsKeptAfter}
 use Rattle.nv_serve.proofs.Pieces.{Fed}
 use Rattle.nv_serve.proofs.server.Server.feed.Given as goal

@@ -1,0 +1,36 @@
+-- What a reply keeps of a session.
+use Rattle.std.proofs.Common.{◌≡◌, ℕ, List, Some, None, Result, Ok, Err, refl}
+use Rattle.nb_core.specs.declared.edit.Edit.{Edit}
+use Rattle.nb_core.specs.declared.refusal.Refusal.{Refusal}
+use Rattle.nb_cmds.specs.Lines.{read_line}
+use Rattle.nb_cmds.specs.declared.line.Line.{Line}
+use Rattle.nb_cmds.specs.declared.line.Line.TheVariants as line
+use Rattle.nb_cmds.specs.declared.query.Query.{Query}
+use Rattle.nb_cmds.specs.declared.query.Query.TheVariants as query
+use Rattle.nb_net.specs.Network.{Network}
+use Rattle.nb_net.specs.Transactions.{edited}
+use Rattle.nv_reply.specs.Session.{Session}
+use Rattle.nv_reply.specs.Reply.{Reply, answered, wanted_datapath, traced_port, reply_to, reply_to_query, reply}
+
+-- what holds of the session, and after each reply for what may be found
+pub answered_keeps : {X : Type 0} (P : Session → Type 0) (session : Session) (found : Result X Refusal) (reply_for : X → Reply) → P session → ((x : X) → found ≡ Ok x → P (reply_for x).after) → P (answered session found reply_for).after
+answered_keeps P session (Err refusal) reply_for here each = here
+answered_keeps P session (Ok x) reply_for here each = each x refl
+
+-- a query changes nothing
+pub query_keeps : (P : Session → Type 0) (session : Session) (q : Query) → P session → P (reply_to_query session q).after
+query_keeps P session (query.FlowList None) here = here
+query_keeps P session (query.FlowList (Some name)) here = answered_keeps P session (wanted_datapath session.network name) _ here (λ number found. here)
+query_keeps P session query.Dump here = here
+query_keeps P session (query.Trace minimal dp micro) here = answered_keeps P session (traced_port session.network dp micro.inport) _ here (λ port found. here)
+
+-- what holds of the session, and after the edits of the line, if it asks for edits and none is refused
+pub reply_keeps : (P : Session → Type 0) (session : Session) (text : List ℕ) → P session
+    → ((list : List Edit) (net : Network) → read_line text ≡ Ok (line.Edits list) → edited session.network list ≡ Ok net → P (record session { network = net })) → P (reply session text).after
+unfolding reply
+reply_keeps P session text here after_edits = answered_keeps P session (read_line text) (reply_to session) here by
+  where
+    by : (said : Line) → read_line text ≡ Ok said → P (reply_to session said).after
+    by line.Nothing is = here
+    by (line.Edits list) is = answered_keeps P session (edited session.network list) _ here (λ net done. after_edits list net is done)
+    by (line.Query q) is = query_keeps P session q here

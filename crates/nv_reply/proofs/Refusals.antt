@@ -1,0 +1,69 @@
+-- A reply is a refusal exactly where its text says so.
+use Rattle.std.proofs.Common.{◌≡◌, ℕ, Bool, true, false, Some, None, Result, Ok, Err, List, [], ◌∷◌, ◌++◌, refl}
+use Rattle.std.specs.Prelude.{codes, filter, nat_eq, Option}
+use Rattle.std.specs.List.{starts_with, flat_map}
+use Rattle.nv_base.specs.declared.object.ObjId.{ObjId}
+use Rattle.nb_core.specs.declared.refusal.Refusal.{Refusal}
+use Rattle.nb_cmds.specs.Lines.{read_line}
+use Rattle.nb_cmds.specs.declared.line.Line.{Line}
+use Rattle.nb_cmds.specs.declared.line.Line.TheVariants as line
+use Rattle.nb_cmds.specs.declared.query.Query.{Query}
+use Rattle.nb_cmds.specs.declared.query.Query.TheVariants as query
+use Rattle.nb_net.specs.Network.{Network}
+use Rattle.nb_net.specs.Transactions.{edited}
+use Rattle.sb_model.specs.declared.row.Row.{Row}
+use Rattle.sb_rows.specs.Row.{rows_of}
+use Rattle.sb_rows.specs.Listing.{datapath_listing, is_asked_for}
+use Rattle.net_rows.specs.Build as build
+use Rattle.tr_walk.specs.declared.event.Event.{Event}
+use Rattle.tr_walk.specs.declared.event.Event.TheVariants as events
+use Rattle.nv_reply.specs.Events.{event_lines}
+use Rattle.nv_reply.specs.Reply.{Reply, ok_line, answered, datapaths, flows, wanted_datapath, traced, traced_port, reply_to_query, reply_to, reply}
+use Rattle.nv_reply.specs.Session.{Session}
+
+-- a reply that says whether it is a refusal
+abbrev Says : Reply → Type 0
+Says r = r.refused ≡ starts_with nat_eq r.text (codes "refused ")
+
+answered_says : {X : Type 0} (session : Session) (found : Result X Refusal) (reply_for : X → Reply) → ((x : X) → Says (reply_for x)) → Says (answered session found reply_for)
+answered_says session (Err refusal) reply_for each = refl
+answered_says session (Ok x) reply_for each = each x
+
+-- no line of an event does
+events_say : (net : Network) (minimal : Bool) (all : List Event) → false ≡ starts_with nat_eq (event_lines net minimal all ++ ok_line) (codes "refused ")
+events_say net minimal [] = refl
+events_say net true (events.Hit hit ∷ more) = events_say net true more
+events_say net false (events.Hit hit ∷ more) = refl
+events_say net true (events.Output port packet ∷ more) = refl
+events_say net false (events.Output port packet ∷ more) = refl
+events_say net true (events.Drop dp cause ∷ more) = refl
+events_say net false (events.Drop dp cause ∷ more) = refl
+events_say net true (events.Reject port ∷ more) = refl
+events_say net false (events.Reject port ∷ more) = refl
+events_say net true (events.HopLimit port ∷ more) = refl
+events_say net false (events.HopLimit port ∷ more) = refl
+
+-- no listing does
+datapaths_say : (rows : List Row) (some : List (ObjId × List ℕ)) → false ≡ starts_with nat_eq (flat_map (λ d. datapath_listing (rows_of d.0 rows) d.1) some ++ ok_line) (codes "refused ")
+datapaths_say rows [] = refl
+datapaths_say rows (one ∷ some) = refl
+
+flows_say : (net : Network) (only : Option ObjId) → false ≡ starts_with nat_eq (flows net only ++ ok_line) (codes "refused ")
+unfolding flows
+flows_say net only = datapaths_say (build.rows net) (filter (λ d. is_asked_for only d.0) (datapaths net.switches))
+
+query_says : (session : Session) (q : Query) → Says (reply_to_query session q)
+query_says session (query.FlowList None) = flows_say session.network None
+query_says session (query.FlowList (Some name)) = answered_says session (wanted_datapath session.network name) _ (λ number. flows_say session.network (Some number))
+query_says session query.Dump = refl
+query_says session (query.Trace minimal dp micro) =
+    answered_says session (traced_port session.network dp micro.inport) _ (λ port. events_say session.network minimal (traced session port micro.packet))
+
+line_says : (session : Session) (said : Line) → Says (reply_to session said)
+line_says session line.Nothing = refl
+line_says session (line.Edits list) = answered_says session (edited session.network list) _ (λ net. refl)
+line_says session (line.Query q) = query_says session q
+
+pub says_refused : (session : Session) (text : List ℕ) → Says (reply session text)
+unfolding reply
+says_refused session text = answered_says session (read_line text) (reply_to session) (line_says session)

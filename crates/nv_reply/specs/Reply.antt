@@ -1,0 +1,114 @@
+-- What a line is answered, and the session that it leaves.
+use Rattle.std.specs.Prelude.{ℕ, Bool, true, false, ◌||◌, List, [], ◌∷◌, ◌++◌, map, Option, Some, None, ok_or, Result, Ok, Err, if◌then◌else◌, codes}
+use Rattle.nv_base.specs.declared.object.ObjId.{ObjId}
+use Rattle.pkt_core.specs.Packet.{Values}
+use Rattle.nb_core.specs.declared.refusal.Refusal.{Refusal}
+use Rattle.nb_core.specs.declared.refusal.Refusal.TheVariants.{NoSuchObject, NotOnDatapath}
+use Rattle.nb_core.specs.declared.switch.Switch.{Switch}
+use Rattle.nb_core.specs.Refusal.{refusal_line}
+use Rattle.nb_cmds.specs.Lines.{read_line}
+use Rattle.nb_cmds.specs.declared.line.Line.{Line}
+use Rattle.nb_cmds.specs.declared.line.Line.TheVariants.{Nothing, Edits, Query}
+use Rattle.nb_cmds.specs.declared.query.Query as query
+use Rattle.nb_cmds.specs.declared.query.Query.TheVariants.{FlowList, Dump, Trace}
+use Rattle.nb_read.specs.Then.{and_then}
+use Rattle.nb_net.specs.Belongs.{is_number}
+use Rattle.nb_net.specs.Network.{Network}
+use Rattle.nb_net.specs.Transactions.{edited}
+use Rattle.nb_tables.specs.Places.{datapath_of, on_datapath, port_of}
+use Rattle.nb_dump.specs.Dump.{dump}
+use Rattle.sb_rows.specs.Listing.{listing}
+use Rattle.net_rows.specs.Build.{rows}
+use Rattle.tr_walk.specs.declared.event.Event.{Event}
+use Rattle.tr_walk.specs.Events.{event_of}
+use Rattle.tr_walk.specs.Machine.{State, machine}
+use Rattle.nv_reply.specs.Events.{event_lines}
+use Rattle.nv_reply.specs.Session.{Session}
+
+-- the text of a reply, whether it is a refusal, and the session after the line
+pub record Reply : Type 0 where
+  pub text : List ℕ
+  pub refused : Bool
+  pub after : Session
+
+-- the line that ends the reply to each line that says something and is not refused
+abbrev pub ok_line : List ℕ
+ok_line = codes "ok\n"
+
+-- a refused line leaves the session as it was
+abbrev pub refuse : Session → Refusal → Reply
+refuse session refusal = record { text = refusal_line refusal; refused = true; after = session }
+
+-- a line that is done is answered by its lines and `ok`
+abbrev pub accept : List ℕ → Session → Reply
+accept lines session = record { text = lines ++ ok_line; refused = false; after = session }
+
+-- the reply for what was found, or the refusal
+abbrev pub answered : {X : Type 0} → Session → Result X Refusal → (X → Reply) → Reply
+answered session (Err refusal) reply_for = refuse session refusal
+answered session (Ok found) reply_for = reply_for found
+
+-- the numbers and the names of the datapaths that have flows
+abbrev pub datapaths : List Switch → List (ObjId × List ℕ)
+datapaths switches = map (λ switch. (switch.id, switch.name)) switches
+
+-- the listing of the flows of one datapath, or of all
+unfoldable pub flows : Network → Option ObjId → List ℕ
+flows net only = listing (rows net) (datapaths net.switches) only
+
+-- the number of the switch or the router of this name
+abbrev pub wanted_datapath : Network → List ℕ → Result ObjId Refusal
+wanted_datapath net name = ok_or (datapath_of net name) (NoSuchObject name)
+
+-- the number of the port of this name, of a switch or of a router
+abbrev pub wanted_port : Network → List ℕ → Result ObjId Refusal
+wanted_port net name = ok_or (port_of net name) (NoSuchObject name)
+
+-- the port is on the datapath
+abbrev pub on_wanted : Network → ObjId → List ℕ → ObjId → Result ObjId Refusal
+on_wanted net dp name port = if is_number (on_datapath net port) dp then Ok port else Err (NotOnDatapath name)
+
+-- the port by which a traced packet comes into a datapath
+abbrev pub traced_port : Network → List ℕ → List ℕ → Result ObjId Refusal
+traced_port net datapath name = and_then (wanted_datapath net datapath) (λ dp. and_then (wanted_port net name) (on_wanted net dp name))
+
+-- what the rows do with a packet that comes in by a port
+abbrev pub traced : Session → ObjId → Values → List Event
+traced session port packet = map event_of (machine {S = State} session.network session.hops port packet tt).told
+
+-- the lines of a trace
+abbrev pub trace_lines : Session → Bool → ObjId → Values → List ℕ
+trace_lines session minimal port packet = event_lines session.network minimal (traced session port packet)
+
+-- the reply to a query
+abbrev pub reply_to_query : Session → query.Query → Reply
+reply_to_query session (FlowList None) = accept (flows session.network None) session
+reply_to_query session (FlowList (Some name)) = answered session (wanted_datapath session.network name) (λ number. accept (flows session.network (Some number)) session)
+reply_to_query session Dump = accept (dump session.network) session
+reply_to_query session (Trace minimal dp micro) =
+    answered session (traced_port session.network dp micro.inport) (λ port. accept (trace_lines session minimal port micro.packet) session)
+
+-- the reply to what a line says
+abbrev pub reply_to : Session → Line → Reply
+reply_to session Nothing = record { text = []; refused = false; after = session }
+reply_to session (Edits list) = answered session (edited session.network list) (λ net. accept [] (record session { network = net }))
+reply_to session (Query query) = reply_to_query session query
+
+-- the reply to a line
+unfoldable pub reply : Session → List ℕ → Reply
+reply session line = answered session (read_line line) (reply_to session)
+
+-- the replies to lines, in order, each from the session that the earlier lines left
+abbrev pub replies : Session → List (List ℕ) → List ℕ
+replies session [] = []
+replies session (line ∷ lines) = (reply session line).text ++ replies (reply session line).after lines
+
+-- whether some reply is a refusal
+abbrev pub some_refused : Session → List (List ℕ) → Bool
+some_refused session [] = false
+some_refused session (line ∷ lines) = (reply session line).refused || some_refused (reply session line).after lines
+
+-- the session that lines leave
+abbrev pub session_after : Session → List (List ℕ) → Session
+session_after session [] = session
+session_after session (line ∷ lines) = session_after (reply session line).after lines

@@ -1,0 +1,25 @@
+ghost use Rattle.std.specs.Prelude.{◌≡◌, ◌+◌, ◌<◌, ℕ, List, codes, length, nat_eq, sum_by};
+ghost use Rattle.std.specs.List.{starts_with};
+ghost use Rattle.nb_net.specs.Sound.{IsSound};
+ghost use Rattle.nb_plain.specs.Plain.{IsPlain};
+ghost use Rattle.nv_reply.specs.Reply.{reply, session_after};
+ghost use Rattle.nv_reply.specs.Session.{Session, new_session};
+
+/// Each network that lines leave is sound, as long as the lines have fewer than 4,294,967,293 bytes together.
+pub fn lines_leave_sound_networks()
+    ensures { (hops : ℕ) (lines : List (List ℕ)) → 1 + sum_by length lines < 4294967294
+        → IsSound (session_after (new_session hops) lines).network }
+{}
+
+/// Each network that lines leave is one of switches that track no connections, with hosts at their ports.
+#[tactic(auto, using(crate::proofs::Reached::plain_after))]
+pub fn lines_leave_plain_networks()
+    ensures { (hops : ℕ) (lines : List (List ℕ)) → IsPlain (session_after (new_session hops) lines).network }
+{}
+
+/// A reply is a refusal exactly where its text begins with `refused `.
+#[tactic(auto, using(crate::proofs::Refusals::says_refused))]
+pub fn refusals_say_so()
+    ensures { (session : Session) (line : List ℕ)
+        → (reply session line).refused ≡ starts_with nat_eq (reply session line).text (codes "refused ") }
+{}

@@ -1,0 +1,17 @@
+//! What a line is answered: the session that lines leave, the replies to edits and queries, listings and traces.
+#![tactic(auto)]
+
+mod answer;
+mod events;
+mod laws;
+mod listing;
+mod objects;
+mod reply;
+mod session;
+mod stop;
+
+pub use answer::Answer;
+pub use laws::{lines_leave_plain_networks, lines_leave_sound_networks, refusals_say_so};
+pub use reply::run_line;
+pub use session::Session;
+pub use stop::Stop;

@@ -1,0 +1,155 @@
+ghost use Rattle.std.specs.Prelude.{◌≡◌, ◌+◌, ◌<◌, Ok, OnOk, OnErr, IfOk, IfErr, length};
+ghost use Rattle.std.specs.List.{AllByRecursion};
+ghost use Rattle.nb_words.specs.Fault.{IsFaultOf};
+ghost use Rattle.nb_net.specs.Readable.{IsReadable};
+ghost use Rattle.nb_net.specs.Sound.{IsSound};
+ghost use Rattle.nb_net.specs.Transactions.{edited};
+ghost use Rattle.nb_plain.specs.Plain.{IsBuilt, IsPlain};
+ghost use Rattle.tr_walk.specs.Refined.{IsRefined};
+ghost use Rattle.nv_reply.specs.Reply.{flows, traced};
+ghost use Rattle.nv_reply.specs.Session.{new_session};
+ghost use Rattle.nv_reply.specs.inner.KeptRows.{AreRowsOf};
+ghost use Rattle.nv_io.specs.Writing.{Wrote, PutFailed};
+ghost use Rattle.nv_reply.specs.Stops.{StopsWithin};
+
+use crate::listing::put_datapaths;
+use crate::stop::Stop;
+use nb_check::Tables;
+use nb_core::Edit;
+use nb_tables::Records;
+use nb_words::LineFault;
+use nd_full::full;
+use nv_base::{Items, ObjId, OutOfMemory};
+use nv_io::Sink;
+use pkt_core::Packet;
+use sb_rows::Rows;
+use std::alloc::Global;
+use std::marker::Model;
+use tr_walk::{Event, trace};
+
+/// What a run keeps from line to line: the network, its rows where they were made since it last changed, and how many hops a traced
+/// packet may take (not from OVN). A clause sees the network, which is sound, and the hops.
+#[derive(Drop)]
+pub struct Session {
+    tables: Tables,
+    rows: Option<Rows>,
+    hops: u8,
+}
+
+impl Model for Session {
+    ghost use Rattle.std.specs.Coded.{codes};
+    ghost use Rattle.nb_core.specs.contracts.acl.Acl as acl;
+    ghost use Rattle.nv_reply.specs.Session as value;
+    ghost use Rattle.nb_plain.specs.Plain.{IsPlain};
+    ghost use Rattle.nv_reply.specs.inner.KeptRows.{AreKept};
+
+    ghost Value = { value.Session };
+
+    ghost coded = { Prim.hlevel (codes, acl.the_row.coded) };
+
+    ghost view = { λ s. record { network = s.tables; hops = s.hops } };
+
+    ghost invariant = { λ s. IsPlain s.tables × AreKept s.rows s.tables };
+}
+
+impl Session {
+    /// The session before the first line: the network without objects, where a traced packet may take so many hops (not
+    /// from OVN). It takes no memory.
+    #[tactic(auto, using(nb_plain::proofs::Plain::empty_plain))]
+    pub fn new(hops: u8) -> Self
+        ensures { result ≡ new_session hops }
+    {
+        Session {
+            tables: Tables::new(),
+            rows: None,
+            hops,
+        }
+    }
+
+    /// The records of the network.
+    pub fn records(&self) -> &Records
+        ensures records { result.now ≡ self.now.network }
+        ensures sound { IsSound self.now.network }
+    {
+        self.tables.records()
+    }
+
+    /// Does what all edits of a line ask for, or nothing where one is refused or memory runs out (not from OVN:
+    /// ovn-nbctl(8) runs the commands of one call as one transaction).
+    #[tactic(auto, using(crate::proofs::Reached::plain_edited))]
+    pub fn apply_all(&mut self, alloc: Global, edits: Items<Edit>) -> Result<(), LineFault>
+        requires readable { AllByRecursion IsReadable edits }
+        requires built { AllByRecursion IsBuilt edits }
+        requires room { self.old.network.next + length edits < 4294967294 }
+        ensures done { OnOk result (edited self.old.network edits ≡ Ok self.new.network) }
+        ensures hops { self.new.hops ≡ self.old.hops }
+        ensures refused { IfErr result (λ fault. IsFaultOf (edited self.old.network edits) fault) }
+        ensures same { OnErr result (self.new ≡ self.old) }
+    {
+        self.tables.apply_all(alloc, edits)?;
+        self.rows = None;
+        Ok(())
+    }
+
+    /// What the rows do with a packet that comes in by a port (ovn-trace(8)). They are made where the network has
+    /// changed, and kept. Where memory runs out the answer is `OutOfMemory`.
+    pub fn trace(
+        &mut self,
+        alloc: Global,
+        port: ObjId,
+        packet: &Packet,
+    ) -> Result<Vec<Event>, OutOfMemory>
+        ensures events { IfOk result (λ events. events.items ≡ traced self.old port packet.now) }
+        ensures refinement { OnOk result (IsRefined self.old.network) }
+        ensures same { self.new ≡ self.old }
+    {
+        let rows = self.take_rows(alloc)?;
+        let hops = u32::from(self.hops);
+        let events = trace(alloc, &rows, self.tables.records(), port, packet, hops)?;
+        self.rows = Some(rows);
+        Ok(events)
+    }
+
+    /// Puts the listing of the flows of one datapath, or of all (ovn-sbctl(8), `lflow-list`). The rows are made where the
+    /// network has changed, and kept. `Stop` where the sink fails or memory runs out: a front of the listing was put.
+    #[tactic(auto, unfolding(crate::specs::Reply::flows), using(crate::proofs::Stops::stopped_first))]
+    pub fn put_flows<K: Sink>(
+        &mut self,
+        alloc: Global,
+        only: Option<ObjId>,
+        sink: &mut K,
+    ) -> Result<(), Stop>
+        ensures put { OnOk result (Wrote K.put_gives K.state sink.old sink.new (flows self.old.network only)) }
+        ensures stop { IfErr result (StopsWithin
+            (Wrote K.put_gives K.state sink.old sink.new) (PutFailed K.put_gives K.state sink.old sink.new)
+            (flows self.old.network only)) }
+        ensures same { self.new ≡ self.old }
+    {
+        let rows = self.take_rows(alloc)?;
+        put_datapaths(alloc, &rows, self.tables.records().switches(), only, sink)?;
+        self.rows = Some(rows);
+        Ok(())
+    }
+
+    // The rows, made anew where the network has changed. They are no longer kept. It stays a function of its own, in which the
+    // bench counts instructions.
+    #[inline(never)]
+    fn take_rows(&mut self, alloc: Global) -> Result<Rows, OutOfMemory>
+        ensures rows { IfOk result (λ rows. AreRowsOf rows self.old.network) }
+        ensures same { self.new ≡ self.old }
+    {
+        if let Some(rows) = self.rows.take() {
+            return Ok(rows);
+        }
+        rows_of(alloc, self.tables.records())
+    }
+}
+
+// The rows of a network.
+fn rows_of(alloc: Global, records: &Records) -> Result<Rows, OutOfMemory>
+    requires sound { IsSound records.now }
+    requires plain { IsPlain records.now }
+    ensures { IfOk result (λ rows. AreRowsOf rows records.now) }
+{
+    full(alloc, records)
+}

@@ -1,5 +1,5 @@
 -- A command's words, by their places.
-use Rattle.std.specs.Prelude.{ℕ, ◌+◌, Bool, List, [], length, drop, nat_lt, codes, Option, Some, None, Result, Ok, Err, if◌then◌else◌}
+use Rattle.std.specs.Prelude.{ℕ, ◌+◌, Bool, List, [], length, drop, nat_lt, codes, Option, Some, None, Result, Ok, if◌then◌else◌}
 use Rattle.std.specs.List.{list_any, slice_get}
 use Rattle.std.specs.Str.{bytes_eq}
 use Rattle.nb_core.specs.declared.refusal.Refusal.{Refusal}

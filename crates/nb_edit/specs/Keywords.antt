@@ -1,6 +1,6 @@
 -- The keywords that stand at the places of a command, and its options.
-use Rattle.std.specs.Prelude.{ℕ, Bool, true, false, ◌||◌, List, nat_eq, Option, Some, None, is_some, codes, if◌then◌else◌}
-use Rattle.std.specs.List.{starts_with, list_any}
+use Rattle.std.specs.Prelude.{ℕ, Bool, true, ◌||◌, List, nat_eq, is_some, codes}
+use Rattle.std.specs.List.{list_any}
 use Rattle.std.specs.Str.{bytes_eq}
 use Rattle.nb_read.specs.Keywords.{way_of, verdict_of, proto_of, nat_kind_of, state_of, begins}
 use Rattle.nb_edit.specs.declared.form.Flag.{Flag}

@@ -1,6 +1,6 @@
 -- The keywords that words may be.
-use Rattle.std.specs.Prelude.{ℕ, Bool, true, false, ◌||◌, List, nat_eq, Option, Some, None, is_some, codes, if◌then◌else◌}
-use Rattle.std.specs.List.{starts_with, list_any}
+use Rattle.std.specs.Prelude.{ℕ, Bool, true, false, List, nat_eq, Option, Some, None, codes, if◌then◌else◌}
+use Rattle.std.specs.List.{starts_with}
 use Rattle.std.specs.Str.{bytes_eq}
 use Rattle.nb_core.specs.declared.acl.Way.{Way}
 use Rattle.nb_core.specs.declared.acl.Way.TheVariants.{From, To}

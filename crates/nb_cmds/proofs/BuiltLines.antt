@@ -1,5 +1,5 @@
 -- The edits that a line asks for are built.
-use Rattle.std.proofs.Common.{◌≡◌, ◌+◌, ◌&&◌, ℕ, zero, suc, Bool, true, false, List, [], ◌∷◌, length, take, drop, codes, Option, Some, None, Result, Ok, Err, IfOk, IfSome, refl, sym, ap, subst, ◌∙◌, arith, add-one, if◌then◌else◌}
+use Rattle.std.proofs.Common.{◌≡◌, ◌+◌, ◌&&◌, ℕ, zero, suc, Bool, true, false, List, [], ◌∷◌, length, take, drop, codes, Option, Some, None, Ok, Err, IfOk, IfSome, refl, sym, ap, subst, ◌∙◌, arith, add-one, if◌then◌else◌}
 use Rattle.std.specs.List.{AllByRecursion, find, list_all, slice_get}
 use Rattle.std.specs.Str.{bytes_eq}
 use Rattle.std.proofs.lemmas.Bool.{false≢true}
@@ -11,7 +11,7 @@ use Rattle.nb_words.specs.Commands.{command}
 use Rattle.nb_words.specs.declared.command.Command.{Command}
 use Rattle.nb_words.specs.declared.word.Word.{Word}
 use Rattle.nb_edit.specs.Call.{Call, call, at, text, bytes, maybe, from}
-use Rattle.nb_edit.specs.Commands.{suits, fits, is_once, is_well_formed, other_option, formed, tested, named, said, option_count, read_command}
+use Rattle.nb_edit.specs.Commands.{suits, fits, is_once, is_well_formed, other_option, tested, named, said, option_count, read_command}
 use Rattle.nb_edit.specs.Edits as edits
 use Rattle.nb_edit.specs.Edits.{owner_kind, rule}
 use Rattle.nb_edit.specs.Forms.{form, verbs, verb_of}
@@ -27,7 +27,7 @@ use Rattle.nb_edit.proofs.Fits.{has_places}
 use Rattle.nb_net.proofs.Reading
 use Rattle.nb_net.proofs.Reading.{goes_on, goes_on_anyway, there}
 use Rattle.nb_plain.specs.Plain.{tracks_none, IsBuilt}
-use Rattle.nb_cmds.specs.Built.{related_place, unbuilt, unbuilt_word, built, refused_option, optioned, edit_of}
+use Rattle.nb_cmds.specs.Built.{related_place, unbuilt, unbuilt_word, built, refused_option, optioned}
 use Rattle.nb_cmds.specs.Lines.{task, task_by, read_line}
 use Rattle.nb_cmds.specs.Tasks.{tasks, task_of, is_named}
 use Rattle.nb_cmds.specs.declared.line.Line.TheVariants as line

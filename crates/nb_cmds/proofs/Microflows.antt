@@ -1,8 +1,7 @@
 -- What a microflow gives: the packet fits its fields, and its port has a name that a match may quote.
-use Rattle.std.proofs.Common.{◌≡◌, ℕ, ◌<◌, ◌^◌, lit<, ◌==◌, Bool, true, false, List, [], ◌∷◌, ◌++◌, length, map, get_or, eqb, Option, Some, None, Result, Ok, Err, IfOk, IfSome, option_map, refl, sym, ap, subst, ◌∙◌, if◌then◌else◌}
+use Rattle.std.proofs.Common.{◌≡◌, ℕ, ◌<◌, ◌^◌, ◌==◌, Bool, true, false, List, [], ◌∷◌, ◌++◌, length, map, get_or, eqb, Option, Some, None, Result, Ok, Err, IfOk, IfSome, option_map, refl, sym, ap, subst, ◌∙◌, if◌then◌else◌}
 use Rattle.std.specs.Bool.{IsTrue}
 use Rattle.std.specs.List.{AllByRecursion, find}
-use Rattle.std.specs.Option.{option_and_then}
 use Rattle.std.proofs.lemmas.Bool.{false≢true, eq-eqb, eqb-true}
 use Rattle.std.proofs.lemmas.List.{get_or-set_same, get_or-set_other, length-set}
 use Rattle.std.proofs.lemmas.Nat.{pow_pos}
@@ -38,12 +37,11 @@ use Rattle.expr_parse.proofs.WellFormed.{formed}
 use Rattle.expr_check.specs.Check.{checked}
 use Rattle.expr_check.specs.declared.fault.TypeFault.{TypeFault}
 use Rattle.expr_check.proofs.Passed.{well_typed}
-use Rattle.nb_core.specs.declared.refusal.Refusal.{Refusal}
 use Rattle.nb_read.specs.Readings.{checked_match, parsed_match}
 use Rattle.nb_net.proofs.Reading.{goes_on, there_after}
 use Rattle.pkt_core.specs.Packet.{Values, IsPacket, place, value, with_value, with_values, zero_packet}
 use Rattle.pkt_core.proofs.Only.{place_within, field_at}
-use Rattle.pkt_micro.specs.Microflow.{implied, needing, prerequisite_named, said_of, said_by, joined, said, all_said, is_of, is_contradicted, number_of, numbered, name_of, port_said, packet_said, judged, microflow, microflow_of}
+use Rattle.pkt_micro.specs.Microflow.{implied, prerequisite_named, said_of, said_by, joined, said, all_said, is_of, is_contradicted, number_of, numbered, name_of, port_said, judged, microflow, microflow_of}
 use Rattle.pkt_micro.specs.declared.fault.MicroFault.{MicroFault}
 use Rattle.pkt_micro.specs.declared.microflow.Micro.{Micro}
 use Rattle.pkt_micro.specs.inner.Listed.{AllFit}

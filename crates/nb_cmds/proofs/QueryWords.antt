@@ -1,5 +1,5 @@
 -- The words of a query are well read.
-use Rattle.std.proofs.Common.{◌≡◌, ◌+◌, ◌==◌, nat_lt, ℕ, Bool, true, false, List, [], ◌∷◌, drop, Some, Ok, Err, IfOk, if◌then◌else◌}
+use Rattle.std.proofs.Common.{◌≡◌, ◌+◌, ◌==◌, nat_lt, ℕ, Bool, List, [], ◌∷◌, drop, Some, Ok, IfOk}
 use Rattle.std.specs.Bool.{IsTrue}
 use Rattle.std.proofs.lemmas.Result.{IfOk-at_ok}
 use Rattle.expr_parse.specs.Spelling.{is_quotable}

@@ -11,7 +11,7 @@ use Rattle.nb_edit.specs.declared.verb.Verb.{Verb}
 use Rattle.nb_net.specs.Readable.{IsReadable}
 use Rattle.nb_net.proofs.CommandReadings.{command_readable}
 use Rattle.nb_net.proofs.Reading.{goes_on_anyway}
-use Rattle.nb_cmds.specs.Built.{unbuilt_word, built, refused_option, optioned, edit_of}
+use Rattle.nb_cmds.specs.Built.{unbuilt_word, built, refused_option, optioned}
 use Rattle.nb_cmds.specs.Lines.{task, read_line}
 use Rattle.nb_cmds.specs.declared.line.Line.TheVariants as line
 use Rattle.nb_cmds.specs.declared.task.Task.{Task}

@@ -1,5 +1,5 @@
 -- Edits that are built leave plain networks plain.
-use Rattle.std.proofs.Common.{◌≡◌, ℕ, ◌+◌, Bool, true, false, cond, List, [], ◌∷◌, ◌++◌, map, refl, sym, ap, ◌∙◌}
+use Rattle.std.proofs.Common.{◌≡◌, ℕ, ◌+◌, Bool, true, false, cond, List, [], ◌∷◌, ◌++◌, refl}
 use Rattle.std.specs.Prelude.{Option, Some, None, IfOk, not, is_some, filter}
 use Rattle.std.specs.List.{AllByRecursion}
 use Rattle.std.specs.Str.{bytes_eq}
@@ -11,7 +11,7 @@ use Rattle.nb_core.specs.declared.refusal.Refusal.{Refusal}
 use Rattle.nb_core.specs.declared.switch.Port.{Port}
 use Rattle.nb_core.specs.declared.switch.Switch.{Switch}
 use Rattle.nb_net.specs.Belongs.{is_number, is_to_router, owner_id}
-use Rattle.nb_net.specs.Effect.{each_where, without, where_there, without_ports, add_switch, add_port, delete_switch, delete_port, set_port, acl_like, add_acl, is_acl, effect}
+use Rattle.nb_net.specs.Effect.{each_where, where_there, add_switch, add_port, delete_switch, delete_port, set_port, acl_like, add_acl, is_acl, effect}
 use Rattle.nb_net.specs.Network.{Network, empty_network, next_number, switch_named, port_named, switch_id}
 use Rattle.nb_net.specs.Tests.{refusal}
 use Rattle.nb_net.specs.Transactions.{unless, applied, edited}

@@ -1,5 +1,5 @@
 -- Networks of switches that track no connections, with hosts at their ports, and the edits that lead to no others.
-use Rattle.std.specs.Prelude.{◌≡◌, Bool, true, false, List, [], ◌∷◌}
+use Rattle.std.specs.Prelude.{◌≡◌, Bool, true, false, []}
 use Rattle.std.specs.List.{AllByRecursion}
 use Rattle.nb_core.specs.declared.acl.Acl.{Acl}
 use Rattle.nb_core.specs.declared.acl.Verdict.{Verdict}

@@ -22,8 +22,8 @@ use Rattle.nb_net.proofs.RisesEdits.{edit_limit}
 use Rattle.nb_words.specs.Fault.{IsFaultOf}
 use Rattle.nb_words.specs.declared.fault.LineFault.{LineFault}
 use Rattle.nb_words.specs.declared.fault.LineFault.TheVariants.{Refused, Memory}
-use Rattle.nb_check.specs.inner.Limitless.{IsSoundButLimits}
-use Rattle.nb_check.specs.inner.Tested.{tested}
+use Rattle.nb_limits.specs.Limitless.{IsSoundButLimits}
+use Rattle.nb_valid.specs.Tested.{tested}
 
 -- where the earlier tests pass, the last one decides
 last_decides : (earlier : List (Option Refusal)) (last : Option Refusal) → first_refusal earlier ≡ None → first_refusal (earlier ++ last ∷ []) ≡ last

@@ -9,15 +9,14 @@ ghost use Rattle.nb_net.specs.Tests.{refusal};
 ghost use Rattle.nb_net.specs.Transactions.{unless, applied, edited};
 ghost use Rattle.nb_tables.specs.Undo.{back};
 ghost use Rattle.nb_words.specs.Fault.{IsFaultOf};
-ghost use Rattle.nb_check.specs.inner.Ceilings.{AreCeilings};
+ghost use Rattle.nb_limits.specs.Ceilings.{AreCeilings};
 ghost use Rattle.nb_check.specs.inner.Undone.{back_all};
-ghost use Rattle.nb_check.specs.inner.Limitless.{IsSoundButLimits};
+ghost use Rattle.nb_limits.specs.Limitless.{IsSoundButLimits};
 
-use crate::ceilings::Ceilings;
-use crate::limits::{first_over, may_rise};
-use crate::test::test;
 use nb_core::{Edit, Kind};
+use nb_limits::{Ceilings, first_over, may_rise};
 use nb_tables::{Records, Undo};
+use nb_valid::tested;
 use nb_words::LineFault;
 use std::alloc::Global;
 
@@ -41,7 +40,7 @@ pub(crate) fn apply(
     ensures sound { IsSound records.new }
     ensures known { AreCeilings records.new known.new }
 {
-    let edit = test(alloc, records, edit)?;
+    let edit = tested(alloc, records, edit)?;
     let kinds = may_rise(&edit);
     let mut after = known.after(alloc, records, &edit)?;
     let done = records.edit(alloc, edit)?;

@@ -11,10 +11,9 @@ ghost use Rattle.nb_net.specs.Transactions.{applied, edited};
 ghost use Rattle.nb_tables.specs.Undo.{back};
 ghost use Rattle.nb_words.specs.Fault.{IsFaultOf};
 
-use crate::amounts::amount;
 use crate::apply::{apply, apply_each, undo_all};
-use crate::ceilings::Ceilings;
 use nb_core::{Edit, Kind};
+use nb_limits::{Ceilings, amount};
 use nb_tables::{Records, Undo};
 use nb_words::LineFault;
 use nv_base::{Items, OutOfMemory};
@@ -32,7 +31,7 @@ impl Model for Tables {
     ghost use Rattle.nb_core.specs.contracts.acl.Acl as acl;
     ghost use Rattle.nb_net.specs.Network.{Network};
     ghost use Rattle.nb_net.specs.Sound.{IsSound};
-    ghost use Rattle.nb_check.specs.inner.Ceilings.{AreCeilings};
+    ghost use Rattle.nb_limits.specs.Ceilings.{AreCeilings};
     ghost use Rattle.std.specs.Coded.{codes};
 
     ghost Value = { Network };

@@ -3,10 +3,10 @@ use Rattle.std.proofs.lemmas.Result.{err_from_is_err_and}
 use Rattle.nb_net.specs.Amounts.{first_over}
 use Rattle.nb_net.specs.Effect.{effect}
 use Rattle.nb_net.specs.Rises.{may_rise}
-use Rattle.nb_check.specs.inner.Ceilings.{AreCeilings}
-use Rattle.nb_check.specs.inner.Limitless.{IsSoundButLimits}
+use Rattle.nb_limits.specs.Ceilings.{AreCeilings}
+use Rattle.nb_limits.specs.Limitless.{IsSoundButLimits}
 use Rattle.nb_check.proofs.Edited.{sound_but_limits, few_limits, limits_decide, sound_after, test_refuses, limits_refuse}
-use Rattle.nb_check.proofs.KnownAfter.{but_limits, known_holds}
+use Rattle.nb_limits.proofs.KnownAfter.{but_limits, known_holds}
 use Rattle.nb_check.proofs.apply.apply.Goals as goal
 
 pub after-requires : goal.after-requires

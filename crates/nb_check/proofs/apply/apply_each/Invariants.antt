@@ -4,7 +4,7 @@ use Rattle.std.specs.Vec.Iter.{into_iter_items, into_iter_len}
 use Rattle.nb_net.specs.Readable.{IsReadable}
 use Rattle.nb_net.specs.Sound.{IsSound}
 use Rattle.nb_net.specs.Transactions.{edited}
-use Rattle.nb_check.specs.inner.Ceilings.{AreCeilings}
+use Rattle.nb_limits.specs.Ceilings.{AreCeilings}
 use Rattle.nb_check.specs.inner.Undone.{back_all}
 use Rattle.nb_check.proofs.apply.apply_each.Given as goal
 

@@ -1,7 +1,0 @@
-use Rattle.std.proofs.Common.{take}
-use Rattle.nb_check.proofs.Noted.{IsNoted}
-use Rattle.nb_check.proofs.acl_limits.switch_count.Given as goal
-
--- the switches of the ports so far
-abbrev pub invariant-loop-number : goal.invariant-loop-number
-invariant-loop-number l = IsNoted l.records (take l.number-index l.group.ports) l.switches

@@ -1,7 +1,0 @@
-use Rattle.std.proofs.Common.{◌≡◌, max, length, drop}
-use Rattle.nb_net.specs.Amounts.{greatest}
-use Rattle.nb_check.proofs.amounts.most_backends.Given as goal
-
--- the most so far, with those that are left
-abbrev pub invariant-loop-vip : goal.invariant-loop-vip
-invariant-loop-vip l = max l.most (greatest (λ vip. length vip.backends) (drop l.vip-index l.lb.vips)) ≡ greatest (λ vip. length vip.backends) l.lb.vips

@@ -1,0 +1,15 @@
+pub mod AclSums
+pub mod Attached
+pub mod Bounded
+pub mod Clipped
+pub mod Counted
+pub mod Firsts
+pub mod Fitting
+pub mod Greatest
+pub mod KnownAfter
+pub mod Neighbours
+pub mod Noted
+pub mod Raised
+pub mod Rest
+pub mod Sums
+pub mod Swapped

@@ -1,0 +1,17 @@
+use Rattle.std.proofs.Common.{◌*◌, length}
+use Rattle.nb_core.specs.declared.acl.Acl.{Acl}
+use Rattle.nb_net.specs.Network.{same}
+use Rattle.nb_limits.specs.GroupSwitches.{switch_count}
+use Rattle.nb_limits.specs.inner.Weights.{weight, on_group}
+use Rattle.nb_limits.proofs.Rest.{rest}
+use Rattle.nb_limits.proofs.Sums.{IsSumSoFar}
+use Rattle.nb_limits.proofs.acl_limits.on_group.Given as goal
+
+-- the sum so far, of those ACLs of the group that have been looked at
+abbrev pub invariant-loop-acl : goal.invariant-loop-acl
+invariant-loop-acl l =
+    IsSumSoFar (λ acl. weight l.measure acl * switch_count l.records l.group) l.bound l.sum (rest (λ (acl : Acl). acl.id) (λ acl. same l.group.id acl.owner) l.after l.records.acls)
+    (on_group l.measure l.records l.group)
+
+abbrev pub decreases-loop-acl : goal.decreases-loop-acl
+decreases-loop-acl l = length (rest (λ (acl : Acl). acl.id) (λ acl. same l.group.id acl.owner) l.after l.records.acls)

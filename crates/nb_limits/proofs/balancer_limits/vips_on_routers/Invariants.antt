@@ -1,0 +1,17 @@
+use Rattle.std.proofs.Common.{length}
+use Rattle.std.specs.Prelude.{filter}
+use Rattle.nb_core.specs.declared.router.Router.{Router}
+use Rattle.nb_net.specs.Amounts.{total}
+use Rattle.nb_net.specs.Belongs.{is_among}
+use Rattle.nb_limits.proofs.Rest.{rest}
+use Rattle.nb_limits.proofs.Sums.{IsSumSoFar}
+use Rattle.nb_limits.proofs.balancer_limits.vips_on_routers.Given as goal
+
+-- the sum so far, of those routers that have been looked at
+abbrev pub invariant-loop-router : goal.invariant-loop-router
+invariant-loop-router l =
+    IsSumSoFar (λ _. length l.lb.vips) l.bound l.sum (rest (λ (router : Router). router.id) (λ router. is_among l.lb.id router.lbs) l.after l.records.routers)
+    (total (λ _. length l.lb.vips) (filter (λ router. is_among l.lb.id router.lbs) l.records.routers))
+
+abbrev pub decreases-loop-router : goal.decreases-loop-router
+decreases-loop-router l = length (rest (λ (router : Router). router.id) (λ router. is_among l.lb.id router.lbs) l.after l.records.routers)

@@ -1,0 +1,5 @@
+pub mod Ceilings
+pub mod GroupSwitches
+pub mod Limitless
+pub mod Within
+pub mod inner

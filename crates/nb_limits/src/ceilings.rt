@@ -1,0 +1,220 @@
+//! What is known of how much there is of the kinds that no table counts, so that they are seldom counted (not from OVN).
+ghost use Rattle.std.specs.Prelude.{◌≡◌, not, nat_lt, length, IfOk};
+ghost use Rattle.std.specs.Option.{option_copied};
+ghost use Rattle.nb_core.specs.declared.refusal.Kind.TheVariants as kind;
+ghost use Rattle.nb_net.specs.Amounts.{amount, bound};
+ghost use Rattle.nb_net.specs.Network.{Network, empty_network};
+ghost use Rattle.nb_limits.specs.Ceilings.{AreCeilings, raised, reach, with_acl, has_vip_room, known_after};
+ghost use Rattle.nb_limits.specs.Limitless.{IsSoundButLimits};
+
+use crate::acl_limits::{acl_switches, match_text, switch_count};
+use crate::balancer_limits::{is_backend_over, is_vip_over};
+use crate::bounds::bound;
+use crate::within::add_times;
+use expr_core::{Typed, put_tree};
+use nb_core::{Backend, Edit, Kind, Lb};
+use nb_tables::Records;
+use nv_base::{ObjId, OutOfMemory};
+use std::alloc::Global;
+
+/// What is known of how much a network has of the kinds that no table counts (not from OVN).
+#[derive(Clone, Copy)]
+pub struct Ceilings {
+    /// There are at most so many ACLs, each counted once for each switch that it applies to.
+    pub(crate) acl_switches: Option<u64>,
+    /// Their matches have at most so many bytes.
+    pub(crate) match_text: Option<u64>,
+    /// No load balancer has more VIPs than it may have.
+    pub(crate) vips_fit: bool,
+    /// No VIP has more backends than it may have.
+    pub(crate) backends_fit: bool,
+}
+
+impl Ceilings {
+    /// What is known of the network without objects (not from OVN).
+    pub fn of_nothing() -> Self
+        ensures { AreCeilings empty_network result }
+    {
+        Ceilings {
+            acl_switches: Some(0),
+            match_text: Some(0),
+            vips_fit: true,
+            backends_fit: true,
+        }
+    }
+
+    /// Nothing is known, which is so of each network (not from OVN).
+    pub fn unknown() -> Self
+        ensures { (net : Network) → AreCeilings net result }
+    {
+        Ceilings {
+            acl_switches: None,
+            match_text: None,
+            vips_fit: false,
+            backends_fit: false,
+        }
+    }
+
+    /// What is known after an edit of a sound network, before its limits are tested (not from OVN). `OutOfMemory` where memory runs out
+    /// for an ACL's text, or for the switches that it applies to.
+    pub fn after(
+        self,
+        alloc: Global,
+        records: &Records,
+        edit: &Edit,
+    ) -> Result<Ceilings, OutOfMemory>
+        requires limitless { IsSoundButLimits records.now }
+        ensures { IfOk result (λ known. known ≡ known_after records.now self edit.now) }
+    {
+        match edit {
+            Edit::AclAdd {
+                owner,
+                matching,
+                of,
+                ..
+            } => self.with_acl(alloc, records, records.owner_id(*of, owner), matching),
+            Edit::PgSetPorts { .. } => Ok(Ceilings {
+                acl_switches: None,
+                match_text: None,
+                ..self
+            }),
+            Edit::LbAdd { lb, backends, .. } => Ok(Ceilings {
+                vips_fit: has_vip_room(records.lb_named(lb)),
+                backends_fit: do_fit(backends.as_slice()),
+                ..self
+            }),
+            _ => Ok(self),
+        }
+    }
+
+    /// Whether there are more ACLs than there may be, each counted once for each switch that it applies to. They are counted only
+    /// where nothing is known.
+    pub(crate) fn is_acl_switch_over(
+        &mut self,
+        alloc: Global,
+        records: &Records,
+    ) -> Result<bool, OutOfMemory>
+        requires limitless { IsSoundButLimits records.now }
+        requires known { AreCeilings records.now self.old }
+        ensures over { IfOk result (λ over. over ≡ nat_lt (bound kind.AclSwitch) (amount records.now kind.AclSwitch)) }
+        ensures known { AreCeilings records.now self.new }
+    {
+        if self.acl_switches.is_some() {
+            return Ok(false);
+        }
+        self.acl_switches = acl_switches(alloc, records)?;
+        Ok(self.acl_switches.is_none())
+    }
+
+    /// Whether the matches of ACLs have more bytes than they may have, each counted once for each switch that its ACL applies to.
+    pub(crate) fn is_match_text_over(
+        &mut self,
+        alloc: Global,
+        records: &Records,
+    ) -> Result<bool, OutOfMemory>
+        requires limitless { IsSoundButLimits records.now }
+        requires known { AreCeilings records.now self.old }
+        ensures over { IfOk result (λ over. over ≡ nat_lt (bound kind.MatchText) (amount records.now kind.MatchText)) }
+        ensures known { AreCeilings records.now self.new }
+    {
+        if self.match_text.is_some() {
+            return Ok(false);
+        }
+        self.match_text = match_text(alloc, records)?;
+        Ok(self.match_text.is_none())
+    }
+
+    /// Whether a load balancer has more VIPs than it may have. All are looked at only where nothing is known.
+    pub(crate) fn is_vip_over(&mut self, records: &Records) -> bool
+        requires { AreCeilings records.now self.old }
+        ensures over { result ≡ nat_lt (bound kind.Vip) (amount records.now kind.Vip) }
+        ensures known { AreCeilings records.now self.new }
+    {
+        if self.vips_fit {
+            return false;
+        }
+        let over = is_vip_over(records);
+        self.vips_fit = !over;
+        over
+    }
+
+    /// Whether a VIP has more backends than it may have.
+    pub(crate) fn is_backend_over(&mut self, records: &Records) -> bool
+        requires { AreCeilings records.now self.old }
+        ensures over { result ≡ nat_lt (bound kind.Backend) (amount records.now kind.Backend) }
+        ensures known { AreCeilings records.now self.new }
+    {
+        if self.backends_fit {
+            return false;
+        }
+        let over = is_backend_over(records);
+        self.backends_fit = !over;
+        over
+    }
+
+    // What is known after one more ACL with this match, if its owner is there.
+    fn with_acl(
+        self,
+        alloc: Global,
+        records: &Records,
+        owner: Option<ObjId>,
+        matching: &Typed,
+    ) -> Result<Ceilings, OutOfMemory>
+        requires limitless { IsSoundButLimits records.now }
+        ensures { IfOk result (λ known. known ≡ with_acl records.now self owner matching.now) }
+    {
+        let Some(owner) = owner else {
+            return Ok(self);
+        };
+        let switches = reach(alloc, records, owner)?;
+        let mut text = Vec::new(alloc);
+        put_tree(&mut text, matching)?;
+        let length = text.len() as u64;
+        Ok(Ceilings {
+            acl_switches: raised(self.acl_switches, 1, switches, Kind::AclSwitch),
+            match_text: raised(self.match_text, length, switches, Kind::MatchText),
+            ..self
+        })
+    }
+}
+
+// So many more, each of this amount, where that is known and within the bound of the kind.
+fn raised(most: Option<u64>, more: u64, times: u64, kind: Kind) -> Option<u64>
+    ensures { result ≡ raised (bound kind) most more times }
+{
+    add_times(most?, more, times, u64::from(bound(kind)))
+}
+
+// To how many switches an ACL of this owner applies: a group, or a switch.
+fn reach(alloc: Global, records: &Records, owner: ObjId) -> Result<u64, OutOfMemory>
+    requires limitless { IsSoundButLimits records.now }
+    ensures { IfOk result (λ count. count ≡ reach records.now owner) }
+{
+    match records.groups().get(owner) {
+        Some(group) => switch_count(alloc, records, group),
+        None => Ok(1),
+    }
+}
+
+// Whether the load balancer, if it is there, may have one VIP more.
+fn has_vip_room(lb: Option<&Lb>) -> bool
+    ensures { result ≡ has_vip_room (option_copied lb.entry) }
+{
+    match lb {
+        Some(lb) => has_room(lb),
+        None => true,
+    }
+}
+
+fn has_room(lb: &Lb) -> bool
+    ensures { result ≡ nat_lt (length lb.now.vips) (bound kind.Vip) }
+{
+    (lb.vips.as_slice().len() as u64) < u64::from(bound(Kind::Vip))
+}
+
+// Whether a VIP may have these backends.
+fn do_fit(backends: &[Backend]) -> bool
+    ensures { result ≡ not (nat_lt (bound kind.Backend) (length backends.now)) }
+{
+    backends.len() as u64 <= u64::from(bound(Kind::Backend))
+}

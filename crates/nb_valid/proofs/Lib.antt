@@ -1,0 +1,3 @@
+pub mod Alike
+pub mod Members
+pub mod There

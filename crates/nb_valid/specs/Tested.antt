@@ -1,0 +1,15 @@
+-- What the tests of an edit leave.
+use Rattle.std.specs.Prelude.{◌≡◌, Option, None, Result}
+use Rattle.nb_core.specs.declared.edit.Edit.{Edit}
+use Rattle.nb_core.specs.declared.refusal.Refusal.{Refusal}
+use Rattle.nb_net.specs.Network.{Network}
+use Rattle.nb_net.specs.Tests.{tests, first_refusal}
+use Rattle.nb_net.specs.Transactions.{unless}
+
+-- the edit, which no test refuses
+abbrev pub Passes : Network → Edit → Edit → Type 0
+Passes net edit passed = (passed ≡ edit) × (first_refusal (tests net edit) ≡ None)
+
+-- the edit, unless a test refuses it
+abbrev pub tested : Network → Edit → Result Edit Refusal
+tested net edit = unless (first_refusal (tests net edit)) edit

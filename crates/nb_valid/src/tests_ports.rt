@@ -1,0 +1,188 @@
+//! The tests of the edits of the ports of switches.
+ghost use Rattle.std.specs.Prelude.{◌≡◌, IfOk, IfErr};
+ghost use Rattle.nb_core.specs.declared.edit.Edit.TheVariants as edit;
+ghost use Rattle.nb_net.specs.Belongs.{is_number};
+ghost use Rattle.nb_net.specs.Network.{switch_id, router_id, port_named, router_port_named};
+ghost use Rattle.nb_net.specs.Tests.{is_in_place};
+ghost use Rattle.nb_valid.specs.Tested.{Passes};
+ghost use Rattle.nb_valid.specs.inner.Refused.{Refuses};
+
+use crate::wants::{
+    free, is_any_port, may_want_port, may_want_router_port, wants_port, wants_router,
+    wants_router_port, wants_switch,
+};
+use nb_core::{Addr, Edit, Guard, PortKind, Refusal};
+use nb_tables::Records;
+use nv_base::{Items, Mac, Name, ObjId, Prefix};
+
+// Whether the number is that of an object that is there.
+fn is_number(object: Option<ObjId>, number: ObjId) -> bool
+    ensures { result ≡ is_number object number }
+{
+    match object {
+        None => false,
+        Some(own) => own == number,
+    }
+}
+
+// Whether the port of this name is on the switch of that name, where it may be there.
+fn is_port_in_place(records: &Records, switch: &Name, port: &Name, may_exist: bool) -> bool
+    ensures { result ≡ is_in_place may_exist (λ own. is_number (switch_id records.now switch.now) own.switch) (port_named records.now port.now) }
+{
+    match records.port_named(port) {
+        None => false,
+        Some(port) => may_exist && is_number(records.switch_id(switch), port.switch),
+    }
+}
+
+// Whether the port of this name is on the router of that name, where it may be there.
+fn is_router_port_in_place(records: &Records, router: &Name, port: &Name, may_exist: bool) -> bool
+    ensures { result ≡ is_in_place may_exist (λ own. is_number (router_id records.now router.now) own.router) (router_port_named records.now port.now) }
+{
+    match records.router_port_named(port) {
+        None => false,
+        Some(port) => may_exist && is_number(records.router_id(router), port.router),
+    }
+}
+
+/// `lsp-add`: a switch has the name, and the port's is free, or that of a port there which may exist.
+pub(crate) fn test_lsp_add(
+    records: &Records,
+    switch: Name,
+    port: Name,
+    may_exist: bool,
+) -> Result<Edit, Refusal>
+    ensures ok { IfOk result (Passes records.now (edit.LspAdd switch port may_exist)) }
+    ensures refused { IfErr result (Refuses records.now (edit.LspAdd switch port may_exist)) }
+{
+    let in_place = is_port_in_place(records, &switch, &port, may_exist);
+    let switch = wants_switch(records, switch)?;
+    let taken = is_any_port(records, &port) && !in_place;
+    let port = free(port, taken)?;
+    Ok(Edit::LspAdd {
+        switch,
+        port,
+        may_exist,
+    })
+}
+
+/// `lsp-del`: a port of a switch has the name.
+pub(crate) fn test_lsp_del(records: &Records, port: Name, if_exists: bool) -> Result<Edit, Refusal>
+    ensures ok { IfOk result (Passes records.now (edit.LspDel port if_exists)) }
+    ensures refused { IfErr result (Refuses records.now (edit.LspDel port if_exists)) }
+{
+    let port = may_want_port(records, port, if_exists)?;
+    Ok(Edit::LspDel { port, if_exists })
+}
+
+/// `lsp-set-addresses`: a port of a switch has the name.
+pub(crate) fn test_lsp_set_addresses(
+    records: &Records,
+    port: Name,
+    addresses: Items<Addr>,
+) -> Result<Edit, Refusal>
+    ensures ok { IfOk result (Passes records.now (edit.LspSetAddresses port addresses)) }
+    ensures refused { IfErr result (Refuses records.now (edit.LspSetAddresses port addresses)) }
+{
+    let port = wants_port(records, port)?;
+    Ok(Edit::LspSetAddresses { port, addresses })
+}
+
+/// `lsp-set-port-security`: a port of a switch has the name.
+pub(crate) fn test_lsp_set_port_security(
+    records: &Records,
+    port: Name,
+    guards: Items<Guard>,
+) -> Result<Edit, Refusal>
+    ensures ok { IfOk result (Passes records.now (edit.LspSetPortSecurity port guards)) }
+    ensures refused { IfErr result (Refuses records.now (edit.LspSetPortSecurity port guards)) }
+{
+    let port = wants_port(records, port)?;
+    Ok(Edit::LspSetPortSecurity { port, guards })
+}
+
+/// `lsp-set-type`: a port of a switch has the name.
+pub(crate) fn test_lsp_set_type(
+    records: &Records,
+    port: Name,
+    kind: PortKind,
+) -> Result<Edit, Refusal>
+    ensures ok { IfOk result (Passes records.now (edit.LspSetType port kind)) }
+    ensures refused { IfErr result (Refuses records.now (edit.LspSetType port kind)) }
+{
+    let port = wants_port(records, port)?;
+    Ok(Edit::LspSetType { port, kind })
+}
+
+/// `lsp-set-options`: a port of a switch has the name.
+pub(crate) fn test_lsp_set_options(
+    records: &Records,
+    port: Name,
+    router_port: Option<Name>,
+) -> Result<Edit, Refusal>
+    ensures ok { IfOk result (Passes records.now (edit.LspSetOptions port router_port)) }
+    ensures refused { IfErr result (Refuses records.now (edit.LspSetOptions port router_port)) }
+{
+    let port = wants_port(records, port)?;
+    Ok(Edit::LspSetOptions { port, router_port })
+}
+
+/// `lsp-set-enabled`: a port of a switch has the name.
+pub(crate) fn test_lsp_set_enabled(
+    records: &Records,
+    port: Name,
+    enabled: bool,
+) -> Result<Edit, Refusal>
+    ensures ok { IfOk result (Passes records.now (edit.LspSetEnabled port enabled)) }
+    ensures refused { IfErr result (Refuses records.now (edit.LspSetEnabled port enabled)) }
+{
+    let port = wants_port(records, port)?;
+    Ok(Edit::LspSetEnabled { port, enabled })
+}
+
+/// `lrp-add`: a router has the name, and the port's is free, or that of a port there which may exist.
+pub(crate) fn test_lrp_add(
+    records: &Records,
+    router: Name,
+    port: Name,
+    mac: Mac,
+    nets: Items<Prefix>,
+    may_exist: bool,
+) -> Result<Edit, Refusal>
+    ensures ok { IfOk result (Passes records.now (edit.LrpAdd router port mac nets may_exist)) }
+    ensures refused { IfErr result (Refuses records.now (edit.LrpAdd router port mac nets may_exist)) }
+{
+    let in_place = is_router_port_in_place(records, &router, &port, may_exist);
+    let router = wants_router(records, router)?;
+    let taken = is_any_port(records, &port) && !in_place;
+    let port = free(port, taken)?;
+    Ok(Edit::LrpAdd {
+        router,
+        port,
+        mac,
+        nets,
+        may_exist,
+    })
+}
+
+/// `lrp-del`: a port of a router has the name.
+pub(crate) fn test_lrp_del(records: &Records, port: Name, if_exists: bool) -> Result<Edit, Refusal>
+    ensures ok { IfOk result (Passes records.now (edit.LrpDel port if_exists)) }
+    ensures refused { IfErr result (Refuses records.now (edit.LrpDel port if_exists)) }
+{
+    let port = may_want_router_port(records, port, if_exists)?;
+    Ok(Edit::LrpDel { port, if_exists })
+}
+
+/// `lrp-set-enabled`: a port of a router has the name.
+pub(crate) fn test_lrp_set_enabled(
+    records: &Records,
+    port: Name,
+    enabled: bool,
+) -> Result<Edit, Refusal>
+    ensures ok { IfOk result (Passes records.now (edit.LrpSetEnabled port enabled)) }
+    ensures refused { IfErr result (Refuses records.now (edit.LrpSetEnabled port enabled)) }
+{
+    let port = wants_router_port(records, port)?;
+    Ok(Edit::LrpSetEnabled { port, enabled })
+}

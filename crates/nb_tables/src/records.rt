@@ -1,10 +1,11 @@
 //! The tables of all kinds.
 ghost use Rattle.std.specs.Prelude.{◌≡◌, ◌+◌, ◌<◌, ◌^◌};
 ghost use Rattle.nb_net.specs.Network.{empty_network, next_number};
-ghost use Rattle.nb_tables.specs.Undo.{restored, removed, undone, back_steps};
+ghost use Rattle.nb_tables.specs.Undo.{restored, removed, undone, back, back_steps};
 ghost use Rattle.nb_tables.specs.inner.Held.{place_of, held, RisesAt};
 
 use crate::step::{Object, Place, Step};
+use crate::undo::Undo;
 use nb_core::{Acl, AddrSet, Binding, Group, Lb, Nat, Port, Route, Router, RouterPort, Switch};
 use nb_table::Table;
 use nv_base::ObjId;
@@ -70,6 +71,13 @@ impl Records {
         let number = ObjId(self.next);
         self.next += 1;
         number
+    }
+
+    /// Undoes an edit. It takes no memory.
+    pub fn undo(&mut self, undo: Undo)
+        ensures { self.new ≡ back undo self.old }
+    {
+        self.undo_all(undo.steps);
     }
 
     /// Undoes one change.

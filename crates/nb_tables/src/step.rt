@@ -24,17 +24,28 @@ pub(crate) enum Object {
 
 /// The number of an object, by its kind.
 #[derive(Clone, Copy, Debug, PartialEq, Eq)]
-pub(crate) enum Place {
+pub enum Place {
+    /// Of a switch.
     Switch(ObjId),
+    /// Of a port of a switch.
     Port(ObjId),
+    /// Of a router.
     Router(ObjId),
+    /// Of a port of a router.
     RouterPort(ObjId),
+    /// Of a static route.
     Route(ObjId),
+    /// Of a NAT rule.
     Nat(ObjId),
+    /// Of a load balancer.
     Lb(ObjId),
+    /// Of an ACL.
     Acl(ObjId),
+    /// Of an address set.
     Set(ObjId),
+    /// Of a port group.
     Group(ObjId),
+    /// Of a static binding.
     Binding(ObjId),
 }
 

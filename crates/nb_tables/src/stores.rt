@@ -12,7 +12,8 @@ use std::alloc::Global;
 
 impl Work {
     /// Puts a switch in place of the one of its number, or in where there is none.
-    pub(crate) fn store_switch(&mut self, alloc: Global, switch: Switch) -> Result<(), OutOfMemory>
+    /// After `OutOfMemory` nothing has changed. Not from OVN.
+    pub fn store_switch(&mut self, alloc: Global, switch: Switch) -> Result<(), OutOfMemory>
         ensures ok { OnOk result (self.new.records ≡ record self.old.records { switches = with_exchanged (λ x. x.id) switch self.old.records.switches }) }
         ensures back { back_steps self.new.steps.items self.new.records ≡ back_steps self.old.steps.items self.old.records }
     {
@@ -20,7 +21,8 @@ impl Work {
     }
 
     /// Puts a port of a switch in place of the one of its number, or in where there is none.
-    pub(crate) fn store_port(&mut self, alloc: Global, port: Port) -> Result<(), OutOfMemory>
+    /// After `OutOfMemory` nothing has changed. Not from OVN.
+    pub fn store_port(&mut self, alloc: Global, port: Port) -> Result<(), OutOfMemory>
         ensures ok { OnOk result (self.new.records ≡ record self.old.records { ports = with_exchanged (λ x. x.id) port self.old.records.ports }) }
         ensures back { back_steps self.new.steps.items self.new.records ≡ back_steps self.old.steps.items self.old.records }
     {
@@ -28,7 +30,8 @@ impl Work {
     }
 
     /// Puts a router in place of the one of its number, or in where there is none.
-    pub(crate) fn store_router(&mut self, alloc: Global, router: Router) -> Result<(), OutOfMemory>
+    /// After `OutOfMemory` nothing has changed. Not from OVN.
+    pub fn store_router(&mut self, alloc: Global, router: Router) -> Result<(), OutOfMemory>
         ensures ok { OnOk result (self.new.records ≡ record self.old.records { routers = with_exchanged (λ x. x.id) router self.old.records.routers }) }
         ensures back { back_steps self.new.steps.items self.new.records ≡ back_steps self.old.steps.items self.old.records }
     {
@@ -36,7 +39,8 @@ impl Work {
     }
 
     /// Puts a port of a router in place of the one of its number, or in where there is none.
-    pub(crate) fn store_router_port(
+    /// After `OutOfMemory` nothing has changed. Not from OVN.
+    pub fn store_router_port(
         &mut self,
         alloc: Global,
         router_port: RouterPort,
@@ -48,7 +52,8 @@ impl Work {
     }
 
     /// Puts a route in place of the one of its number, or in where there is none.
-    pub(crate) fn store_route(&mut self, alloc: Global, route: Route) -> Result<(), OutOfMemory>
+    /// After `OutOfMemory` nothing has changed. Not from OVN.
+    pub fn store_route(&mut self, alloc: Global, route: Route) -> Result<(), OutOfMemory>
         ensures ok { OnOk result (self.new.records ≡ record self.old.records { routes = with_exchanged (λ x. x.id) route self.old.records.routes }) }
         ensures back { back_steps self.new.steps.items self.new.records ≡ back_steps self.old.steps.items self.old.records }
     {
@@ -56,7 +61,8 @@ impl Work {
     }
 
     /// Puts a NAT rule in place of the one of its number, or in where there is none.
-    pub(crate) fn store_nat(&mut self, alloc: Global, nat: Nat) -> Result<(), OutOfMemory>
+    /// After `OutOfMemory` nothing has changed. Not from OVN.
+    pub fn store_nat(&mut self, alloc: Global, nat: Nat) -> Result<(), OutOfMemory>
         ensures ok { OnOk result (self.new.records ≡ record self.old.records { nats = with_exchanged (λ x. x.id) nat self.old.records.nats }) }
         ensures back { back_steps self.new.steps.items self.new.records ≡ back_steps self.old.steps.items self.old.records }
     {
@@ -64,7 +70,8 @@ impl Work {
     }
 
     /// Puts a load balancer in place of the one of its number, or in where there is none.
-    pub(crate) fn store_lb(&mut self, alloc: Global, lb: Lb) -> Result<(), OutOfMemory>
+    /// After `OutOfMemory` nothing has changed. Not from OVN.
+    pub fn store_lb(&mut self, alloc: Global, lb: Lb) -> Result<(), OutOfMemory>
         ensures ok { OnOk result (self.new.records ≡ record self.old.records { lbs = with_exchanged (λ x. x.id) lb self.old.records.lbs }) }
         ensures back { back_steps self.new.steps.items self.new.records ≡ back_steps self.old.steps.items self.old.records }
     {
@@ -72,7 +79,8 @@ impl Work {
     }
 
     /// Puts an ACL in place of the one of its number, or in where there is none.
-    pub(crate) fn store_acl(&mut self, alloc: Global, acl: Acl) -> Result<(), OutOfMemory>
+    /// After `OutOfMemory` nothing has changed. Not from OVN.
+    pub fn store_acl(&mut self, alloc: Global, acl: Acl) -> Result<(), OutOfMemory>
         ensures ok { OnOk result (self.new.records ≡ record self.old.records { acls = with_exchanged (λ x. x.id) acl self.old.records.acls }) }
         ensures back { back_steps self.new.steps.items self.new.records ≡ back_steps self.old.steps.items self.old.records }
     {
@@ -80,7 +88,8 @@ impl Work {
     }
 
     /// Puts an address set in place of the one of its number, or in where there is none.
-    pub(crate) fn store_set(&mut self, alloc: Global, set: AddrSet) -> Result<(), OutOfMemory>
+    /// After `OutOfMemory` nothing has changed. Not from OVN.
+    pub fn store_set(&mut self, alloc: Global, set: AddrSet) -> Result<(), OutOfMemory>
         ensures ok { OnOk result (self.new.records ≡ record self.old.records { sets = with_exchanged (λ x. x.id) set self.old.records.sets }) }
         ensures back { back_steps self.new.steps.items self.new.records ≡ back_steps self.old.steps.items self.old.records }
     {
@@ -88,7 +97,8 @@ impl Work {
     }
 
     /// Puts a port group in place of the one of its number, or in where there is none.
-    pub(crate) fn store_group(&mut self, alloc: Global, group: Group) -> Result<(), OutOfMemory>
+    /// After `OutOfMemory` nothing has changed. Not from OVN.
+    pub fn store_group(&mut self, alloc: Global, group: Group) -> Result<(), OutOfMemory>
         ensures ok { OnOk result (self.new.records ≡ record self.old.records { groups = with_exchanged (λ x. x.id) group self.old.records.groups }) }
         ensures back { back_steps self.new.steps.items self.new.records ≡ back_steps self.old.steps.items self.old.records }
     {
@@ -96,11 +106,8 @@ impl Work {
     }
 
     /// Puts a static binding in place of the one of its number, or in where there is none.
-    pub(crate) fn store_binding(
-        &mut self,
-        alloc: Global,
-        binding: Binding,
-    ) -> Result<(), OutOfMemory>
+    /// After `OutOfMemory` nothing has changed. Not from OVN.
+    pub fn store_binding(&mut self, alloc: Global, binding: Binding) -> Result<(), OutOfMemory>
         ensures ok { OnOk result (self.new.records ≡ record self.old.records { bindings = with_exchanged (λ x. x.id) binding self.old.records.bindings }) }
         ensures back { back_steps self.new.steps.items self.new.records ≡ back_steps self.old.steps.items self.old.records }
     {

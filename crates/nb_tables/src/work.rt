@@ -8,16 +8,17 @@ use crate::undo::Undo;
 use nv_base::{ObjId, OutOfMemory};
 use std::alloc::Global;
 
-/// The tables in the midst of an edit, and what undoes it so far. Where a change finds no memory, nothing has changed.
+/// The tables in the midst of an edit, and what undoes it so far. Where a change finds no memory, nothing has changed. Not from OVN.
 #[derive(Drop)]
-pub(crate) struct Work {
-    pub(crate) records: Records,
-    pub(crate) steps: Vec<Step>,
+pub struct Work {
+    /// The tables as they are now. Only the calls below change them, and each notes what undoes it.
+    pub records: Records,
+    steps: Vec<Step>,
 }
 
 impl Work {
-    /// An edit of these tables begins.
-    pub(crate) fn new(alloc: Global, records: Records) -> Self
+    /// An edit of these tables begins, with nothing to undo. It takes no memory. Not from OVN.
+    pub fn new(alloc: Global, records: Records) -> Self
         ensures records { result.records ≡ «records» }
         ensures steps { result.steps.items ≡ [] }
     {
@@ -39,8 +40,9 @@ impl Work {
         }
     }
 
-    /// Removes the object of a kind and number. Where there is none, nothing changes.
-    pub(crate) fn remove(&mut self, place: Place) -> Result<(), OutOfMemory>
+    /// Removes the object of a kind and number. Where there is none, nothing changes. After `OutOfMemory` nothing has changed. Not from
+    /// OVN.
+    pub fn remove(&mut self, place: Place) -> Result<(), OutOfMemory>
         ensures ok { OnOk result (self.new.records ≡ removed place self.old.records) }
         ensures back { back_steps self.new.steps.items self.new.records ≡ back_steps self.old.steps.items self.old.records }
     {
@@ -50,8 +52,8 @@ impl Work {
         }
     }
 
-    /// The number of a new object.
-    pub(crate) fn take_number(&mut self) -> Result<ObjId, OutOfMemory>
+    /// The number of a new object, which is then taken. After `OutOfMemory` none is. Not from OVN.
+    pub fn take_number(&mut self) -> Result<ObjId, OutOfMemory>
         requires { self.old.records.next + 1 < 2 ^ 32 }
         ensures number { IfOk result (λ number. number ≡ next_number self.old.records) }
         ensures ok { OnOk result (self.new.records ≡ record self.old.records { next = self.old.records.next + 1 }) }
@@ -62,16 +64,16 @@ impl Work {
         Ok(number)
     }
 
-    /// The tables, and what undoes all that was done to them.
-    pub(crate) fn finish(self) -> (Records, Undo)
+    /// The tables, and what undoes all that was done to them. Not from OVN.
+    pub fn finish(self) -> (Records, Undo)
         ensures records { result.0 ≡ self.records }
         ensures undo { result.1.steps.items ≡ self.steps.items }
     {
         (self.records, Undo { steps: self.steps })
     }
 
-    /// The tables as they were when the edit began.
-    pub(crate) fn abandon(self) -> Records
+    /// The tables as they were when the edit began. It takes no memory. Not from OVN.
+    pub fn abandon(self) -> Records
         ensures { result ≡ back_steps self.steps.items self.records }
     {
         let Work { mut records, steps } = self;

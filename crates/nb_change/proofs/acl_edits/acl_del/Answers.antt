@@ -1,0 +1,13 @@
+use Rattle.nb_core.specs.declared.acl.Acl.{Acl}
+use Rattle.nb_change.proofs.AclEdits.{no_owner_loses}
+use Rattle.nb_tables.proofs.PlacedRecords.{rises}
+use Rattle.nb_change.proofs.acl_edits.acl_del.Goals as goal
+
+pub returns-in_default-clause-ok : goal.returns-in_default-clause-ok
+returns-in_default-clause-ok c = no_owner_loses c.args.work.now.records c.args.owner.now c.args.of c.args.way c.args.rule.now c.in_default.ensures
+
+pub remove_acls-requires : goal.remove_acls-requires
+remove_acls-requires c = record { rise = rises (λ (x : Acl). x.id) c.args.work.now.records.acls c.requires.sound.numbered.order.acls }
+
+pub remove_acls_of_way-requires : goal.remove_acls_of_way-requires
+remove_acls_of_way-requires c = record { rise = rises (λ (x : Acl). x.id) c.args.work.now.records.acls c.requires.sound.numbered.order.acls }

@@ -1,0 +1,241 @@
+//! Edits of load balancers, and of the switches and routers that have them.
+ghost use Rattle.std.specs.Prelude.{◌≡◌, ◌+◌, ◌<◌, ◌^◌, [], ◌∷◌, ◌++◌, unwrap_or, IfOk, OnOk};
+ghost use Rattle.nb_core.specs.declared.balancer.Proto.TheVariants.{Tcp};
+ghost use Rattle.nb_core.specs.declared.edit.Edit.TheVariants as edit;
+ghost use Rattle.nb_net.specs.Belongs.{is_number};
+ghost use Rattle.nb_net.specs.Network.{lb_id, next_number};
+ghost use Rattle.nb_net.specs.Effect.{effect, is_detached, with_number, without};
+ghost use Rattle.nb_net.specs.Sound.{IsSound};
+ghost use Rattle.nb_table.specs.Table.{with_exchanged};
+ghost use Rattle.nb_tables.specs.Undo.{back_steps};
+
+use crate::groups::is_among;
+use crate::lb_removals::{remove_lb_named, remove_vip};
+use crate::removals::others;
+use nb_core::{Backend, Frontend, Lb, Proto, Router, Switch, Vip};
+use nb_tables::{Records, Work};
+use nv_base::{Items, Kept, Name, ObjId, OutOfMemory};
+use std::alloc::Global;
+
+/// `ls-lb-add`
+pub(crate) fn ls_lb_add(
+    work: &mut Work,
+    alloc: Global,
+    switch: Name,
+    lb: &Name,
+    may_exist: bool,
+) -> Result<(), OutOfMemory>
+    requires sound { IsSound work.old.records }
+    ensures ok { OnOk result (work.new.records ≡ effect work.old.records (edit.LsLbAdd switch lb.now may_exist)) }
+    ensures back { back_steps work.new.steps.items work.new.records ≡ back_steps work.old.steps.items work.old.records }
+{
+    let Some(number) = work.records.lb_id(lb) else {
+        return Ok(());
+    };
+    let Some(old) = work.records.switch_named(&switch) else {
+        return Ok(());
+    };
+    let changed = Switch {
+        id: old.id,
+        name: switch,
+        lbs: with_number(alloc, &old.lbs, number)?,
+    };
+    work.store_switch(alloc, changed)
+}
+
+/// `lr-lb-add`
+pub(crate) fn lr_lb_add(
+    work: &mut Work,
+    alloc: Global,
+    router: Name,
+    lb: &Name,
+    may_exist: bool,
+) -> Result<(), OutOfMemory>
+    requires sound { IsSound work.old.records }
+    ensures ok { OnOk result (work.new.records ≡ effect work.old.records (edit.LrLbAdd router lb.now may_exist)) }
+    ensures back { back_steps work.new.steps.items work.new.records ≡ back_steps work.old.steps.items work.old.records }
+{
+    let Some(number) = work.records.lb_id(lb) else {
+        return Ok(());
+    };
+    let Some(old) = work.records.router_named(&router) else {
+        return Ok(());
+    };
+    let changed = Router {
+        id: old.id,
+        name: router,
+        lbs: with_number(alloc, &old.lbs, number)?,
+    };
+    work.store_router(alloc, changed)
+}
+
+/// `ls-lb-del`
+pub(crate) fn ls_lb_del(
+    work: &mut Work,
+    alloc: Global,
+    switch: Name,
+    lb: &Option<Name>,
+    if_exists: bool,
+) -> Result<(), OutOfMemory>
+    requires sound { IsSound work.old.records }
+    ensures ok { OnOk result (work.new.records ≡ effect work.old.records (edit.LsLbDel switch lb.now if_exists)) }
+    ensures back { back_steps work.new.steps.items work.new.records ≡ back_steps work.old.steps.items work.old.records }
+{
+    let Some(old) = work.records.switch_named(&switch) else {
+        return Ok(());
+    };
+    let changed = Switch {
+        id: old.id,
+        name: switch,
+        lbs: still_attached(&work.records, alloc, &old.lbs, lb)?,
+    };
+    work.store_switch(alloc, changed)
+}
+
+/// `lr-lb-del`
+pub(crate) fn lr_lb_del(
+    work: &mut Work,
+    alloc: Global,
+    router: Name,
+    lb: &Option<Name>,
+    if_exists: bool,
+) -> Result<(), OutOfMemory>
+    requires sound { IsSound work.old.records }
+    ensures ok { OnOk result (work.new.records ≡ effect work.old.records (edit.LrLbDel router lb.now if_exists)) }
+    ensures back { back_steps work.new.steps.items work.new.records ≡ back_steps work.old.steps.items work.old.records }
+{
+    let Some(old) = work.records.router_named(&router) else {
+        return Ok(());
+    };
+    let changed = Router {
+        id: old.id,
+        name: router,
+        lbs: still_attached(&work.records, alloc, &old.lbs, lb)?,
+    };
+    work.store_router(alloc, changed)
+}
+
+/// `lb-add`
+pub(crate) fn lb_add(
+    work: &mut Work,
+    alloc: Global,
+    name: Name,
+    at: Frontend,
+    backends: Items<Backend>,
+    proto: Option<Proto>,
+) -> Result<(), OutOfMemory>
+    requires sound { IsSound work.old.records }
+    ensures ok { OnOk result (work.new.records ≡ effect work.old.records (edit.LbAdd name at backends proto)) }
+    ensures back { back_steps work.new.steps.items work.new.records ≡ back_steps work.old.steps.items work.old.records }
+{
+    let vip = Vip { at, backends };
+    let Some(old) = work.records.lb_named(&name) else {
+        return add_lb(work, alloc, name, vip, proto);
+    };
+    let changed = Lb {
+        id: old.id,
+        name,
+        proto: old.proto,
+        vips: with_vip(alloc, &old.vips, vip)?,
+    };
+    work.store_lb(alloc, changed)
+}
+
+/// `lb-del`
+pub(crate) fn lb_del(
+    work: &mut Work,
+    alloc: Global,
+    name: &Name,
+    at: Option<Frontend>,
+    if_exists: bool,
+) -> Result<(), OutOfMemory>
+    requires sound { IsSound work.old.records }
+    ensures ok { OnOk result (work.new.records ≡ effect work.old.records (edit.LbDel name.now at if_exists)) }
+    ensures back { back_steps work.new.steps.items work.new.records ≡ back_steps work.old.steps.items work.old.records }
+{
+    match at {
+        Some(at) => remove_vip(work, alloc, name, at),
+        None => remove_lb_named(work, alloc, name),
+    }
+}
+
+// Adds a load balancer with one VIP, which takes TCP where no protocol is given.
+fn add_lb(
+    work: &mut Work,
+    alloc: Global,
+    name: Name,
+    vip: Vip,
+    proto: Option<Proto>,
+) -> Result<(), OutOfMemory>
+    requires room { work.old.records.next + 1 < 2 ^ 32 }
+    ensures ok { OnOk result (work.new.records ≡ record work.old.records { lbs = with_exchanged (λ x. x.id) (record { id = next_number work.old.records; name = name; proto = unwrap_or proto Tcp; vips = vip ∷ [] }) work.old.records.lbs; next = work.old.records.next + 1 }) }
+    ensures back { back_steps work.new.steps.items work.new.records ≡ back_steps work.old.steps.items work.old.records }
+{
+    let mut vips = Items::new(alloc);
+    vips.push(vip)?;
+    let id = work.take_number()?;
+    let proto = proto.unwrap_or(Proto::Tcp);
+    work.store_lb(
+        alloc,
+        Lb {
+            id,
+            name,
+            proto,
+            vips,
+        },
+    )
+}
+
+// The load balancers of a list that stay where the one that is named, or each, is detached.
+fn still_attached(
+    records: &Records,
+    alloc: Global,
+    lbs: &Items<ObjId>,
+    lb: &Option<Name>,
+) -> Result<Items<ObjId>, OutOfMemory>
+    ensures { IfOk result (λ left. left ≡ without (is_detached records.now lb.now) lbs.now) }
+{
+    match lb {
+        Some(name) => without_named(records, alloc, lbs, name),
+        None => Ok(Items::new(alloc)),
+    }
+}
+
+// The load balancers of a list but the one of this name.
+fn without_named(
+    records: &Records,
+    alloc: Global,
+    lbs: &Items<ObjId>,
+    lb: &Name,
+) -> Result<Items<ObjId>, OutOfMemory>
+    ensures { IfOk result (λ left. left ≡ without (is_number (lb_id records.now lb.now)) lbs.now) }
+{
+    match records.lb_id(lb) {
+        Some(number) => others(alloc, lbs.as_slice(), number),
+        None => lbs.copy(alloc),
+    }
+}
+
+// The numbers with one more, last, where it is not there.
+fn with_number(
+    alloc: Global,
+    numbers: &Items<ObjId>,
+    number: ObjId,
+) -> Result<Items<ObjId>, OutOfMemory>
+    ensures { IfOk result (λ longer. longer ≡ with_number number numbers.now) }
+{
+    let mut longer = numbers.copy(alloc)?;
+    if !is_among(number, numbers.as_slice()) {
+        longer.push(number)?;
+    }
+    Ok(longer)
+}
+
+// The VIPs with one more, last.
+fn with_vip(alloc: Global, vips: &Items<Vip>, vip: Vip) -> Result<Items<Vip>, OutOfMemory>
+    ensures { IfOk result (λ longer. longer ≡ vips.now ++ vip ∷ []) }
+{
+    let mut longer = vips.copy(alloc)?;
+    longer.push(vip)?;
+    Ok(longer)
+}

@@ -1,0 +1,103 @@
+//! Edits of port groups.
+ghost use Rattle.std.specs.Prelude.{◌≡◌, OnOk, IfOk};
+ghost use Rattle.nb_core.specs.declared.edit.Edit.TheVariants as edit;
+ghost use Rattle.nb_net.specs.Effect.{effect, named_port_ids, with_number};
+ghost use Rattle.nb_net.specs.Belongs.{is_among};
+ghost use Rattle.nb_net.specs.Sound.{IsSound};
+ghost use Rattle.nb_tables.specs.Undo.{back_steps};
+
+use crate::acls::remove_acls;
+use nb_core::Group;
+use nb_tables::{Place, Records, Work};
+use nv_base::{Items, Name, ObjId, OutOfMemory};
+use std::alloc::Global;
+
+/// `pg-add`
+pub(crate) fn pg_add(
+    work: &mut Work,
+    alloc: Global,
+    name: Name,
+    ports: &Items<Name>,
+) -> Result<(), OutOfMemory>
+    requires sound { IsSound work.old.records }
+    ensures ok { OnOk result (work.new.records ≡ effect work.old.records (edit.PgAdd name ports.now)) }
+    ensures back { back_steps work.new.steps.items work.new.records ≡ back_steps work.old.steps.items work.old.records }
+{
+    let members = port_ids(&work.records, alloc, ports.as_slice())?;
+    let id = work.take_number()?;
+    work.store_group(
+        alloc,
+        Group {
+            id,
+            name,
+            ports: members,
+        },
+    )
+}
+
+/// `pg-set-ports`
+pub(crate) fn pg_set_ports(
+    work: &mut Work,
+    alloc: Global,
+    name: Name,
+    ports: &Items<Name>,
+) -> Result<(), OutOfMemory>
+    requires sound { IsSound work.old.records }
+    ensures ok { OnOk result (work.new.records ≡ effect work.old.records (edit.PgSetPorts name ports.now)) }
+    ensures back { back_steps work.new.steps.items work.new.records ≡ back_steps work.old.steps.items work.old.records }
+{
+    let Some(id) = work.records.group_id(&name) else {
+        return Ok(());
+    };
+    let members = port_ids(&work.records, alloc, ports.as_slice())?;
+    work.store_group(
+        alloc,
+        Group {
+            id,
+            name,
+            ports: members,
+        },
+    )
+}
+
+/// `pg-del`
+pub(crate) fn pg_del(work: &mut Work, name: &Name, if_exists: bool) -> Result<(), OutOfMemory>
+    requires sound { IsSound work.old.records }
+    ensures ok { OnOk result (work.new.records ≡ effect work.old.records (edit.PgDel name.now if_exists)) }
+    ensures back { back_steps work.new.steps.items work.new.records ≡ back_steps work.old.steps.items work.old.records }
+{
+    let Some(group) = work.records.group_id(name) else {
+        return Ok(());
+    };
+    remove_acls(work, group)?;
+    work.remove(Place::Group(group))
+}
+
+// The numbers of the ports of these names, each once.
+fn port_ids(records: &Records, alloc: Global, names: &[Name]) -> Result<Items<ObjId>, OutOfMemory>
+    ensures { IfOk result (λ ids. ids ≡ named_port_ids records.now names.now) }
+{
+    let mut ids = Items::new(alloc);
+    for name in names {
+        if let Some(id) = records.port_id(name) {
+            add_number(&mut ids, id)?;
+        }
+    }
+    Ok(ids)
+}
+
+// Puts a number last, where it is not there.
+fn add_number(numbers: &mut Items<ObjId>, number: ObjId) -> Result<(), OutOfMemory>
+    ensures { OnOk result (numbers.new ≡ with_number number numbers.old) }
+{
+    if is_among(number, numbers.as_slice()) {
+        return Ok(());
+    }
+    numbers.push(number)
+}
+
+pub(crate) fn is_among(number: ObjId, numbers: &[ObjId]) -> bool
+    ensures { result ≡ is_among number numbers.now }
+{
+    numbers.iter().any(|other| number.0 == other.0)
+}

@@ -1,7 +1,0 @@
-use Rattle.std.proofs.Common.{◌≡◌, take}
-use Rattle.nb_net.specs.Effect.{named_port_ids}
-use Rattle.nb_tables.proofs.records.Records.port_ids.Given as goal
-
--- the numbers of the names so far
-abbrev pub invariant-loop-name : goal.invariant-loop-name
-invariant-loop-name l = l.ids ≡ named_port_ids l.self (take l.name-index l.names)

@@ -25,7 +25,7 @@ use std::mem;
 
 /// Does what an edit of a sound network asks for, and answers what undoes it (ovn-nbctl(8)). Whether the edit is to be refused is
 /// not asked here. After `OutOfMemory` the network is as before.
-pub fn edit(records: &mut Records, alloc: Global, edit: Edit) -> Result<Undo, OutOfMemory>
+pub fn edit(alloc: Global, records: &mut Records, edit: Edit) -> Result<Undo, OutOfMemory>
     requires sound { IsSound records.old }
     requires readable { IsReadable edit }
     ensures ok { OnOk result (records.new ≡ effect records.old edit) }

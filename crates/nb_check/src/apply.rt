@@ -43,7 +43,7 @@ pub(crate) fn apply(
     let edit = tested(alloc, records, edit)?;
     let kinds = may_rise(&edit);
     let mut after = known.after(alloc, records, &edit)?;
-    let done = nb_change::edit(records, alloc, edit)?;
+    let done = nb_change::edit(alloc, records, edit)?;
     let undo = keep(alloc, records, &mut after, kinds, done)?;
     *known = after;
     Ok(undo)

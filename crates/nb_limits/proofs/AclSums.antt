@@ -19,7 +19,7 @@ use Rattle.nb_net.proofs.Totals.{total_cons}
 use Rattle.nb_table.specs.Table.{NumbersRise, record_of}
 use Rattle.nb_tables.proofs.PlacedRecords.{rises}
 use Rattle.nb_limits.specs.Limitless.{IsSoundButLimits}
-use Rattle.nb_limits.specs.GroupSwitches.{switch_count, has_port_on}
+use Rattle.nb_limits.specs.inner.GroupSwitches.{switch_count, has_port_on}
 use Rattle.nb_limits.specs.inner.Weights.{weight, acl_weight, on_switch, on_switches, on_groups, found_count}
 use Rattle.nb_limits.specs.declared.acl_limits.Measure.{Measure}
 use Rattle.nb_limits.specs.declared.acl_limits.Measure.TheVariants.{Count}

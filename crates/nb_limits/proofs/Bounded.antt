@@ -1,49 +1,48 @@
 -- How much there is in a sound network: of each kind no more than its bound.
 use Rattle.std.proofs.Common.{◌≡◌, ℕ, ◌≤◌, false, nat_lt, Option, Some, arith, ap, ◌∙◌}
 use Rattle.std.proofs.lemmas.Bool.Decides.{nat_tests}
+use Rattle.std.specs.List.{AllByRecursion}
 use Rattle.std.specs.Prelude.{IsSome, is_some}
+use Rattle.nb_core.specs.declared.refusal.Kind.{Kind}
 use Rattle.nb_core.specs.declared.refusal.Kind.TheVariants as kind
-use Rattle.nb_net.specs.Amounts.{amount}
+use Rattle.nb_net.specs.Amounts.{amount, bound, kinds}
 use Rattle.nb_net.specs.Network.{Network}
 use Rattle.nb_net.specs.Sound.{IsSound}
-use Rattle.nb_limits.specs.Within.{up_to}
+use Rattle.nb_limits.specs.inner.Within.{up_to}
 use Rattle.nb_limits.proofs.KnownAfter.{all_within}
 use Rattle.nb_limits.proofs.Sums.{within}
 
 low : (limit n : ℕ) → nat_lt limit n ≡ false → n ≤ limit
 low limit n e = grind (arith, nat_tests, e)
 
-module _ (net : Network) (sound : IsSound net) where
-  pub networks_low : amount net kind.Network ≤ 4096
-  networks_low = low 4096 (amount net kind.Network) (all_within net sound).1.1.1.1.0
+pub amount_low : (net : Network) → IsSound net → (own : Kind) → amount net own ≤ bound own
+amount_low net sound own = low (bound own) (amount net own) (pick own (all_within net sound))
+  where
+    pick : (own : Kind) → AllByRecursion (λ k. nat_lt (bound k) (amount net k) ≡ false) kinds → nat_lt (bound own) (amount net own) ≡ false
+    pick kind.Switch all = all.0
+    pick kind.Router all = all.1.0
+    pick kind.Port all = all.1.1.0
+    pick kind.RouterPort all = all.1.1.1.0
+    pick kind.Network all = all.1.1.1.1.0
+    pick kind.Address all = all.1.1.1.1.1.0
+    pick kind.Security all = all.1.1.1.1.1.1.0
+    pick kind.Acl all = all.1.1.1.1.1.1.1.0
+    pick kind.AclSwitch all = all.1.1.1.1.1.1.1.1.0
+    pick kind.Route all = all.1.1.1.1.1.1.1.1.1.0
+    pick kind.Nat all = all.1.1.1.1.1.1.1.1.1.1.0
+    pick kind.Lb all = all.1.1.1.1.1.1.1.1.1.1.1.0
+    pick kind.Vip all = all.1.1.1.1.1.1.1.1.1.1.1.1.0
+    pick kind.Backend all = all.1.1.1.1.1.1.1.1.1.1.1.1.1.0
+    pick kind.VipDatapath all = all.1.1.1.1.1.1.1.1.1.1.1.1.1.1.0
+    pick kind.Neighbour all = all.1.1.1.1.1.1.1.1.1.1.1.1.1.1.1.0
+    pick kind.Set all = all.1.1.1.1.1.1.1.1.1.1.1.1.1.1.1.1.0
+    pick kind.Member all = all.1.1.1.1.1.1.1.1.1.1.1.1.1.1.1.1.1.0
+    pick kind.MatchText all = all.1.1.1.1.1.1.1.1.1.1.1.1.1.1.1.1.1.1.0
+    pick kind.Binding all = all.1.1.1.1.1.1.1.1.1.1.1.1.1.1.1.1.1.1.1.0
 
-  pub addresses_low : amount net kind.Address ≤ 32768
-  addresses_low = low 32768 (amount net kind.Address) (all_within net sound).1.1.1.1.1.0
-
-  pub security_low : amount net kind.Security ≤ 32768
-  security_low = low 32768 (amount net kind.Security) (all_within net sound).1.1.1.1.1.1.0
-
-  pub acl_switches_low : amount net kind.AclSwitch ≤ 65536
-  acl_switches_low = low 65536 (amount net kind.AclSwitch) (all_within net sound).1.1.1.1.1.1.1.1.0
-
-  pub vip_datapaths_low : amount net kind.VipDatapath ≤ 16384
-  vip_datapaths_low = low 16384 (amount net kind.VipDatapath) (all_within net sound).1.1.1.1.1.1.1.1.1.1.1.1.1.1.0
-
-  pub neighbours_low : amount net kind.Neighbour ≤ 262144
-  neighbours_low = low 262144 (amount net kind.Neighbour) (all_within net sound).1.1.1.1.1.1.1.1.1.1.1.1.1.1.1.0
-
-  pub sets_low : amount net kind.Set ≤ 4096
-  sets_low = low 4096 (amount net kind.Set) (all_within net sound).1.1.1.1.1.1.1.1.1.1.1.1.1.1.1.1.0
-
-  pub members_low : amount net kind.Member ≤ 262144
-  members_low = low 262144 (amount net kind.Member) (all_within net sound).1.1.1.1.1.1.1.1.1.1.1.1.1.1.1.1.1.0
-
-  pub match_text_low : amount net kind.MatchText ≤ 67108864
-  match_text_low = low 67108864 (amount net kind.MatchText) (all_within net sound).1.1.1.1.1.1.1.1.1.1.1.1.1.1.1.1.1.1.0
-
--- what is within the bound is told
-pub is_told : (limit n : ℕ) (sum : Option ℕ) → n ≤ limit → sum ≡ up_to limit n → sum ≡ Some n
-is_told limit n sum less is = is ∙ within limit n less
+-- so that it is told
+pub is_told : (net : Network) → IsSound net → (own : Kind) (sum : Option ℕ) → sum ≡ up_to (bound own) (amount net own) → sum ≡ Some (amount net own)
+is_told net sound own sum is = is ∙ within (bound own) (amount net own) (amount_low net sound own)
 
 pub some_told : (n : ℕ) (sum : Option ℕ) → sum ≡ Some n → IsSome sum
 some_told n sum is = ap (λ (o : Option ℕ). is_some o) is

@@ -1,5 +1,5 @@
 -- Sums of amounts that are cut off far above a bound.
-use Rattle.std.proofs.Common.{◌≡◌, ℕ, ◌+◌, ◌<◌, ◌≤◌, Bool, true, false, nat_lt, min, List, [], ◌∷◌, arith, refl, ap}
+use Rattle.std.proofs.Common.{◌≡◌, ℕ, ◌+◌, ◌<◌, ◌≤◌, Bool, true, false, nat_lt, min, List, [], ◌∷◌, arith, refl, sym, ap, ◌∙◌}
 use Rattle.std.proofs.lemmas.Bool.{ltb-true}
 use Rattle.std.proofs.lemmas.Bool.Decides.{nat_tests}
 use Rattle.std.proofs.lemmas.List.Sums.{sum_by-cons}
@@ -11,7 +11,8 @@ use Rattle.nb_core.specs.Tags.{port_weight, most}
 use Rattle.nb_core.specs.Tags as tags
 use Rattle.nb_net.specs.Amounts.{total, address_count}
 use Rattle.nb_net.proofs.Totals.{total_cons}
-use Rattle.nb_limits.proofs.Greatest.{is_more, is_no_more}
+use Rattle.nb_limits.specs.inner.Within.{up_to}
+use Rattle.nb_limits.proofs.Sums.{over}
 use Rattle.nb_limits.proofs.Swapped.{total_same}
 
 same_cut : {X : Type 0} (f g : X → ℕ) (cap : ℕ) (xs : List X) → ((x : X) → g x ≡ min (f x) cap) → min (sum_by g xs) cap ≡ min (total f xs) cap
@@ -22,45 +23,32 @@ same_cut f g cap (x ∷ xs) cut =
     step : (s a m t b n cap : ℕ) → s ≡ a + m → t ≡ b + n → a ≡ min b cap → min m cap ≡ min n cap → min s cap ≡ min t cap
     step s a m t b n cap e f g h = omega arith
 
-same_test : (bound cap a b : ℕ) → bound < cap → min a cap ≡ min b cap → nat_lt bound a ≡ nat_lt bound b
-same_test bound cap a b low same = by (nat_lt bound b) refl
+-- A sum that is cut off only far above the bound is within it where the whole is, and then is the whole.
+same_up_to : (bound cap a b : ℕ) → bound < cap → min a cap ≡ min b cap → up_to bound a ≡ up_to bound b
+same_up_to bound cap a b low same = by (nat_lt bound b) refl
   where
-    more : nat_lt bound b ≡ true → bound < a
-    more e = let it = ltb-true bound b e in omega (arith, it, low, same)
+    more : bound < b → bound < a
+    more e = omega (arith, e, low, same)
 
-    less : (m n : ℕ) → nat_lt m n ≡ false → n ≤ m
-    less m n e = grind (arith, nat_tests, e)
+    less : nat_lt bound b ≡ false → b ≤ bound
+    less e = grind (arith, nat_tests, e)
 
-    no_more : nat_lt bound b ≡ false → a ≤ bound
-    no_more e = let it = less bound b e in omega (arith, it, low, same)
+    whole : b ≤ bound → a ≡ b
+    whole e = omega (arith, e, low, same)
 
-    by : (t : Bool) → nat_lt bound b ≡ t → nat_lt bound a ≡ t
-    by true e = is_more bound a (more e)
-    by false e = is_no_more bound a (no_more e)
+    by : (t : Bool) → nat_lt bound b ≡ t → up_to bound a ≡ up_to bound b
+    by true e = over bound a (more (ltb-true bound b e)) ∙ sym (over bound b (ltb-true bound b e))
+    by false e = ap (up_to bound) (whole (less e))
 
 same_counts : (own : Addr) → tags.address_count own ≡ address_count own
 same_counts addr.Unknown = refl
 same_counts addr.Router = refl
 same_counts (addr.Host mac ips) = refl
 
-pub addresses_over : (ports : List Port) → nat_lt 32768 (sum_by (λ port. (port_weight port).0) ports) ≡ nat_lt 32768 (total (λ port. total address_count port.addresses) ports)
-addresses_over ports =
-    same_test 32768 most _ _ (omega arith)
+pub addresses_up_to : (ports : List Port) → up_to 32768 (sum_by (λ port. (port_weight port).0) ports) ≡ up_to 32768 (total (λ port. total address_count port.addresses) ports)
+addresses_up_to ports =
+    same_up_to 32768 most _ _ (omega arith)
     (same_cut (λ port. total address_count port.addresses) (λ port. (port_weight port).0) most ports (λ port. ap (λ n. min n most) (total_same tags.address_count address_count port.addresses same_counts)))
 
-pub security_over : (ports : List Port) → nat_lt 32768 (sum_by (λ port. (port_weight port).1) ports) ≡ nat_lt 32768 (total (λ port. total tags.guard_count port.security) ports)
-security_over ports = same_test 32768 most _ _ (omega arith) (same_cut (λ port. total tags.guard_count port.security) (λ port. (port_weight port).1) most ports (λ port. refl))
-
--- A sum that is within a bound far below is not cut off.
-not_cut : (bound cap a b : ℕ) → bound < cap → min a cap ≡ min b cap → b ≤ bound → a ≡ b
-not_cut bound cap a b low same less = omega (arith, low, same, less)
-
-pub addresses_whole : (ports : List Port) → total (λ port. total address_count port.addresses) ports ≤ 32768
-    → sum_by (λ port. (port_weight port).0) ports ≡ total (λ port. total address_count port.addresses) ports
-addresses_whole ports =
-    not_cut 32768 most _ _ (omega arith)
-    (same_cut (λ port. total address_count port.addresses) (λ port. (port_weight port).0) most ports (λ port. ap (λ n. min n most) (total_same tags.address_count address_count port.addresses same_counts)))
-
-pub security_whole : (ports : List Port) → total (λ port. total tags.guard_count port.security) ports ≤ 32768
-    → sum_by (λ port. (port_weight port).1) ports ≡ total (λ port. total tags.guard_count port.security) ports
-security_whole ports = not_cut 32768 most _ _ (omega arith) (same_cut (λ port. total tags.guard_count port.security) (λ port. (port_weight port).1) most ports (λ port. refl))
+pub security_up_to : (ports : List Port) → up_to 32768 (sum_by (λ port. (port_weight port).1) ports) ≡ up_to 32768 (total (λ port. total tags.guard_count port.security) ports)
+security_up_to ports = same_up_to 32768 most _ _ (omega arith) (same_cut (λ port. total tags.guard_count port.security) (λ port. (port_weight port).1) most ports (λ port. refl))

@@ -65,9 +65,6 @@ holds_of q (Some r) = q r
 above_differs : (m n : ℕ) → m < n → (n == m) ≡ false
 above_differs m n less = grind (arith, nat_tests, less)
 
-below_differs : (m n : ℕ) → m < n → (m == n) ≡ false
-below_differs m n less = grind (arith, nat_tests, less)
-
 module _ {R : Type 0} (number : R → ObjId) (n : ObjId) where
   -- above a number none has it
   pub none_has : (rs : List R) → AllByRecursion (λ r. n.0 < (number r).0) rs → filter (λ r. same (number r) n) rs ≡ []

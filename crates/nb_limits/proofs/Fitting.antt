@@ -17,7 +17,7 @@ use Rattle.nb_net.specs.Readable.{are_apart}
 use Rattle.nb_net.specs.Sound.{AreNamed}
 use Rattle.nb_net.proofs.Alike.{names_sym, same_names}
 use Rattle.nb_net.proofs.RecordLists.{found_holds, all_only, all_where, all_push, apart_by, only, if_missing}
-use Rattle.nb_limits.specs.Ceilings.{has_vip_room}
+use Rattle.nb_limits.specs.inner.KnownAfter.{has_vip_room}
 
 -- no amount is greater than the bound where the greatest is not
 each_low : {X : Type 0} (f : X → ℕ) (most : ℕ) (xs : List X) → nat_lt most (greatest f xs) ≡ false → IsTrue (list_all (λ x. not (nat_lt most (f x))) xs)

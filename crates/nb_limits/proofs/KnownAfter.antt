@@ -20,7 +20,8 @@ use Rattle.nb_net.specs.Network.{Network, next_number}
 use Rattle.nb_net.specs.Sound.{IsSound}
 use Rattle.nb_net.proofs.RisesEdits.{edit_falls}
 use Rattle.nb_limits.specs.declared.ceilings.Ceilings.{Ceilings}
-use Rattle.nb_limits.specs.Ceilings.{IsCeiling, AreCeilings, raised, with_acl, reach, known_after}
+use Rattle.nb_limits.specs.Ceilings.{IsCeiling, AreCeilings}
+use Rattle.nb_limits.specs.inner.KnownAfter.{raised, with_acl, reach, known_after}
 use Rattle.nb_limits.specs.Limitless.{IsSoundButLimits}
 use Rattle.nb_limits.proofs.Fitting.{vip_fits, backends_fit}
 use Rattle.nb_limits.proofs.Raised.{more_switches, more_text, reached, raised_ceiling}

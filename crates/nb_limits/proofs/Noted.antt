@@ -19,7 +19,7 @@ use Rattle.nb_net.proofs.RecordLists.{all_push}
 use Rattle.nb_table.specs.Table.{record_of, has_number}
 use Rattle.nb_tables.proofs.PlacedRecords.{rises}
 use Rattle.nb_limits.specs.Limitless.{IsSoundButLimits}
-use Rattle.nb_limits.specs.GroupSwitches.{switch_count, has_port_on}
+use Rattle.nb_limits.specs.inner.GroupSwitches.{switch_count, has_port_on}
 use Rattle.nb_limits.proofs.Counted.{alone, any_or, any_same, any_of_number, holds_of, listed_count, among_last, among_with}
 use Rattle.nb_limits.proofs.Rest.{same_kept}
 

@@ -17,11 +17,12 @@ use Rattle.nb_net.specs.Sound.{group_ids}
 use Rattle.nb_net.proofs.Lists.{same_is}
 use Rattle.nb_net.proofs.Totals.{total_cons}
 use Rattle.nb_table.specs.Table.{record_of}
-use Rattle.nb_limits.specs.Ceilings.{IsCeiling, raised, owner_reach, reach}
+use Rattle.nb_limits.specs.Ceilings.{IsCeiling}
+use Rattle.nb_limits.specs.inner.KnownAfter.{raised, owner_reach, reach}
 use Rattle.nb_limits.specs.Limitless.{IsSoundButLimits}
-use Rattle.nb_limits.specs.GroupSwitches.{switch_count}
+use Rattle.nb_limits.specs.inner.GroupSwitches.{switch_count}
 use Rattle.nb_limits.specs.inner.Weights.{found_count}
-use Rattle.nb_limits.specs.Within.{up_to}
+use Rattle.nb_limits.specs.inner.Within.{up_to}
 use Rattle.nb_limits.specs.declared.acl_limits.Measure.TheVariants.{Count}
 use Rattle.nb_limits.proofs.AclSums.{of_acl, no_switch, groups_rise}
 use Rattle.nb_limits.proofs.Counted.{found_list, of_number}

@@ -1,9 +1,8 @@
 -- Sums over records that are looked at one by one, and that stop where they are over a bound.
-use Rattle.std.proofs.Common.{◌≡◌, ℕ, ◌+◌, ◌<◌, ◌≤◌, Bool, true, false, cond, not, nat_lt, List, [], ◌∷◌, Option, Some, None, arith, refl, sym, ap, ◌∙◌, subst, length}
+use Rattle.std.proofs.Common.{◌≡◌, ℕ, ◌+◌, ◌<◌, ◌≤◌, Bool, true, false, cond, nat_lt, List, [], ◌∷◌, Some, None, arith, refl, sym, ap, ◌∙◌, subst, length}
 use Rattle.std.proofs.lemmas.Bool.{ltb-true}
 use Rattle.std.proofs.lemmas.Bool.Decides.{nat_tests}
-use Rattle.std.specs.Prelude.{is_some}
-use Rattle.nb_limits.specs.Within.{up_to}
+use Rattle.nb_limits.specs.inner.Within.{up_to}
 use Rattle.nb_net.specs.Amounts.{total}
 use Rattle.nb_net.proofs.Totals.{total_cons}
 
@@ -58,18 +57,6 @@ second_over bound a b e = over bound (a + b) (above bound a b (untold bound b e)
 
 pub both_told : (bound a b s t : ℕ) → Some s ≡ up_to bound a → Some t ≡ up_to bound b → up_to bound (s + t) ≡ up_to bound (a + b)
 both_told bound a b s t e f = ap (λ n. up_to bound (n + t)) (told bound a s e).0 ∙ ap (λ n. up_to bound (a + n)) (told bound b t f).0
-
--- an amount is over the bound where it is not told
-pub over_untold : (bound n : ℕ) (o : Option ℕ) (none : Bool) → o ≡ up_to bound n → is_some o ≡ not none → none ≡ nat_lt bound n
-over_untold bound n o none is e = turned none ∙ ap not (sym e) ∙ ap (λ p. not (is_some p)) is ∙ by (nat_lt bound n)
-  where
-    turned : (b : Bool) → b ≡ not (not b)
-    turned true = refl
-    turned false = refl
-
-    by : (b : Bool) → not (is_some (cond b None (Some n))) ≡ b
-    by true = refl
-    by false = refl
 
 pub sum_begins : {R : Type 0} (f : R → ℕ) (bound : ℕ) (left : List R) (whole : ℕ) → total f left ≡ whole → IsSumSoFar f bound 0 left whole
 sum_begins f bound left whole is = record { low = omega arith; same = none (total f left) ∙ is }

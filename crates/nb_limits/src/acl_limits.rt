@@ -1,9 +1,9 @@
 //! How many ACLs there are and how long they are, each counted once for each switch that it applies to (not from OVN).
 ghost use Rattle.std.specs.Prelude.{◌≡◌, ◌*◌, IfOk, OnOk};
 ghost use Rattle.nb_limits.specs.Limitless.{IsSoundButLimits};
-ghost use Rattle.nb_limits.specs.GroupSwitches.{switch_count};
+ghost use Rattle.nb_limits.specs.inner.GroupSwitches.{switch_count};
 ghost use Rattle.nb_limits.specs.inner.Weights.{weight, acl_weight, on_switch, on_group, on_switches, on_groups};
-ghost use Rattle.nb_limits.specs.Within.{up_to};
+ghost use Rattle.nb_limits.specs.inner.Within.{up_to};
 ghost use Rattle.nb_core.specs.declared.refusal.Kind.TheVariants as kind;
 ghost use Rattle.nb_net.specs.Amounts.{amount, bound};
 ghost use Rattle.nb_net.specs.Belongs.{is_among};

@@ -1,14 +1,17 @@
-//! How much of each kind a sound network has (not from OVN).
-ghost use Rattle.std.specs.Prelude.{◌≡◌, ◌⊎◌, length, IfOk, OnErr};
+//! How much of each kind a network has (not from OVN).
+ghost use Rattle.std.specs.Prelude.{◌≡◌, ◌⊎◌, IfOk, OnErr};
 ghost use Rattle.nb_core.specs.declared.refusal.Kind.TheVariants as kinds;
-ghost use Rattle.nb_net.specs.Amounts.{amount, greatest};
+ghost use Rattle.nb_limits.specs.Limitless.{IsSoundButLimits};
+ghost use Rattle.nb_limits.specs.inner.Within.{up_to};
+ghost use Rattle.nb_net.specs.Amounts.{amount, bound};
 ghost use Rattle.nb_net.specs.Sound.{IsSound};
 
 use crate::acl_limits::{acl_switches, match_text};
-use crate::balancer_limits::vip_datapaths;
+use crate::balancer_limits::{backend_count, vip_count, vip_datapaths};
 use crate::bounds::bound;
 use crate::neighbour_limits::neighbours;
-use nb_core::{Kind, Lb};
+use crate::within::{add, count_within, weight_within};
+use nb_core::Kind;
 use nb_tables::Records;
 use nv_base::OutOfMemory;
 use std::alloc::Global;
@@ -20,130 +23,67 @@ pub fn amount(alloc: Global, records: &Records, kind: Kind) -> Result<u64, OutOf
     ensures amount { IfOk result (λ count. count ≡ amount records.now kind) }
     ensures memory { OnErr result ((kind ≡ kinds.AclSwitch) ⊎ (kind ≡ kinds.MatchText)) }
 {
-    match kind {
-        Kind::Switch => Ok(records.switches().count()),
-        Kind::Router => Ok(records.routers().count()),
-        Kind::Port => Ok(records.ports().count()),
-        Kind::RouterPort => Ok(records.router_ports().count()),
-        Kind::Network => Ok(network_count(records)),
-        Kind::Address => Ok(address_count(records)),
-        Kind::Security => Ok(security_count(records)),
-        Kind::Acl => Ok(records.acls().count()),
-        Kind::AclSwitch => acl_switch_count(alloc, records),
-        Kind::Route => Ok(records.routes().count()),
-        Kind::Nat => Ok(records.nats().count()),
-        Kind::Lb => Ok(records.lbs().count()),
-        Kind::Vip => Ok(vip_count(records)),
-        Kind::Backend => Ok(backend_count(records)),
-        Kind::VipDatapath => Ok(vip_datapath_count(records)),
-        Kind::Neighbour => Ok(neighbour_count(records)),
-        Kind::Set => Ok(set_count(records)),
-        Kind::Member => Ok(member_count(records)),
-        Kind::MatchText => match_text_count(alloc, records),
-        Kind::Binding => Ok(records.bindings().count()),
-    }
-}
-
-fn network_count(records: &Records) -> u64
-    requires { IsSound records.now }
-    ensures { result ≡ amount records.now kinds.Network }
-{
-    records.router_ports().weights().0 as u64
-}
-
-fn address_count(records: &Records) -> u64
-    requires { IsSound records.now }
-    ensures { result ≡ amount records.now kinds.Address }
-{
-    records.ports().weights().0 as u64
-}
-
-fn security_count(records: &Records) -> u64
-    requires { IsSound records.now }
-    ensures { result ≡ amount records.now kinds.Security }
-{
-    records.ports().weights().1 as u64
-}
-
-fn acl_switch_count(alloc: Global, records: &Records) -> Result<u64, OutOfMemory>
-    requires { IsSound records.now }
-    ensures { IfOk result (λ count. count ≡ amount records.now kinds.AclSwitch) }
-{
-    let count = acl_switches(alloc, records)?;
+    let count = amount_within(alloc, records, kind)?;
     Ok(count.unwrap())
 }
 
-// The most VIPs that a load balancer has.
-fn vip_count(records: &Records) -> u64
-    ensures { result ≡ amount records.now kinds.Vip }
+/// How much of a kind there is, where it is within the bound.
+pub(crate) fn amount_within(
+    alloc: Global,
+    records: &Records,
+    kind: Kind,
+) -> Result<Option<u64>, OutOfMemory>
+    requires limitless { IsSoundButLimits records.now }
+    ensures amount { IfOk result (λ count. count ≡ up_to (bound kind) (amount records.now kind)) }
+    ensures memory { OnErr result ((kind ≡ kinds.AclSwitch) ⊎ (kind ≡ kinds.MatchText)) }
 {
-    let mut most = 0;
-    let mut after = None;
-    while let Some(lb) = records.lbs().after(after) {
-        most = most.max(lb.vips.as_slice().len() as u64);
-        after = Some(lb.id);
+    match kind {
+        Kind::Switch => Ok(count_within(records.switches().count(), kind)),
+        Kind::Router => Ok(count_within(records.routers().count(), kind)),
+        Kind::Port => Ok(count_within(records.ports().count(), kind)),
+        Kind::RouterPort => Ok(count_within(records.router_ports().count(), kind)),
+        Kind::Network => Ok(weight_within(records.router_ports().weights().0, kind)),
+        Kind::Address => Ok(addresses(records)),
+        Kind::Security => Ok(security(records)),
+        Kind::Acl => Ok(count_within(records.acls().count(), kind)),
+        Kind::AclSwitch => acl_switches(alloc, records),
+        Kind::Route => Ok(count_within(records.routes().count(), kind)),
+        Kind::Nat => Ok(count_within(records.nats().count(), kind)),
+        Kind::Lb => Ok(count_within(records.lbs().count(), kind)),
+        Kind::Vip => Ok(count_within(vip_count(records), kind)),
+        Kind::Backend => Ok(count_within(backend_count(records), kind)),
+        Kind::VipDatapath => Ok(vip_datapaths(records, u64::from(bound(kind)))),
+        Kind::Neighbour => Ok(neighbours(records, u64::from(bound(kind)))),
+        Kind::Set => Ok(sets(records)),
+        Kind::Member => Ok(members(records)),
+        Kind::MatchText => match_text(alloc, records),
+        Kind::Binding => Ok(count_within(records.bindings().count(), kind)),
     }
-    most
 }
 
-// The most backends that a VIP has.
-fn backend_count(records: &Records) -> u64
-    ensures { result ≡ amount records.now kinds.Backend }
+fn addresses(records: &Records) -> Option<u64>
+    ensures { result ≡ up_to (bound kinds.Address) (amount records.now kinds.Address) }
 {
-    let mut most = 0;
-    let mut after = None;
-    while let Some(lb) = records.lbs().after(after) {
-        most = most.max(most_backends(lb));
-        after = Some(lb.id);
-    }
-    most
+    weight_within(records.ports().weights().0, Kind::Address)
 }
 
-// The most that a VIP of the load balancer has.
-fn most_backends(lb: &Lb) -> u64
-    ensures { result ≡ greatest (λ vip. length vip.backends) lb.now.vips }
+fn security(records: &Records) -> Option<u64>
+    ensures { result ≡ up_to (bound kinds.Security) (amount records.now kinds.Security) }
 {
-    let mut most = 0;
-    for vip in lb.vips.as_slice() {
-        most = most.max(vip.backends.as_slice().len() as u64);
-    }
-    most
+    weight_within(records.ports().weights().1, Kind::Security)
 }
 
-fn vip_datapath_count(records: &Records) -> u64
-    requires { IsSound records.now }
-    ensures { result ≡ amount records.now kinds.VipDatapath }
+fn sets(records: &Records) -> Option<u64>
+    ensures { result ≡ up_to (bound kinds.Set) (amount records.now kinds.Set) }
 {
-    vip_datapaths(records, u64::from(bound(Kind::VipDatapath))).unwrap()
+    let most = u64::from(bound(Kind::Set));
+    add(records.sets().count(), records.groups().count(), most)
 }
 
-fn neighbour_count(records: &Records) -> u64
-    requires { IsSound records.now }
-    ensures { result ≡ amount records.now kinds.Neighbour }
-{
-    neighbours(records, u64::from(bound(Kind::Neighbour))).unwrap()
-}
-
-fn set_count(records: &Records) -> u64
-    requires { IsSound records.now }
-    ensures { result ≡ amount records.now kinds.Set }
-{
-    records.sets().count() + records.groups().count()
-}
-
-fn member_count(records: &Records) -> u64
-    requires { IsSound records.now }
-    ensures { result ≡ amount records.now kinds.Member }
+fn members(records: &Records) -> Option<u64>
+    ensures { result ≡ up_to (bound kinds.Member) (amount records.now kinds.Member) }
 {
     let sets = records.sets().weights().0;
-    let groups = records.groups().weights().0;
-    (sets + groups) as u64
-}
-
-fn match_text_count(alloc: Global, records: &Records) -> Result<u64, OutOfMemory>
-    requires { IsSound records.now }
-    ensures { IfOk result (λ count. count ≡ amount records.now kinds.MatchText) }
-{
-    let count = match_text(alloc, records)?;
-    Ok(count.unwrap())
+    let members = sets.saturating_add(records.groups().weights().0);
+    weight_within(members, Kind::Member)
 }

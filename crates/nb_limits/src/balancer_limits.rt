@@ -1,81 +1,54 @@
-//! Whether load balancers have more VIPs and backends than they may (not from OVN).
-ghost use Rattle.std.specs.Prelude.{◌≡◌, nat_lt, length};
+//! How many VIPs and backends load balancers have (not from OVN).
+ghost use Rattle.std.specs.Prelude.{◌≡◌, length};
 ghost use Rattle.nb_limits.specs.inner.Attached.{attached_vips, vips_on_switches, vips_on_routers};
 ghost use Rattle.nb_limits.specs.Limitless.{IsSoundButLimits};
-ghost use Rattle.nb_limits.specs.Within.{up_to};
+ghost use Rattle.nb_limits.specs.inner.Within.{up_to};
 ghost use Rattle.nb_core.specs.declared.refusal.Kind.TheVariants as kind;
-ghost use Rattle.nb_net.specs.Amounts.{amount, bound, greatest};
+ghost use Rattle.nb_net.specs.Amounts.{amount, greatest};
 ghost use Rattle.nb_table.specs.Table.{NumbersRise};
 
-use crate::bounds::bound;
 use crate::within::add;
-use nb_core::{Backend, Kind, Lb};
+use nb_core::Lb;
 use nb_tables::Records;
 
-/// Whether a load balancer has more VIPs than it may have.
-pub(crate) fn is_vip_over(records: &Records) -> bool
-    ensures { result ≡ nat_lt (bound kind.Vip) (amount records.now kind.Vip) }
+/// The most VIPs that a load balancer has.
+pub(crate) fn vip_count(records: &Records) -> u64
+    ensures { result ≡ amount records.now kind.Vip }
 {
-    let most = u64::from(bound(Kind::Vip));
+    let mut most = 0;
     let mut after = None;
     while let Some(lb) = records.lbs().after(after) {
-        if has_more_vips(lb, most) {
-            return true;
-        }
+        most = most.max(lb.vips.as_slice().len() as u64);
         after = Some(lb.id);
     }
-    false
+    most
 }
 
-// Whether the load balancer has more VIPs than these.
-fn has_more_vips(lb: &Lb, most: u64) -> bool
-    ensures { result ≡ nat_lt most (length lb.now.vips) }
+/// The most backends that a VIP has.
+pub(crate) fn backend_count(records: &Records) -> u64
+    ensures { result ≡ amount records.now kind.Backend }
 {
-    lb.vips.as_slice().len() as u64 > most
-}
-
-/// Whether a VIP has more backends than it may have.
-pub(crate) fn is_backend_over(records: &Records) -> bool
-    ensures { result ≡ nat_lt (bound kind.Backend) (amount records.now kind.Backend) }
-{
-    let most = u64::from(bound(Kind::Backend));
+    let mut most = 0;
     let mut after = None;
     while let Some(lb) = records.lbs().after(after) {
-        if has_more_backends(lb, most) {
-            return true;
-        }
+        most = most.max(most_backends(lb));
         after = Some(lb.id);
     }
-    false
+    most
 }
 
-// Whether a VIP of the load balancer has more backends than these.
-fn has_more_backends(lb: &Lb, most: u64) -> bool
-    ensures { result ≡ nat_lt most (greatest (λ vip. length vip.backends) lb.now.vips) }
+// The most that a VIP of the load balancer has.
+fn most_backends(lb: &Lb) -> u64
+    ensures { result ≡ greatest (λ vip. length vip.backends) lb.now.vips }
 {
+    let mut most = 0;
     for vip in lb.vips.as_slice() {
-        if is_longer(vip.backends.as_slice(), most) {
-            return true;
-        }
+        most = most.max(vip.backends.as_slice().len() as u64);
     }
-    false
+    most
 }
 
-fn is_longer(backends: &[Backend], most: u64) -> bool
-    ensures { result ≡ nat_lt most (length backends.now) }
-{
-    backends.len() as u64 > most
-}
-
-/// Whether there are more VIPs than there may be, each counted once for each datapath that has its load balancer.
-pub(crate) fn is_vip_datapath_over(records: &Records) -> bool
-    requires limitless { IsSoundButLimits records.now }
-    ensures { result ≡ nat_lt (bound kind.VipDatapath) (amount records.now kind.VipDatapath) }
-{
-    vip_datapaths(records, u64::from(bound(Kind::VipDatapath))).is_none()
-}
-
-/// How many there are, where they are within the bound.
+/// How many VIPs there are, each counted once for each datapath that has its load balancer, where they are within the bound.
 pub(crate) fn vip_datapaths(records: &Records, bound: u64) -> Option<u64>
     requires limitless { IsSoundButLimits records.now }
     ensures { result ≡ up_to bound (amount records.now kind.VipDatapath) }

@@ -3,12 +3,15 @@ ghost use Rattle.std.specs.Prelude.{◌≡◌, not, nat_lt, length, IfOk};
 ghost use Rattle.std.specs.Option.{option_copied};
 ghost use Rattle.nb_core.specs.declared.refusal.Kind.TheVariants as kind;
 ghost use Rattle.nb_net.specs.Amounts.{amount, bound};
+ghost use Rattle.nb_net.specs.Effect.{effect};
 ghost use Rattle.nb_net.specs.Network.{Network, empty_network};
-ghost use Rattle.nb_limits.specs.Ceilings.{AreCeilings, raised, reach, with_acl, has_vip_room, known_after};
+ghost use Rattle.nb_net.specs.Sound.{IsSound};
+ghost use Rattle.nb_limits.specs.Ceilings.{AreCeilings};
+ghost use Rattle.nb_limits.specs.inner.KnownAfter.{raised, reach, with_acl, has_vip_room, known_after};
 ghost use Rattle.nb_limits.specs.Limitless.{IsSoundButLimits};
 
 use crate::acl_limits::{acl_switches, match_text, switch_count};
-use crate::balancer_limits::{is_backend_over, is_vip_over};
+use crate::balancer_limits::{backend_count, vip_count};
 use crate::bounds::bound;
 use crate::within::add_times;
 use expr_core::{Typed, put_tree};
@@ -55,9 +58,23 @@ impl Ceilings {
         }
     }
 
-    /// What is known after an edit of a sound network, before its limits are tested (not from OVN). `OutOfMemory` where memory runs out
-    /// for an ACL's text, or for the switches that it applies to.
+    /// What is known of the network that an edit leaves of a sound one, whatever the limits say of it (not from OVN). `OutOfMemory`
+    /// where memory runs out for an ACL's text, or for the switches that it applies to.
     pub fn after(
+        self,
+        alloc: Global,
+        records: &Records,
+        edit: &Edit,
+    ) -> Result<Ceilings, OutOfMemory>
+        requires sound { IsSound records.now }
+        requires known { AreCeilings records.now self }
+        ensures { IfOk result (λ known. AreCeilings (effect records.now edit.now) known) }
+    {
+        self.known_after(alloc, records, edit)
+    }
+
+    // The same, by what the edit is.
+    fn known_after(
         self,
         alloc: Global,
         records: &Records,
@@ -133,7 +150,7 @@ impl Ceilings {
         if self.vips_fit {
             return false;
         }
-        let over = is_vip_over(records);
+        let over = vip_count(records) > u64::from(bound(Kind::Vip));
         self.vips_fit = !over;
         over
     }
@@ -147,7 +164,7 @@ impl Ceilings {
         if self.backends_fit {
             return false;
         }
-        let over = is_backend_over(records);
+        let over = backend_count(records) > u64::from(bound(Kind::Backend));
         self.backends_fit = !over;
         over
     }

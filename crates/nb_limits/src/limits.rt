@@ -2,14 +2,12 @@
 ghost use Rattle.std.specs.Prelude.{◌≡◌, nat_lt, IfOk};
 ghost use Rattle.nb_limits.specs.Ceilings.{AreCeilings};
 ghost use Rattle.nb_limits.specs.Limitless.{IsSoundButLimits};
-ghost use Rattle.nb_core.specs.declared.refusal.Kind.TheVariants as kind;
 ghost use Rattle.nb_net.specs.Amounts.{amount, bound, first_over};
 ghost use Rattle.nb_net.specs.Rises.{may_rise};
 
-use crate::balancer_limits::is_vip_datapath_over;
+use crate::amounts::amount_within;
 use crate::bounds::bound;
 use crate::ceilings::Ceilings;
-use crate::neighbour_limits::is_neighbour_over;
 use nb_core::{Edit, Kind, Refusal};
 use nb_tables::Records;
 use nv_base::OutOfMemory;
@@ -78,75 +76,10 @@ fn is_over(
     ensures known { AreCeilings records.now known.new }
 {
     match kind {
-        Kind::Switch => Ok(is_more(records.switches().count(), kind)),
-        Kind::Router => Ok(is_more(records.routers().count(), kind)),
-        Kind::Port => Ok(is_more(records.ports().count(), kind)),
-        Kind::RouterPort => Ok(is_more(records.router_ports().count(), kind)),
-        Kind::Network => Ok(is_network_over(records)),
-        Kind::Address => Ok(is_address_over(records)),
-        Kind::Security => Ok(is_security_over(records)),
-        Kind::Acl => Ok(is_more(records.acls().count(), kind)),
         Kind::AclSwitch => known.is_acl_switch_over(alloc, records),
-        Kind::Route => Ok(is_more(records.routes().count(), kind)),
-        Kind::Nat => Ok(is_more(records.nats().count(), kind)),
-        Kind::Lb => Ok(is_more(records.lbs().count(), kind)),
         Kind::Vip => Ok(known.is_vip_over(records)),
         Kind::Backend => Ok(known.is_backend_over(records)),
-        Kind::VipDatapath => Ok(is_vip_datapath_over(records)),
-        Kind::Neighbour => Ok(is_neighbour_over(records)),
-        Kind::Set => Ok(is_set_over(records)),
-        Kind::Member => Ok(is_member_over(records)),
         Kind::MatchText => known.is_match_text_over(alloc, records),
-        Kind::Binding => Ok(is_more(records.bindings().count(), kind)),
+        _ => Ok(amount_within(alloc, records, kind)?.is_none()),
     }
-}
-
-// Whether there are more than there may be of a kind.
-fn is_more(amount: u64, kind: Kind) -> bool
-    ensures { result ≡ nat_lt (bound kind) amount }
-{
-    amount > u64::from(bound(kind))
-}
-
-// The same of a weight.
-fn is_heavier(weight: u128, kind: Kind) -> bool
-    ensures { result ≡ nat_lt (bound kind) weight }
-{
-    weight > u128::from(bound(kind))
-}
-
-fn is_network_over(records: &Records) -> bool
-    ensures { result ≡ nat_lt (bound kind.Network) (amount records.now kind.Network) }
-{
-    is_heavier(records.router_ports().weights().0, Kind::Network)
-}
-
-fn is_address_over(records: &Records) -> bool
-    ensures { result ≡ nat_lt (bound kind.Address) (amount records.now kind.Address) }
-{
-    is_heavier(records.ports().weights().0, Kind::Address)
-}
-
-fn is_security_over(records: &Records) -> bool
-    ensures { result ≡ nat_lt (bound kind.Security) (amount records.now kind.Security) }
-{
-    is_heavier(records.ports().weights().1, Kind::Security)
-}
-
-fn is_set_over(records: &Records) -> bool
-    ensures { result ≡ nat_lt (bound kind.Set) (amount records.now kind.Set) }
-{
-    let count = records
-        .sets()
-        .count()
-        .saturating_add(records.groups().count());
-    is_more(count, Kind::Set)
-}
-
-fn is_member_over(records: &Records) -> bool
-    ensures { result ≡ nat_lt (bound kind.Member) (amount records.now kind.Member) }
-{
-    let sets = records.sets().weights().0;
-    let members = sets.saturating_add(records.groups().weights().0);
-    is_heavier(members, Kind::Member)
 }

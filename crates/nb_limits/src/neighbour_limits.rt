@@ -1,28 +1,19 @@
-//! Whether router ports know more neighbours than they may (not from OVN).
+//! How many neighbours router ports know (not from OVN).
 ghost use Rattle.std.specs.Prelude.{◌≡◌, ◌+◌, ◌&&◌, not, nat_lt, Some, if◌then◌else◌};
 ghost use Rattle.std.specs.Option.{option_copied};
 ghost use Rattle.nb_limits.specs.Limitless.{IsSoundButLimits};
-ghost use Rattle.nb_limits.specs.Within.{up_to};
+ghost use Rattle.nb_limits.specs.inner.Within.{up_to};
 ghost use Rattle.nb_limits.specs.inner.Across.{is_across};
 ghost use Rattle.nb_core.specs.declared.refusal.Kind.TheVariants as kind;
-ghost use Rattle.nb_net.specs.Amounts.{amount, bound, total, ip_count, net_count, pair_count, neighbours_across};
+ghost use Rattle.nb_net.specs.Amounts.{amount, total, ip_count, net_count, pair_count, neighbours_across};
 ghost use Rattle.nb_net.specs.Belongs.{peer_port};
 ghost use Rattle.nb_table.specs.Table.{NumbersRise, record_of};
 
-use crate::bounds::bound;
 use crate::within::add;
-use nb_core::{Addr, Kind, Port, PortKind, RouterPort};
+use nb_core::{Addr, Port, PortKind, RouterPort};
 use nb_tables::Records;
 
-/// Whether router ports know more neighbours across their peers than they may.
-pub(crate) fn is_neighbour_over(records: &Records) -> bool
-    requires limitless { IsSoundButLimits records.now }
-    ensures { result ≡ nat_lt (bound kind.Neighbour) (amount records.now kind.Neighbour) }
-{
-    neighbours(records, u64::from(bound(Kind::Neighbour))).is_none()
-}
-
-/// How many they know, where they are within the bound.
+/// How many neighbours router ports know across their peers, where they are within the bound.
 pub(crate) fn neighbours(records: &Records, bound: u64) -> Option<u64>
     requires limitless { IsSoundButLimits records.now }
     ensures { result ≡ up_to bound (amount records.now kind.Neighbour) }

@@ -1,6 +1,32 @@
-//! Sums that stop where they are over a bound.
+//! Amounts that are within a bound (not from OVN).
 ghost use Rattle.std.specs.Prelude.{◌≡◌, ◌+◌, ◌*◌};
-ghost use Rattle.nb_limits.specs.Within.{up_to};
+ghost use Rattle.nb_limits.specs.inner.Within.{up_to};
+ghost use Rattle.nb_net.specs.Amounts.{bound};
+
+use crate::bounds::bound;
+use nb_core::Kind;
+
+/// So many of a kind, where they are within its bound.
+pub(crate) fn count_within(count: u64, kind: Kind) -> Option<u64>
+    ensures { result ≡ up_to (bound kind) count }
+{
+    if count > u64::from(bound(kind)) {
+        None
+    } else {
+        Some(count)
+    }
+}
+
+/// The same of a weight.
+pub(crate) fn weight_within(weight: u128, kind: Kind) -> Option<u64>
+    ensures { result ≡ up_to (bound kind) weight }
+{
+    if weight > u128::from(bound(kind)) {
+        None
+    } else {
+        Some(weight as u64)
+    }
+}
 
 /// The sum of two amounts, where it is within the bound.
 pub(crate) fn add(sum: u64, more: u64, bound: u64) -> Option<u64>

@@ -7,7 +7,7 @@ use Rattle.nb_net.specs.Amounts.{total}
 use Rattle.nb_net.specs.Belongs.{switches_of_acl}
 use Rattle.nb_net.specs.Network.{Network, same}
 use Rattle.nb_table.specs.Table.{record_of}
-use Rattle.nb_limits.specs.GroupSwitches.{switch_count}
+use Rattle.nb_limits.specs.inner.GroupSwitches.{switch_count}
 use Rattle.nb_limits.specs.declared.acl_limits.Measure.{Measure}
 use Rattle.nb_limits.specs.declared.acl_limits.Measure.TheVariants.{Count, Text}
 

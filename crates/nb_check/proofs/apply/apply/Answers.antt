@@ -6,11 +6,7 @@ use Rattle.nb_net.specs.Rises.{may_rise}
 use Rattle.nb_limits.specs.Ceilings.{AreCeilings}
 use Rattle.nb_limits.specs.Limitless.{IsSoundButLimits}
 use Rattle.nb_check.proofs.Edited.{sound_but_limits, few_limits, limits_decide, sound_after, test_refuses, limits_refuse}
-use Rattle.nb_limits.proofs.KnownAfter.{but_limits, known_holds}
 use Rattle.nb_check.proofs.apply.apply.Goals as goal
-
-pub after-requires : goal.after-requires
-after-requires c = record { limitless = but_limits c.args.records.now c.requires.sound }
 
 pub returns-in_err-edit-clause-refused : goal.returns-in_err-edit-clause-refused
 returns-in_err-edit-clause-refused c =
@@ -23,7 +19,7 @@ keep-requires c =
     record {
       limitless = subst IsSoundButLimits (sym done) (sound_but_limits c.args.records.now c.args.edit c.requires.sound c.requires.readable c.requires.room c.in_ok-edit.ensures.ok.1);
       known = subst (λ net. AreCeilings net c.in_ok-after.after) (sym c.in_ok-done.ensures.ok)
-          (subst (AreCeilings (effect c.args.records.now c.in_ok-edit.edit)) (sym c.in_ok-after.ensures) (known_holds c.args.records.now c.args.known.now c.in_ok-edit.edit c.requires.sound c.requires.known));
+          c.in_ok-after.ensures;
     }
 
 pub returns-clause-accepted : goal.returns-clause-accepted

@@ -2,7 +2,7 @@ use Rattle.std.proofs.Common.{ap, ◌∙◌}
 use Rattle.std.proofs.lemmas.Result.{IfOk-weaker}
 use Rattle.nb_limits.specs.declared.acl_limits.Measure.TheVariants.{Count}
 use Rattle.nb_limits.specs.inner.Weights.{acl_weight}
-use Rattle.nb_limits.specs.Within.{up_to}
+use Rattle.nb_limits.specs.inner.Within.{up_to}
 use Rattle.nb_limits.proofs.AclSums.{count_weight}
 use Rattle.nb_limits.proofs.acl_limits.acl_switches.Goals as goal
 

@@ -1,5 +1,5 @@
 use Rattle.std.proofs.Common.{sym, ap, ◌∙◌}
-use Rattle.nb_limits.specs.Within.{up_to}
+use Rattle.nb_limits.specs.inner.Within.{up_to}
 use Rattle.nb_limits.proofs.AclSums.{by_owner}
 use Rattle.nb_limits.proofs.Sums.{first_over, second_over, both_told}
 use Rattle.nb_limits.proofs.acl_limits.acl_weight.Goals as goal

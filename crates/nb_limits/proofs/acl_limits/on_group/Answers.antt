@@ -4,7 +4,7 @@ use Rattle.std.specs.Prelude.{is_some}
 use Rattle.nb_core.specs.declared.acl.Acl.{Acl}
 use Rattle.nb_net.specs.Network.{same}
 use Rattle.nb_tables.proofs.PlacedRecords.{rises}
-use Rattle.nb_limits.specs.GroupSwitches.{switch_count}
+use Rattle.nb_limits.specs.inner.GroupSwitches.{switch_count}
 use Rattle.nb_limits.specs.inner.Weights.{weight}
 use Rattle.nb_limits.proofs.Rest.{next_rest, no_rest}
 use Rattle.nb_limits.proofs.Sums.{fewer, sum_goes_on, sum_over, sum_ends, sum_begins}

@@ -5,7 +5,7 @@ use Rattle.nb_core.specs.declared.switch.Switch.{Switch}
 use Rattle.nb_net.specs.Amounts.{total}
 use Rattle.nb_tables.proofs.PlacedRecords.{rises}
 use Rattle.nb_limits.specs.inner.Attached.{attached_vips}
-use Rattle.nb_limits.specs.Within.{up_to}
+use Rattle.nb_limits.specs.inner.Within.{up_to}
 use Rattle.nb_limits.proofs.Attached.{all_attached}
 use Rattle.nb_limits.proofs.Rest.{next_left, none_left, first_left}
 use Rattle.nb_limits.proofs.Sums.{fewer, told, sum_begins, sum_goes_on, sum_over, part_over, sum_ends}

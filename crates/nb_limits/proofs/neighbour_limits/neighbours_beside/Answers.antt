@@ -4,7 +4,7 @@ use Rattle.nb_net.specs.Network.{same}
 use Rattle.nb_table.specs.Table.{is_after}
 use Rattle.nb_tables.proofs.PlacedRecords.{rises}
 use Rattle.nb_tables.proofs.Peering.{found_is_record}
-use Rattle.nb_limits.specs.Within.{up_to}
+use Rattle.nb_limits.specs.inner.Within.{up_to}
 use Rattle.nb_limits.proofs.Neighbours.{pairs_at, all_beside}
 use Rattle.nb_limits.proofs.Rest.{next_rest, no_rest}
 use Rattle.nb_limits.proofs.Sums.{fewer, told, sum_begins, sum_goes_on, sum_over, part_over, sum_ends}

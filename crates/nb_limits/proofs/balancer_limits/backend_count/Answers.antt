@@ -4,7 +4,7 @@ use Rattle.nb_net.specs.Amounts.{greatest}
 use Rattle.nb_limits.proofs.Greatest.{greater, most_begins, most_goes_on, most_ends}
 use Rattle.nb_limits.proofs.Rest.{next_left, none_left, first_left}
 use Rattle.nb_limits.proofs.Sums.{fewer}
-use Rattle.nb_limits.proofs.amounts.backend_count.Goals as goal
+use Rattle.nb_limits.proofs.balancer_limits.backend_count.Goals as goal
 
 pub loop-after-smaller : goal.loop-after-smaller
 loop-after-smaller c = fewer _ _ c.in-Some.lb.now (next_left (λ (lb : Lb). lb.id) c.loop-after.after c.args.records.now.lbs c.in-Some.lb.now c.lbs.result.now c.lbs.ensures c.in-Some.ensures.rise c.in-Some.ensures.record)

@@ -2,7 +2,7 @@ use Rattle.std.proofs.Common.{◌≡◌, max, length, true}
 use Rattle.nb_core.specs.declared.balancer.Lb.{Lb}
 use Rattle.nb_net.specs.Amounts.{greatest}
 use Rattle.nb_limits.proofs.Rest.{rest}
-use Rattle.nb_limits.proofs.amounts.backend_count.Given as goal
+use Rattle.nb_limits.proofs.balancer_limits.backend_count.Given as goal
 
 -- the most so far, with those that are left
 abbrev pub invariant-loop-after : goal.invariant-loop-after

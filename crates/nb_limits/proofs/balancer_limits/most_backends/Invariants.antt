@@ -1,6 +1,6 @@
 use Rattle.std.proofs.Common.{◌≡◌, max, length, drop}
 use Rattle.nb_net.specs.Amounts.{greatest}
-use Rattle.nb_limits.proofs.amounts.most_backends.Given as goal
+use Rattle.nb_limits.proofs.balancer_limits.most_backends.Given as goal
 
 -- the most so far, with those that are left
 abbrev pub invariant-loop-vip : goal.invariant-loop-vip

@@ -1,0 +1,10 @@
+use Rattle.std.proofs.Common.{ap, ◌∙◌}
+use Rattle.std.specs.Prelude.{sum_by}
+use Rattle.nb_core.specs.Tags.{port_weight}
+use Rattle.nb_limits.specs.inner.Within.{up_to}
+use Rattle.nb_limits.proofs.Clipped.{addresses_up_to}
+use Rattle.nb_limits.proofs.amounts.addresses.Goals as goal
+
+pub returns : goal.returns
+returns c =
+    c.weight_within.ensures ∙ ap (up_to 32768) (c.weights.ensures.first ∙ ap (sum_by (λ port. (port_weight port).0)) c.ports.ensures) ∙ addresses_up_to c.args.records.now.ports

@@ -1,5 +1,5 @@
 -- What the tests of an edit leave.
-use Rattle.std.specs.Prelude.{◌≡◌, Option, None, Result}
+use Rattle.std.specs.Prelude.{◌≡◌, None, Result}
 use Rattle.nb_core.specs.declared.edit.Edit.{Edit}
 use Rattle.nb_core.specs.declared.refusal.Refusal.{Refusal}
 use Rattle.nb_net.specs.Network.{Network}

@@ -1,3 +1,4 @@
+ghost use Rattle.std.specs.Prelude.{◌≡◌};
 ghost use Rattle.nv_reply.specs.declared.stop.Stop.TheVariants.{ReadFault, WriteFault, OutOfMemory};
 
 use nv_io::{SinkFailed, SourceFailed};

@@ -13,6 +13,6 @@ converse-requires-clause-next g c = rw (c.new-server.ensures.session, c.new-serv
 
 pub returns : goal.returns
 returns g c = λ words few hops.
-    rw c.status.ensures
+    rw c.of.ensures
     (stopped g.S.Source.take_gives g.S.Source.state g.K.Sink.put_gives g.K.Sink.state words c.args.source.now c.args.sink.now c.converse.new.source c.converse.new.sink _ c.in-Err.stop
     (c.new-server.ensures.session ∙ ap new_session hops) few c.in-Err.ensures.stopped)

@@ -1,5 +1,5 @@
 -- How a line more, or the rest of a piece, goes on with what was run of it.
-use Rattle.std.proofs.Common.{◌≡◌, ℕ, ◌+◌, Bool, ◌||◌, List, [], ◌∷◌, ◌++◌, Result, refl, sym, ap, ◌∙◌, subst, append_assoc}
+use Rattle.std.proofs.Common.{◌≡◌, ℕ, Bool, ◌||◌, List, [], ◌∷◌, ◌++◌, Result, refl, sym, ap, ◌∙◌, subst, append_assoc}
 use Rattle.std.proofs.lemmas.List.{append-nil}
 use Rattle.nv_io.specs.State.{SinkState}
 use Rattle.nv_io.specs.declared.sink.SinkFailed.{SinkFailed}

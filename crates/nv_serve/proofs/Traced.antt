@@ -8,7 +8,6 @@ use Rattle.nb_cmds.specs.Lines.{read_line}
 use Rattle.nb_cmds.specs.declared.line.Line.TheVariants.{Query}
 use Rattle.nb_cmds.specs.declared.query.Query.TheVariants.{Trace}
 use Rattle.nb_cmds.proofs.QueryWords.{query_well_read}
-use Rattle.net_meaning.specs.Walk as walk
 use Rattle.net_meaning.specs.Walk.{Told, events}
 use Rattle.net_meaning.specs.Walk.Told.{Note, Happens}
 use Rattle.net_meaning.specs.declared.event.PlainEvent.{PlainEvent}

@@ -115,8 +115,12 @@ fn answer_lines<S: Source, K: Sink>(alloc: Global, hops: u8, source: &mut S, sin
         (record { first = opened words; source = source.new; sink = sink.new; given = given; written = written }) result) }
 {
     let mut server = Server::new(alloc, hops);
-    match converse(alloc, &mut server, source, sink) {
-        Ok(()) if server.some_refused => Status::SomeRefused,
+    let conversed = converse(alloc, &mut server, source, sink);
+    let some_refused = server.some_refused;
+    // A call: at the end of the scope the drop of each field would be proved anew on each way out.
+    drop(server);
+    match conversed {
+        Ok(()) if some_refused => Status::SomeRefused,
         Ok(()) => Status::Done,
         Err(stop) => Status::of(&stop),
     }

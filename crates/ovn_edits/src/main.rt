@@ -11,6 +11,8 @@ mod room;
 
 use answer::put_answer;
 use nb_check::Tables;
+use nv_base::OutOfMemory;
+use std::alloc::Global;
 use std::io::{self, ErrorKind, Read, Write};
 
 fn main(rt: HostRuntime) -> io::Result<()> {
@@ -19,8 +21,22 @@ fn main(rt: HostRuntime) -> io::Result<()> {
     rt.stdin().read_to_end(&mut input)?;
     let mut output = Vec::new(alloc);
     let mut tables = Tables::new();
-    for line in input.as_slice().split(|byte| *byte == b'\n') {
-        put_answer(alloc, &mut tables, &mut output, line).map_err(|_| ErrorKind::OutOfMemory)?;
-    }
+    let answered = put_answers(alloc, &mut tables, &mut output, &input);
+    // A call: at the end of the scope the drop of each field would be proved anew on each way out.
+    drop(tables);
+    answered.map_err(|_| ErrorKind::OutOfMemory)?;
     rt.stdout().write_all(&output)
+}
+
+// Puts the answer to each line.
+fn put_answers(
+    alloc: Global,
+    tables: &mut Tables,
+    output: &mut Vec<u8>,
+    script: &[u8],
+) -> Result<(), OutOfMemory> {
+    for line in script.split(|byte| *byte == b'\n') {
+        put_answer(alloc, tables, output, line)?;
+    }
+    Ok(())
 }

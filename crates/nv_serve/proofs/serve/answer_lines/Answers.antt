@@ -5,14 +5,14 @@ use Rattle.nv_reply.specs.Session.{new_session}
 use Rattle.nv_serve.proofs.serve.answer_lines.Goals as goal
 
 -- before the first line
-pub converse-requires-clause-first : goal.converse-requires-clause-first
-converse-requires-clause-first g c = rw (c.new-server.ensures.session, c.new-server.ensures.line, c.new-server.ensures.refused) (kept_first (new_session c.args.hops))
+pub converse-conversed-requires-clause-first : goal.converse-conversed-requires-clause-first
+converse-conversed-requires-clause-first g c = rw (c.new-server.ensures.session, c.new-server.ensures.line, c.new-server.ensures.refused) (kept_first (new_session c.args.hops))
 
-pub converse-requires-clause-next : goal.converse-requires-clause-next
-converse-requires-clause-next g c = rw (c.new-server.ensures.session, c.new-server.ensures.line) refl
+pub converse-conversed-requires-clause-next : goal.converse-conversed-requires-clause-next
+converse-conversed-requires-clause-next g c = rw (c.new-server.ensures.session, c.new-server.ensures.line) refl
 
-pub returns : goal.returns
-returns g c = λ words few hops.
+pub returns-in-Err : goal.returns-in-Err
+returns-in-Err g c = λ words few hops.
     rw c.of.ensures
-    (stopped g.S.Source.take_gives g.S.Source.state g.K.Sink.put_gives g.K.Sink.state words c.args.source.now c.args.sink.now c.converse.new.source c.converse.new.sink _ c.in-Err.stop
+    (stopped g.S.Source.take_gives g.S.Source.state g.K.Sink.put_gives g.K.Sink.state words c.args.source.now c.args.sink.now c.converse-conversed.new.source c.converse-conversed.new.sink _ c.in-Err.stop
     (c.new-server.ensures.session ∙ ap new_session hops) few c.in-Err.ensures.stopped)

@@ -287,6 +287,16 @@ fn to_port(last: u8, port: &'static str) -> Plain {
     )
 }
 
+// Whether the row was there to be taken.
+fn is_taken(rows: &mut Rows, plain: Plain, alloc: Global, rt: &impl Abort) -> bool {
+    rows.take(&row_of(plain, alloc, rt))
+}
+
+// Whether the row is there.
+fn is_there(rows: &Rows, plain: Plain, alloc: Global, rt: &impl Abort) -> bool {
+    rows.contains(&row_of(plain, alloc, rt))
+}
+
 #[test]
 fn a_row_that_is_taken_is_gone(rt: HostRuntime) {
     let mut rows = Rows::new(rt.alloc());
@@ -295,22 +305,32 @@ fn a_row_that_is_taken_is_gone(rt: HostRuntime) {
         put_new(&mut rows, to_port(last, "a"), rt.alloc(), &rt);
     }
     for (last, port, expected) in [(2, "b", false), (2, "a", true), (2, "a", false)] {
-        let row = row_of(to_port(last, port), rt.alloc(), &rt);
-        assert_eq!(rt; rows.take(&row), expected, "out by {port}");
+        assert_eq!(rt;
+            is_taken(&mut rows, to_port(last, port), rt.alloc(), &rt),
+            expected,
+            "out by {port}"
+        );
     }
     assert_eq!(rt; rows.len(), 2);
     for last in [1, 3] {
-        assert!(rt; rows.contains(&row_of(to_port(last, "a"), rt.alloc(), &rt)));
+        assert!(rt; is_there(&rows, to_port(last, "a"), rt.alloc(), &rt));
     }
+    drop(rows);
+}
+
+// Whether the copy of a row is equal to another one.
+fn is_copied_as(plain: Plain, other: Plain, alloc: Global, rt: &impl Abort) -> bool {
+    let copied = row_of(plain, alloc, rt).copy(alloc).expect(rt, "memory");
+    copied == row_of(other, alloc, rt)
 }
 
 #[test]
 fn a_copied_row_is_equal(rt: HostRuntime) {
     for (last, port, expected) in [(7, "vm-1", true), (7, "vm-2", false), (8, "vm-1", false)] {
-        let here = row_of(to_port(7, "vm-1"), rt.alloc(), &rt);
-        let copied = here.copy(rt.alloc()).expect(&rt, "memory");
-        assert!(rt; copied == here);
-        let other = row_of(to_port(last, port), rt.alloc(), &rt);
-        assert_eq!(rt; copied == other, expected);
+        let other = to_port(last, port);
+        assert_eq!(rt;
+            is_copied_as(to_port(7, "vm-1"), other, rt.alloc(), &rt),
+            expected
+        );
     }
 }

@@ -18,7 +18,7 @@ use Rattle.nb_net.proofs.Numbered.{are_used}
 use Rattle.nb_net.proofs.RecordLists.{found_holds}
 use Rattle.nb_table.specs.Table.{with_exchanged}
 use Rattle.nb_tables.proofs.PlacedRecords.{named_changed, new_last, none_changed, apart_first, rises}
-use Rattle.nb_change.proofs.NewRecords.{apart_last}
+use Rattle.nb_removal.proofs.Goes.{apart_last}
 
 -- where each is detached, none is left
 pub all_detached : (net : Network) (numbers : List ObjId) → [] ≡ without (is_detached net None) numbers

@@ -11,9 +11,9 @@ use Rattle.nb_net.specs.Belongs.{is_number}
 use Rattle.nb_net.specs.Effect.{effect, without, without_ports}
 use Rattle.nb_net.specs.Network.{Network, port_id, port_named, switch_id}
 use Rattle.nb_net.specs.Sound.{IsSound}
-use Rattle.nb_change.specs.inner.Leaving.{without_switch}
+use Rattle.nb_removal.specs.Leaving.{without_switch}
 use Rattle.nb_tables.proofs.PlacedRecords.{rises, apart_first}
-use Rattle.nb_change.proofs.Removed.{less_port, named_gone, none_gone, all_stay}
+use Rattle.nb_removal.proofs.Removed.{less_port, named_gone, none_gone, all_stay}
 
 module _ (net : Network) (sound : IsSound net) where
   -- the port of a name

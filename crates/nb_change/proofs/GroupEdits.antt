@@ -15,7 +15,7 @@ use Rattle.nb_net.proofs.Numbered.{are_used}
 use Rattle.nb_net.proofs.RecordLists.{found_holds}
 use Rattle.nb_table.specs.Table.{with_exchanged, without_number}
 use Rattle.nb_tables.proofs.PlacedRecords.{new_last, named_changed, none_changed, rises}
-use Rattle.nb_change.proofs.NewRecords.{none_goes}
+use Rattle.nb_removal.proofs.Goes.{none_goes}
 
 module _ (net : Network) (sound : IsSound net) where
   abbrev with_groups : List Group → Network

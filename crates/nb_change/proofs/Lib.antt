@@ -1,16 +1,9 @@
 pub mod AclEdits
-pub mod AclsThatGo
 pub mod Added
 pub mod BalancerEdits
-pub mod BalancerRemovals
 pub mod Deleted
 pub mod GroupEdits
-pub mod ListedNumbers
-pub mod NatsFor
 pub mod NewRecords
-pub mod OneByOne
-pub mod Removed
+pub mod Once
 pub mod RouterEdits
-pub mod RouterRemovals
-pub mod RoutesFor
 pub mod SetEdits

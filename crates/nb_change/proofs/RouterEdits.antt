@@ -24,7 +24,8 @@ use Rattle.nb_net.proofs.Alike.{same_names}
 use Rattle.nb_net.proofs.RecordLists.{found_holds}
 use Rattle.nb_table.specs.Table.{with_exchanged, without_number, NumbersRise}
 use Rattle.nb_tables.proofs.PlacedRecords.{named_changed, none_changed, none_without, rises}
-use Rattle.nb_change.proofs.NewRecords.{new_router, new_router_port, new_route, new_nat, new_binding, alone_goes, none_goes, apart_last}
+use Rattle.nb_removal.proofs.Goes.{alone_goes, none_goes, apart_last}
+use Rattle.nb_change.proofs.NewRecords.{new_router, new_router_port, new_route, new_nat, new_binding}
 
 module _ (net : Network) (sound : IsSound net) where
   abbrev with_routers : List Router → Network

@@ -16,7 +16,7 @@ use Rattle.nb_net.proofs.Numbered.{are_used}
 use Rattle.nb_net.proofs.RecordLists.{found_holds}
 use Rattle.nb_table.specs.Table.{with_exchanged, without_number, NumbersRise}
 use Rattle.nb_tables.proofs.PlacedRecords.{new_last, named_changed, named_once, none_changed, none_without, placed, rises}
-use Rattle.nb_change.proofs.NewRecords.{passing_goes, without_both}
+use Rattle.nb_removal.proofs.Goes.{passing_goes, without_both}
 
 -- of records whose names are apart, that of a name goes alone
 named_goes : {R : Type 0} (number : R → ObjId) (name_of : R → List ℕ) (name : List ℕ) (x : R) (rs : List R) → find (λ r. bytes_eq (name_of r) name) rs ≡ Some x → NumbersRise number rs

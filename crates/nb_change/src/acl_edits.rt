@@ -6,10 +6,9 @@ ghost use Rattle.nb_net.specs.Readable.{MayBeRule};
 ghost use Rattle.nb_net.specs.Sound.{IsSound};
 ghost use Rattle.nb_tables.specs.Undo.{back_steps};
 
-use crate::acl_removals::{remove_acl_like, remove_acls_of_way};
-use crate::acls::remove_acls;
 use expr_core::Typed;
 use nb_core::{OwnerKind, Way};
+use nb_removal::{remove_acl_like, remove_acls, remove_acls_of_way};
 use nb_tables::Work;
 use nv_base::{Name, OutOfMemory};
 

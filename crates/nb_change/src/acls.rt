@@ -3,16 +3,14 @@ ghost use Rattle.std.specs.Prelude.{◌≡◌, OnOk};
 ghost use Rattle.expr_check.specs.Printed.{IsPrintable};
 ghost use Rattle.nb_core.specs.declared.edit.Edit.TheVariants as edit;
 ghost use Rattle.nb_read.specs.Readings.{role_of};
-ghost use Rattle.nb_net.specs.Effect.{effect, without};
-ghost use Rattle.nb_net.specs.Network.{same};
+ghost use Rattle.nb_net.specs.Effect.{effect};
 ghost use Rattle.nb_net.specs.Sound.{IsSound};
-ghost use Rattle.nb_table.specs.Table.{NumbersRise};
 ghost use Rattle.nb_tables.specs.Undo.{back_steps};
 
 use expr_core::Typed;
 use nb_core::{Acl, OwnerKind, Verdict, Way};
-use nb_tables::{Place, Work};
-use nv_base::{Name, ObjId, OutOfMemory};
+use nb_tables::Work;
+use nv_base::{Name, OutOfMemory};
 use std::alloc::Global;
 
 /// `acl-add`
@@ -51,17 +49,4 @@ pub(crate) fn acl_add(
             verdict,
         },
     )
-}
-
-/// Removes the ACLs of a switch or a group.
-pub(crate) fn remove_acls(work: &mut Work, owner: ObjId) -> Result<(), OutOfMemory>
-    requires rise { NumbersRise (λ x. x.id) work.old.records.acls }
-    ensures ok { OnOk result (work.new.records ≡ record work.old.records { acls = without (λ acl. same owner acl.owner) work.old.records.acls }) }
-    ensures back { back_steps work.new.steps.items work.new.records ≡ back_steps work.old.steps.items work.old.records }
-{
-    while let Some(acl) = work.records.acl_of(owner, None) {
-        let number = acl.id;
-        work.remove(Place::Acl(number))?;
-    }
-    Ok(())
 }

@@ -10,9 +10,8 @@ ghost use Rattle.nb_table.specs.Table.{with_exchanged};
 ghost use Rattle.nb_tables.specs.Undo.{back_steps};
 
 use crate::groups::is_among;
-use crate::lb_removals::{remove_lb_named, remove_vip};
-use crate::removals::others;
 use nb_core::{Backend, Frontend, Lb, Proto, Router, Switch, Vip};
+use nb_removal::{others, remove_lb_named, remove_vip};
 use nb_tables::{Records, Work};
 use nv_base::{Items, Kept, Name, ObjId, OutOfMemory};
 use std::alloc::Global;

@@ -6,8 +6,8 @@ ghost use Rattle.nb_net.specs.Belongs.{is_among};
 ghost use Rattle.nb_net.specs.Sound.{IsSound};
 ghost use Rattle.nb_tables.specs.Undo.{back_steps};
 
-use crate::acls::remove_acls;
 use nb_core::Group;
+use nb_removal::remove_acls;
 use nb_tables::{Place, Records, Work};
 use nv_base::{Items, Name, ObjId, OutOfMemory};
 use std::alloc::Global;

@@ -5,8 +5,8 @@ ghost use Rattle.nb_net.specs.Effect.{effect};
 ghost use Rattle.nb_net.specs.Sound.{IsSound};
 ghost use Rattle.nb_tables.specs.Undo.{back_steps};
 
-use crate::removals::remove_port;
 use nb_core::{Addr, Guard, Port, PortKind};
+use nb_removal::remove_port;
 use nb_tables::Work;
 use nv_base::{Items, Kept, Name, OutOfMemory};
 use std::alloc::Global;

@@ -5,8 +5,8 @@ ghost use Rattle.nb_net.specs.Effect.{effect};
 ghost use Rattle.nb_net.specs.Sound.{IsSound};
 ghost use Rattle.nb_tables.specs.Undo.{back_steps};
 
-use crate::router_removals::{remove_router, remove_router_port};
 use nb_core::{Router, RouterPort};
+use nb_removal::{remove_router, remove_router_port};
 use nb_tables::Work;
 use nv_base::{Items, Kept, Mac, Name, OutOfMemory, Prefix};
 use std::alloc::Global;

@@ -5,8 +5,8 @@ ghost use Rattle.nb_net.specs.Effect.{effect};
 ghost use Rattle.nb_net.specs.Sound.{IsSound};
 ghost use Rattle.nb_tables.specs.Undo.{back_steps};
 
-use crate::one_by_one::{remove_nats_for, remove_routes_for};
 use nb_core::{Binding, Nat, NatKind, Route, RouteBy};
+use nb_removal::{remove_nats_for, remove_routes_for};
 use nb_tables::{Place, Work};
 use nv_base::{Ip4, Mac, Name, OutOfMemory, Prefix};
 use std::alloc::Global;

@@ -1,3 +1,2 @@
-pub mod Alike
 pub mod Members
-pub mod There
+pub mod Vips

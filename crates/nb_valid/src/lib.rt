@@ -8,6 +8,5 @@ mod tests_datapaths;
 mod tests_ports;
 mod tests_routes;
 mod tests_sets;
-mod wants;
 
 pub use test::tested;

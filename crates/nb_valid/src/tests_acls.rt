@@ -1,33 +1,17 @@
 //! The tests of the edits of ACLs.
-ghost use Rattle.std.specs.Prelude.{◌≡◌, IfOk, IfErr};
+ghost use Rattle.std.specs.Prelude.{IfOk, IfErr};
 ghost use Rattle.expr_check.specs.Printed.{IsPrintable};
 ghost use Rattle.nb_core.specs.declared.edit.Edit.TheVariants as edit;
 ghost use Rattle.nb_read.specs.Readings.{role_of};
 ghost use Rattle.nb_net.specs.Sound.{IsSound};
-ghost use Rattle.nb_net.specs.Tests.{acl_number};
 ghost use Rattle.nb_valid.specs.Tested.{Passes};
 ghost use Rattle.nb_valid.specs.inner.Refused.{Refuses};
 
-use crate::wants::{duplicate_if, wants_owner};
 use expr_core::Typed;
 use nb_core::{Edit, OwnerKind, Refusal, Verdict, Way};
+use nb_lookup::{acl_number, duplicate_if, wants_owner};
 use nb_tables::Records;
-use nv_base::{Name, ObjId};
-
-// The number of the ACL that a new one would repeat.
-fn acl_number(
-    records: &Records,
-    owner: Option<ObjId>,
-    way: Way,
-    priority: u16,
-    matching: &Typed,
-) -> Option<ObjId>
-    requires sound { IsSound records.now }
-    requires printed { IsPrintable (role_of way) matching.now }
-    ensures { result ≡ acl_number records.now owner way (priority, matching.now) }
-{
-    records.acl_like(owner?, way, priority, matching)
-}
+use nv_base::Name;
 
 /// `acl-add`: the owner is there, and has no ACL like it, or may have.
 pub(crate) fn test_acl_add(

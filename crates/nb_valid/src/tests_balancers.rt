@@ -1,137 +1,16 @@
 //! The tests of the edits of load balancers.
-ghost use Rattle.std.specs.Prelude.{◌≡◌, IfOk, IfErr, None, Some, if◌then◌else◌};
-ghost use Rattle.std.specs.List.{list_any};
+ghost use Rattle.std.specs.Prelude.{IfOk, IfErr, None, Some};
 ghost use Rattle.nb_core.specs.declared.edit.Edit.TheVariants as edit;
-ghost use Rattle.nb_core.specs.declared.refusal.Refusal.TheVariants.{WrongKind};
-ghost use Rattle.nb_net.specs.Belongs.{is_among, same_frontend};
-ghost use Rattle.nb_net.specs.Network.{lb_named, lb_id};
-ghost use Rattle.nb_net.specs.Tests.{other_protocol, wants_protocol, has_vip, is_attached, switch_lbs, router_lbs, wants_attached};
 ghost use Rattle.nb_valid.specs.Tested.{Passes};
 ghost use Rattle.nb_valid.specs.inner.Refused.{Refuses};
 
-use crate::wants::{duplicate_if, may_want_lb, wants_lb, wants_router, wants_switch, with_some};
-use nb_core::{Backend, Edit, Frontend, Lb, Proto, Refusal, Vip};
+use nb_core::{Backend, Edit, Frontend, Proto, Refusal};
+use nb_lookup::{
+    duplicate_if, has_vip, is_on_router, is_on_switch, may_want_lb, wants_lb, wants_on_router,
+    wants_on_switch, wants_protocol, wants_router, wants_switch, with_some,
+};
 use nb_tables::Records;
-use nv_base::{Items, Name, ObjId};
-
-// Whether the number is one of these.
-fn is_among(number: ObjId, numbers: &[ObjId]) -> bool
-    ensures { result ≡ is_among number numbers.now }
-{
-    numbers.iter().any(|other| number == *other)
-}
-
-// Whether one of these VIPs is at the address and port.
-fn has_frontend(at: Frontend, vips: &[Vip]) -> bool
-    ensures { result ≡ list_any (λ vip. same_frontend at vip.at) vips.now }
-{
-    vips.iter().any(|vip| at == vip.at)
-}
-
-// Whether the load balancer takes another protocol.
-fn other_protocol(proto: Option<Proto>, lb: &Lb) -> bool
-    ensures { result ≡ other_protocol proto lb.now }
-{
-    match (proto, lb.proto) {
-        (None, _) => false,
-        (Some(Proto::Tcp), Proto::Tcp) => false,
-        (Some(Proto::Udp), Proto::Udp) => false,
-        (Some(Proto::Tcp), Proto::Udp) => true,
-        (Some(Proto::Udp), Proto::Tcp) => true,
-    }
-}
-
-// Whether a load balancer has the name and takes another protocol.
-fn has_other_protocol(records: &Records, name: &Name, proto: Option<Proto>) -> bool
-    ensures { wants_protocol name.now proto (lb_named records.now name.now) ≡ (if result then Some (WrongKind name.now) else None) }
-{
-    match records.lb_named(name) {
-        None => false,
-        Some(lb) => other_protocol(proto, lb),
-    }
-}
-
-// The name, whose load balancer takes the protocol if it is there, else the refusal.
-fn wants_protocol(records: &Records, name: Name, proto: Option<Proto>) -> Result<Name, Refusal>
-    ensures ok { IfOk result (λ passed. (passed ≡ name) × (wants_protocol name proto (lb_named records.now name) ≡ None)) }
-    ensures refused { IfErr result (λ refusal. wants_protocol name proto (lb_named records.now name) ≡ Some refusal) }
-{
-    if has_other_protocol(records, &name, proto) {
-        Err(Refusal::WrongKind(name))
-    } else {
-        Ok(name)
-    }
-}
-
-// Whether the load balancer of this name has a VIP at the address and port.
-fn has_vip(records: &Records, at: Frontend, name: &Name) -> bool
-    ensures { result ≡ has_vip at (lb_named records.now name.now) }
-{
-    match records.lb_named(name) {
-        None => false,
-        Some(lb) => has_frontend(at, lb.vips.as_slice()),
-    }
-}
-
-// Whether the load balancer is attached to the switch.
-fn is_on_switch(records: &Records, lb: &Name, switch: &Name) -> bool
-    ensures { result ≡ is_attached (lb_id records.now lb.now) (switch_lbs records.now switch.now) }
-{
-    match (records.lb_id(lb), records.switch_named(switch)) {
-        (Some(lb), Some(switch)) => is_among(lb, switch.lbs.as_slice()),
-        (Some(_), None) => false,
-        (None, _) => false,
-    }
-}
-
-// Whether the load balancer is attached to the router.
-fn is_on_router(records: &Records, lb: &Name, router: &Name) -> bool
-    ensures { result ≡ is_attached (lb_id records.now lb.now) (router_lbs records.now router.now) }
-{
-    match (records.lb_id(lb), records.router_named(router)) {
-        (Some(lb), Some(router)) => is_among(lb, router.lbs.as_slice()),
-        (Some(_), None) => false,
-        (None, _) => false,
-    }
-}
-
-// The name that may be given, of a load balancer that is attached to the switch, else the refusal.
-fn wants_on_switch(
-    records: &Records,
-    lb: Option<Name>,
-    switch: &Name,
-    given: bool,
-) -> Result<Option<Name>, Refusal>
-    ensures ok { IfOk result (λ passed. (passed ≡ lb) × (wants_attached records.now lb given (switch_lbs records.now switch.now) ≡ None)) }
-    ensures refused { IfErr result (λ refusal. wants_attached records.now lb given (switch_lbs records.now switch.now) ≡ Some refusal) }
-{
-    match lb {
-        None => Ok(None),
-        Some(lb) => {
-            let there = is_on_switch(records, &lb, switch);
-            Ok(Some(with_some(lb, given, there)?))
-        }
-    }
-}
-
-// The name that may be given, of a load balancer that is attached to the router, else the refusal.
-fn wants_on_router(
-    records: &Records,
-    lb: Option<Name>,
-    router: &Name,
-    given: bool,
-) -> Result<Option<Name>, Refusal>
-    ensures ok { IfOk result (λ passed. (passed ≡ lb) × (wants_attached records.now lb given (router_lbs records.now router.now) ≡ None)) }
-    ensures refused { IfErr result (λ refusal. wants_attached records.now lb given (router_lbs records.now router.now) ≡ Some refusal) }
-{
-    match lb {
-        None => Ok(None),
-        Some(lb) => {
-            let there = is_on_router(records, &lb, router);
-            Ok(Some(with_some(lb, given, there)?))
-        }
-    }
-}
+use nv_base::{Items, Name};
 
 /// `lb-add`: a load balancer of the name takes the protocol, and has no such VIP.
 pub(crate) fn test_lb_add(

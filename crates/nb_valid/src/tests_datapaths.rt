@@ -4,8 +4,8 @@ ghost use Rattle.nb_core.specs.declared.edit.Edit.TheVariants as edit;
 ghost use Rattle.nb_valid.specs.Tested.{Passes};
 ghost use Rattle.nb_valid.specs.inner.Refused.{Refuses};
 
-use crate::wants::{free, is_datapath, is_router, is_switch, may_want_router, may_want_switch};
 use nb_core::{Edit, Refusal};
+use nb_lookup::{free, is_datapath, is_router, is_switch, may_want_router, may_want_switch};
 use nb_tables::Records;
 use nv_base::Name;
 

@@ -1,49 +1,16 @@
 //! The tests of the edits of the ports of switches.
-ghost use Rattle.std.specs.Prelude.{◌≡◌, IfOk, IfErr};
+ghost use Rattle.std.specs.Prelude.{IfOk, IfErr};
 ghost use Rattle.nb_core.specs.declared.edit.Edit.TheVariants as edit;
-ghost use Rattle.nb_net.specs.Belongs.{is_number};
-ghost use Rattle.nb_net.specs.Network.{switch_id, router_id, port_named, router_port_named};
-ghost use Rattle.nb_net.specs.Tests.{is_in_place};
 ghost use Rattle.nb_valid.specs.Tested.{Passes};
 ghost use Rattle.nb_valid.specs.inner.Refused.{Refuses};
 
-use crate::wants::{
-    free, is_any_port, may_want_port, may_want_router_port, wants_port, wants_router,
-    wants_router_port, wants_switch,
-};
 use nb_core::{Addr, Edit, Guard, PortKind, Refusal};
+use nb_lookup::{
+    free, is_any_port, is_port_in_place, is_router_port_in_place, may_want_port,
+    may_want_router_port, wants_port, wants_router, wants_router_port, wants_switch,
+};
 use nb_tables::Records;
-use nv_base::{Items, Mac, Name, ObjId, Prefix};
-
-// Whether the number is that of an object that is there.
-fn is_number(object: Option<ObjId>, number: ObjId) -> bool
-    ensures { result ≡ is_number object number }
-{
-    match object {
-        None => false,
-        Some(own) => own == number,
-    }
-}
-
-// Whether the port of this name is on the switch of that name, where it may be there.
-fn is_port_in_place(records: &Records, switch: &Name, port: &Name, may_exist: bool) -> bool
-    ensures { result ≡ is_in_place may_exist (λ own. is_number (switch_id records.now switch.now) own.switch) (port_named records.now port.now) }
-{
-    match records.port_named(port) {
-        None => false,
-        Some(port) => may_exist && is_number(records.switch_id(switch), port.switch),
-    }
-}
-
-// Whether the port of this name is on the router of that name, where it may be there.
-fn is_router_port_in_place(records: &Records, router: &Name, port: &Name, may_exist: bool) -> bool
-    ensures { result ≡ is_in_place may_exist (λ own. is_number (router_id records.now router.now) own.router) (router_port_named records.now port.now) }
-{
-    match records.router_port_named(port) {
-        None => false,
-        Some(port) => may_exist && is_number(records.router_id(router), port.router),
-    }
-}
+use nv_base::{Items, Mac, Name, Prefix};
 
 /// `lsp-add`: a switch has the name, and the port's is free, or that of a port there which may exist.
 pub(crate) fn test_lsp_add(

@@ -8,11 +8,11 @@ ghost use Rattle.nb_words.specs.Fault.{IsFaultOf};
 ghost use Rattle.nb_valid.specs.Tested.{tested, Passes};
 ghost use Rattle.nb_valid.specs.inner.Refused.{IsFaultFor, Refuses};
 
-use crate::wants::{
+use nb_core::{Edit, Member, Refusal};
+use nb_lookup::{
     free, is_group, is_port, is_set, may_want_group, may_want_set, wants_group, wants_port,
     wants_set,
 };
-use nb_core::{Edit, Member, Refusal};
 use nb_tables::Records;
 use nb_words::LineFault;
 use nv_base::{Items, Kept, Name};

@@ -3,7 +3,7 @@ use Rattle.std.proofs.lemmas.Result.{IfOk-weaker}
 use Rattle.nb_net.specs.Belongs.{is_number}
 use Rattle.nb_net.specs.Effect.{without}
 use Rattle.nb_net.specs.Network.{lb_id}
-use Rattle.nb_change.proofs.NewRecords.{none_goes}
+use Rattle.nb_removal.proofs.Goes.{none_goes}
 use Rattle.nb_change.proofs.balancers.without_named.Goals as goal
 
 pub returns-in-None : goal.returns-in-None

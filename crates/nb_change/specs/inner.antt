@@ -1,4 +1,0 @@
--- What private contracts, ghost members and proofs cite. No clause of a public call does, so a reader need not believe it.
-pub mod Balancers
-pub mod Leaving
-pub mod Routers

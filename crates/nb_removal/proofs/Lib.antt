@@ -1,0 +1,10 @@
+pub mod AclRemovals
+pub mod AclsThatGo
+pub mod BalancerRemovals
+pub mod Goes
+pub mod ListedNumbers
+pub mod NatsFor
+pub mod OneByOne
+pub mod Removed
+pub mod RouterRemovals
+pub mod RoutesFor

@@ -126,24 +126,3 @@ actions_more text left rest before more next so_far reads shorter pushed = go so
     go (suc m) le same (b ∷ bs) is =
         let step : actions (suc m) before (b ∷ bs) ≡ actions m (before ++ next ∷ []) rest = rw (ap another (sym is) ∙ reads) refl in
         (m, omega (arith, shorter, le), ap (λ ss. actions m ss rest) pushed ∙ sym step ∙ ap (actions (suc m) before) (sym is) ∙ same)
-
-pub actions_end : (text left : List ℕ) (before : List Action) → ActionsSoFar text before left → length left ≡ 0 → reading text ≡ Read before left
-actions_end text [] before so_far none = sym so_far.2
-actions_end text (b ∷ bs) before so_far none = absurd (omega (arith, none))
-
-pub actions_fail : (text left : List ℕ) (before : List Action) (stop other : Stop) → ActionsSoFar text before left → 0 < length left
-    → Reads {T = Action} (Err stop) (another left) → other ≡ stop → Reads {T = List Action} (Err other) (reading text)
-actions_fail text left before stop other so_far some reads same =
-    let P : Stop → Type 0 = λ s. Reads {T = List Action} (Err s) (reading text) in
-    subst P (sym same) (go stop reads)
-  where
-    stuck_at : (m n : ℕ) → length left ≤ n → actions n before left ≡ reading text → another left ≡ Stuck m → (xs : List ℕ) → left ≡ xs → reading text ≡ Stuck m
-    stuck_at m zero le total fails xs is = absurd (omega (arith, some, le))
-    stuck_at m (suc n) le total fails [] is = absurd (omega (arith, some, ap length is))
-    stuck_at m (suc n) le total fails (b ∷ bs) is =
-        let here : actions (suc n) before (b ∷ bs) ≡ Stuck m = rw (ap another (sym is) ∙ fails) refl in
-        sym total ∙ ap (actions (suc n) before) is ∙ here
-
-    go : (stop : Stop) → Reads {T = Action} (Err stop) (another left) → Reads {T = List Action} (Err stop) (reading text)
-    go (stop_of.Stuck m) reads = stuck_at m so_far.0 so_far.1 so_far.2 reads left refl
-    go stop_of.Memory reads = tt

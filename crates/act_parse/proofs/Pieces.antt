@@ -1,7 +1,7 @@
 -- Pieces in a row, with a byte between each two.
-use Rattle.std.proofs.Common.{◌≡◌, ℕ, suc, ◌+◌, ◌-◌, ◌*◌, ◌≤◌, Bool, true, false, ltb, leb, eqb, List, [], ◌∷◌, length, refl, arith, length-append}
+use Rattle.std.proofs.Common.{◌≡◌, ℕ, suc, ◌+◌, ◌-◌, ◌*◌, ◌≤◌, Bool, true, leb, eqb, List, [], ◌∷◌, length, refl, arith, length-append}
 use Rattle.std.specs.List.{list_all, join_with_byte}
-use Rattle.std.proofs.lemmas.Bool.{leb-true, eqb-true, false≢true, and_parts, and_from}
+use Rattle.std.proofs.lemmas.Bool.{leb-true, eqb-true, and_parts, and_from}
 use Rattle.std.proofs.lemmas.List.Folds.{list_all-append}
 
 -- a weaker test passes too
@@ -16,12 +16,6 @@ joined_all q c (p ∷ []) between all = (and_parts _ _ all).0
 joined_all q c (p ∷ r ∷ ps) between all =
     let parts = and_parts (list_all q p) (list_all (λ p. list_all q p) (r ∷ ps)) all in
     rw (list_all-append q p (c ∷ join_with_byte c (r ∷ ps))) (and_from _ _ parts.0 (and_from _ _ between (joined_all q c (r ∷ ps) between parts.1)))
-
-pub joined_first : (q : ℕ → Bool) (c b : ℕ) (bs : List ℕ) (parts : List (List ℕ)) → list_all (λ p. list_all q p) parts ≡ true → list_all (λ p. ltb 0 (length p)) parts ≡ true → join_with_byte c parts ≡ b ∷ bs → q b ≡ true
-joined_first q c b bs [] all some is = absurd cc
-joined_first q c b bs ([] ∷ ps) all some is = absurd (false≢true (and_parts false (list_all (λ p. ltb 0 (length p)) ps) some).0)
-joined_first q c b bs ((d ∷ ds) ∷ []) all some is = let same : d ≡ b = cc in rw (← same) (and_parts _ _ (and_parts (list_all q (d ∷ ds)) _ all).0).0
-joined_first q c b bs ((d ∷ ds) ∷ r ∷ ps) all some is = let same : d ≡ b = cc in rw (← same) (and_parts _ _ (and_parts (list_all q (d ∷ ds)) _ all).0).0
 
 pub joined_length_le : (m c : ℕ) (parts : List (List ℕ)) → list_all (λ p. leb (length p) m) parts ≡ true → length (join_with_byte c parts) ≤ length parts * (m + 1) - 1
 joined_length_le m c [] all = omega arith

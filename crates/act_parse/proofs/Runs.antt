@@ -1,17 +1,9 @@
 -- Bytes of one kind, as many as a text begins with.
-use Rattle.std.proofs.Common.{◌≡◌, ℕ, suc, ◌+◌, ◌<◌, ◌≤◌, Bool, true, false, List, [], ◌∷◌, length, take, cond, refl, arith}
+use Rattle.std.proofs.Common.{◌≡◌, ℕ, ◌<◌, ◌≤◌, Bool, false, List, length, take, arith}
 use Rattle.std.specs.List.{list_all, prefix_len}
 use Rattle.std.proofs.lemmas.List.{get_or-take, length-take-le}
 use Rattle.std.proofs.lemmas.List.Folds.{list_all_at}
 use Rattle.std.proofs.lemmas.List.Sums.{prefix_len_stops}
-
-pub run_passes : {X : Type 0} (p : X → Bool) (xs : List X) → list_all p (take (prefix_len p xs) xs) ≡ true
-run_passes p [] = refl
-run_passes {X} p (x ∷ xs) = go (p x) refl (run_passes p xs)
-  where
-    go : (b : Bool) → p x ≡ b → list_all p (take (prefix_len p xs) xs) ≡ true → list_all p (take (cond b (1 + prefix_len p xs) 0) (x ∷ xs)) ≡ true
-    go true e rest = let one : 1 + prefix_len p xs ≡ suc (prefix_len p xs) = omega arith in rw (one, e) rest
-    go false e rest = refl
 
 pub run_ends : {X : Type 0} (p : X → Bool) (xs : List X) (k : ℕ) (d : X) → prefix_len p xs < k → k ≤ length xs → list_all p (take k xs) ≡ false
 run_ends p xs k d past within =

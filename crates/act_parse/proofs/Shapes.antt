@@ -1,9 +1,9 @@
 -- What the spelling of a constant tells of its bytes and its length.
-use Rattle.std.proofs.Common.{◌≡◌, ℕ, suc, ◌<◌, ◌≤◌, Bool, true, false, ltb, leb, eqb, List, [], ◌∷◌, length, Option, Some, None, is_some, ◌||◌, ◌&&◌, refl, ap, subst, arith}
+use Rattle.std.proofs.Common.{◌≡◌, ℕ, ◌<◌, ◌≤◌, Bool, true, false, ltb, leb, eqb, List, [], ◌∷◌, length, Option, Some, None, is_some, ◌||◌, ◌&&◌, refl, ap, subst, arith}
 use Rattle.std.specs.Char.{is_digit}
 use Rattle.std.specs.List.{list_all, slice_split, join_with_byte}
 use Rattle.std.specs.Str.Parse.{digits_value}
-use Rattle.std.proofs.lemmas.Bool.{lt-ltb, ltb-true, leb-true, le-leb, eqb-true, and_parts, or_left, false≢true}
+use Rattle.std.proofs.lemmas.Bool.{lt-ltb, ltb-true, leb-true, le-leb, eqb-true, and_parts, or_left}
 use Rattle.std.proofs.lemmas.Option.{cond_some}
 use Rattle.std.proofs.lemmas.List.Splits.{join_with_byte-slice_split}
 use Rattle.nv_base.specs.Bytes.{octet_of, pair_of, number_of_parts}
@@ -14,7 +14,7 @@ use Rattle.nv_base.specs.Number.{digits_number, decimal_of, below, hexadecimal_o
 use Rattle.act_parse.specs.Token.{number_after_0x}
 use Rattle.act_parse.proofs.Choices.{none_from, guarded, mapped}
 use Rattle.act_parse.proofs.Decimals.{decimal_parts, decimal_length}
-use Rattle.act_parse.proofs.Pieces.{weaker, joined_all, joined_first, joined_length_le, joined_length_is}
+use Rattle.act_parse.proofs.Pieces.{weaker, joined_all, joined_length_le, joined_length_is}
 
 -- what the parts are that spell bytes
 pub split_parts : (byte : List ℕ → Option ℕ) (count c : ℕ) (text : List ℕ) (n : ℕ) → number_of_parts byte count (slice_split (λ b. eqb b c) text) ≡ Some n
@@ -34,13 +34,13 @@ below_parts limit (Some m) n e = let inner = cond_some (ltb m limit) m n e in (a
 digits_parts : (radix : ℕ) (text : List ℕ) (n : ℕ) → digits_number radix text ≡ Some n → list_all (λ c. is_digit c radix) text ≡ true
 digits_parts radix text n e = (and_parts _ _ (cond_some _ (digits_value radix text) n e).0).0
 
-pair_parts : (p : List ℕ) → is_some (pair_of p) ≡ true → (eqb (length p) 2 ≡ true) × (list_all (λ c. is_digit c 16) p ≡ true)
+pub pair_parts : (p : List ℕ) → is_some (pair_of p) ≡ true → (eqb (length p) 2 ≡ true) × (list_all (λ c. is_digit c 16) p ≡ true)
 pair_parts p e =
     let value = there (pair_of p) e in
     let outer = guarded (eqb (length p) 2) (digits_number 16 p) value.0 value.1 in
     (outer.0, digits_parts 16 p value.0 outer.1)
 
-octet_parts : (p : List ℕ) → is_some (octet_of p) ≡ true → (ltb 0 (length p) ≡ true) × (leb (length p) 3 ≡ true) × (list_all (λ c. is_digit c 10) p ≡ true)
+pub octet_parts : (p : List ℕ) → is_some (octet_of p) ≡ true → (ltb 0 (length p) ≡ true) × (leb (length p) 3 ≡ true) × (list_all (λ c. is_digit c 10) p ≡ true)
 octet_parts p e =
     let value = there (octet_of p) e in
     let decimal = below_parts 256 (decimal_of p) value.0 value.1 in
@@ -59,14 +59,6 @@ mac_digits text n e =
     subst (λ (xs : List ℕ). list_all (λ c. is_digit c 16 || eqb c 58) xs ≡ true) split.3
     (joined_all (λ c. is_digit c 16 || eqb c 58) 58 split.0 refl (weaker _ _ (λ p h. weaker _ _ (λ c d. or_left _ _ d) p (pair_parts p h).1) split.0 split.2))
 
-pub mac_first : (b : ℕ) (bs : List ℕ) (n : ℕ) → mac_of (b ∷ bs) ≡ Some n → is_digit b 16 ≡ true
-mac_first b bs n e =
-    let split = split_parts pair_of 6 58 (b ∷ bs) n e in
-    joined_first (λ c. is_digit c 16) 58 b bs split.0 (weaker _ _ (λ p h. (pair_parts p h).1) split.0 split.2) (weaker _ _ (λ p h. two_some (length p) (pair_parts p h).0) split.0 split.2) split.3
-  where
-    two_some : (n : ℕ) → eqb n 2 ≡ true → ltb 0 n ≡ true
-    two_some n e = lt-ltb 0 n (omega (arith, eqb-true n 2 e))
-
 pub ip4_number : (text : List ℕ) (a : Ip4) → ip4_of text ≡ Some a → (n : ℕ) × (number_of_parts octet_of 4 (slice_split (λ b. eqb b 46) text) ≡ Some n)
 ip4_number text a e = mapped address (number_of_parts octet_of 4 (slice_split (λ b. eqb b 46) text)) a e
 
@@ -83,12 +75,6 @@ ip4_digits text a e =
     let split = split_parts octet_of 4 46 text number.0 number.1 in
     subst (λ (xs : List ℕ). list_all (λ c. is_digit c 10 || eqb c 46) xs ≡ true) split.3
     (joined_all (λ c. is_digit c 10 || eqb c 46) 46 split.0 refl (weaker _ _ (λ p h. weaker _ _ (λ c d. or_left _ _ d) p (octet_parts p h).2) split.0 split.2))
-
-pub ip4_first : (b : ℕ) (bs : List ℕ) (a : Ip4) → ip4_of (b ∷ bs) ≡ Some a → is_digit b 10 ≡ true
-ip4_first b bs a e =
-    let number = ip4_number (b ∷ bs) a e in
-    let split = split_parts octet_of 4 46 (b ∷ bs) number.0 number.1 in
-    joined_first (λ c. is_digit c 10) 46 b bs split.0 (weaker _ _ (λ p h. (octet_parts p h).2) split.0 split.2) (weaker _ _ (λ p h. (octet_parts p h).0) split.0 split.2) split.3
 
 -- the digits after `0x`
 pub hexadecimal_parts : (text : List ℕ) (n : ℕ) → number_after_0x text ≡ Some n → (ds : List ℕ) × (text ≡ 48 ∷ 120 ∷ ds) × (length ds ≤ 32) × (list_all (λ c. is_digit c 16) ds ≡ true)
@@ -113,24 +99,3 @@ ip4_too_long text long = none_from (ip4_of text) (λ a e. omega (arith, long, ip
 
 pub mac_not_so_long : (text : List ℕ) → (length text ≡ 17 → ⊥) → mac_of text ≡ None
 mac_not_so_long text other = none_from (mac_of text) (λ n e. other (mac_length text n e))
-
--- a colon is after two bytes
-abbrev pub HasColon : List ℕ → Type 0
-HasColon (a ∷ b ∷ c ∷ cs) = eqb c 58 ≡ true
-HasColon _ = ⊥
-
-pub mac_third : (text : List ℕ) (n : ℕ) → mac_of text ≡ Some n → HasColon text
-mac_third text n e =
-    let split = split_parts pair_of 6 58 text n e in
-    subst HasColon split.3 (go split.0 (omega (arith, split.1)) (weaker _ _ (λ p h. (pair_parts p h).0) split.0 split.2))
-  where
-    go : (parts : List (List ℕ)) → 2 ≤ length parts → list_all (λ p. eqb (length p) 2) parts ≡ true → HasColon (join_with_byte 58 parts)
-    go [] two all = absurd (omega (arith, two))
-    go (p ∷ []) two all = absurd (omega (arith, two))
-    go ([] ∷ r ∷ ps) two all = absurd (false≢true (and_parts false (list_all (λ p. eqb (length p) 2) (r ∷ ps)) all).0)
-    go ((a ∷ []) ∷ r ∷ ps) two all = absurd (false≢true (and_parts false (list_all (λ p. eqb (length p) 2) (r ∷ ps)) all).0)
-    go ((a ∷ b ∷ []) ∷ r ∷ ps) two all = refl
-    go ((a ∷ b ∷ c ∷ cs) ∷ r ∷ ps) two all = absurd (long (eqb-true (suc (suc (suc (length cs)))) 2 (and_parts (eqb (length (a ∷ b ∷ c ∷ cs)) 2) (list_all (λ p. eqb (length p) 2) (r ∷ ps)) all).0))
-      where
-        long : {n : ℕ} → suc (suc (suc n)) ≡ 2 → ⊥
-        long e = omega arith

@@ -7,16 +7,26 @@ use nv_base::Items;
 
 /// A word that begins an action without a block.
 #[derive(Clone, Copy, Debug)]
-pub(crate) enum Keyword {
+pub enum Keyword {
+    /// `next`.
     Next,
+    /// `output`.
     Output,
+    /// `drop`.
     Drop,
+    /// `ct_next`.
     CtNext,
+    /// `ct_lb`.
     CtLb,
+    /// `ct_commit`.
     CtCommit,
+    /// `ct_snat`.
     CtSnat,
+    /// `ct_dnat`.
     CtDnat,
+    /// `put_arp`.
     PutArp,
+    /// `get_arp`.
     GetArp,
 }
 
@@ -71,10 +81,14 @@ pub(crate) fn keyword_of(word: &[u8]) -> Option<Keyword>
 
 /// The kinds of blocks.
 #[derive(Clone, Copy, Debug)]
-pub(crate) enum Block {
+pub enum Block {
+    /// `arp`.
     Arp,
+    /// `icmp4`.
     Icmp4,
+    /// `tcp_reset`.
     TcpReset,
+    /// `reject`.
     Reject,
 }
 

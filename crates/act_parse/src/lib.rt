@@ -6,7 +6,6 @@ mod assignment;
 mod constant;
 mod fault;
 mod keyword;
-mod laws;
 mod number;
 mod reader;
 mod step;
@@ -15,7 +14,5 @@ mod targets;
 mod token;
 
 pub use fault::ActionFault;
-pub use laws::{
-    faults_stay, what_is_before_a_fault_goes_on, what_is_read_is_written, what_is_written_is_read,
-};
+pub use keyword::{Block, Keyword};
 pub use reader::parse_actions;

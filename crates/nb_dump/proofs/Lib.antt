@@ -1,4 +1,2 @@
-pub mod Appends
 pub mod Gaps
-pub mod Quoted
 pub mod Scripts

@@ -10,10 +10,10 @@ use Rattle.nb_core.specs.declared.sets.Group.{Group}
 use Rattle.nb_core.specs.declared.switch.Addr.{Addr}
 use Rattle.nb_core.specs.declared.switch.Guard.{Guard}
 use Rattle.nb_net.specs.Network.{Network}
-use Rattle.nb_dump.specs.Commands.{command_line, script}
+use Rattle.nb_text.specs.Words.{each_spaced}
+use Rattle.nb_text.proofs.Appends.{two}
+use Rattle.nb_script.specs.Commands.{command_line, script}
 use Rattle.nb_dump.specs.Edits.{option_edits, address_edits, guard_edits, ports_edits, members_edits, port_name}
-use Rattle.nb_dump.specs.Words.{each_spaced}
-use Rattle.nb_dump.proofs.Appends.{two}
 
 -- words of texts that were made before are the words of what they are made of
 pub each_of_map : {X : Type 0} (text : X → List ℕ) (xs : List X) → each_spaced (λ word. word) (map text xs) ≡ each_spaced text xs

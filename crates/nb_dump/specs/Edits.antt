@@ -11,8 +11,6 @@ use Rattle.nb_core.specs.declared.edit.OwnerKind.TheVariants as owner_kind
 use Rattle.nb_core.specs.declared.router.Binding.{Binding}
 use Rattle.nb_core.specs.declared.router.Nat.{Nat}
 use Rattle.nb_core.specs.declared.router.Route.{Route}
-use Rattle.nb_core.specs.declared.router.RouteBy.{RouteBy}
-use Rattle.nb_core.specs.declared.router.RouteBy.TheVariants.{Dst, Src}
 use Rattle.nb_core.specs.declared.router.Router.{Router}
 use Rattle.nb_core.specs.declared.router.RouterPort.{RouterPort}
 use Rattle.nb_core.specs.declared.sets.AddrSet.{AddrSet}
@@ -24,6 +22,7 @@ use Rattle.nb_core.specs.declared.switch.PortKind.{PortKind}
 use Rattle.nb_core.specs.declared.switch.PortKind.TheVariants as kind
 use Rattle.nb_core.specs.declared.switch.Switch.{Switch}
 use Rattle.nb_net.specs.Network.{Network}
+use Rattle.nb_script.specs.Commands.{policy}
 
 -- the object of a number, where there is one of the kind
 abbrev pub switch_of : Network → ObjId → Option Switch
@@ -120,11 +119,6 @@ router_edits net r = edit.LrAdd r.name false ∷ []
 
 abbrev pub router_port_edits : Network → RouterPort → List Edit
 router_port_edits net p = edit.LrpAdd (router_name net p.router) p.name p.mac p.nets false ∷ router_port_state_edits p.name p.enabled
-
--- the policy, where it is not the first one
-abbrev pub policy : RouteBy → Option RouteBy
-policy Dst = None
-policy Src = Some Src
 
 abbrev pub route_edits : Network → Route → List Edit
 route_edits net r = edit.LrRouteAdd (router_name net r.router) r.prefix r.nexthop r.port (policy r.by) ∷ []

@@ -1,14 +1,45 @@
 //! What stands at the end of a dump: the ports of groups, and load balancers where they are attached.
-ghost use Rattle.std.specs.Prelude.{◌≡◌, ◌++◌, OnOk, OnErr};
+ghost use Rattle.std.specs.Prelude.{◌≡◌, ◌++◌, map, OnOk, OnErr};
 ghost use Rattle.nv_base.specs.Growth.{GrowsAtEnd};
-ghost use Rattle.nb_dump.specs.Commands.{script};
-ghost use Rattle.nb_dump.specs.Edits.{members_edits, switch_lb_edits, router_lb_edits};
+ghost use Rattle.nb_core.specs.declared.edit.Edit.TheVariants as edit;
+ghost use Rattle.nb_text.specs.Words.{each_spaced};
+ghost use Rattle.nb_script.specs.Commands.{command_line, script};
+ghost use Rattle.nb_dump.specs.Edits.{port_name, members_edits, switch_lb_edits, router_lb_edits};
 
 use crate::Objects;
-use crate::names::lb_name;
-use crate::rules::{put_lr_lb_add, put_ls_lb_add, put_pg_set_ports};
+use crate::names::{lb_name, port_name};
 use nb_core::{Group, Router, Switch};
-use nv_base::OutOfMemory;
+use nb_script::{put_lr_lb_add, put_ls_lb_add};
+use nb_text::put_word;
+use nv_base::{ObjId, OutOfMemory};
+
+// The names of ports, each after a space.
+fn put_port_names(out: &mut Vec<u8>, objects: &Objects, ports: &[ObjId]) -> Result<(), OutOfMemory>
+    ensures ok { OnOk result (out.new.items ≡ out.old.items ++ each_spaced (port_name objects.now) ports.now) }
+    ensures err { OnErr result (GrowsAtEnd out.old.items out.new.items) }
+{
+    for port in ports {
+        put_word(out, port_name(objects, *port))?;
+    }
+    Ok(())
+}
+
+// `pg-set-ports`
+fn put_pg_set_ports(
+    out: &mut Vec<u8>,
+    objects: &Objects,
+    name: &[u8],
+    ports: &[ObjId],
+) -> Result<(), OutOfMemory>
+    ensures ok { OnOk result (out.new.items ≡ out.old.items ++ command_line (edit.PgSetPorts name.now (map (port_name objects.now) ports.now))) }
+    ensures err { OnErr result (GrowsAtEnd out.old.items out.new.items) }
+{
+    out.extend_from_slice(b"pg-set-ports")?;
+    put_word(out, name)?;
+    put_port_names(out, objects, ports)?;
+    out.push(b'\n')?;
+    Ok(())
+}
 
 /// The ports of a group that has any.
 #[tactic(auto, using(crate::proofs::Scripts::no_members, crate::proofs::Scripts::some_members))]

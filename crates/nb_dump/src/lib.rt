@@ -1,7 +1,6 @@
 //! A network as the script of editing commands that makes it (not from OVN).
 #![tactic(auto)]
 
-mod commands;
 mod dump;
 mod ends;
 mod names;
@@ -9,8 +8,6 @@ mod next;
 mod objects;
 mod parts;
 mod records;
-mod rules;
-mod words;
 
 pub use dump::put_dump;
 pub use objects::Objects;

@@ -2,7 +2,7 @@
 ghost use Rattle.std.specs.Prelude.{◌≡◌, ◌-◌, ◌++◌, OnOk, OnErr};
 ghost use Rattle.nv_base.specs.Growth.{GrowsAtEnd};
 ghost use Rattle.nb_table.specs.Table.{record_of};
-ghost use Rattle.nb_dump.specs.Commands.{script};
+ghost use Rattle.nb_script.specs.Commands.{script};
 ghost use Rattle.nb_dump.specs.Edits.{edits_for, datapath_edits, rule_edits, listed_edits, object_edits};
 ghost use Rattle.nb_dump.specs.inner.Parts.{edits_at, first_edits};
 

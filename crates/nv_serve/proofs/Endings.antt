@@ -5,24 +5,24 @@ use Rattle.std.specs.Io.KnownBytes.{Consumes, IsAtEnd}
 use Rattle.std.proofs.lemmas.Bool.{true≢false}
 use Rattle.std.proofs.lemmas.List.{length-append}
 use Rattle.clap.specs.Words.{Text}
-use Rattle.nv_options.specs.Options.{accepts}
+use Rattle.nv_options.specs.Options.{accepts, hops_in}
 use Rattle.nv_io.specs.Counts.{Rose, count_after}
 use Rattle.nv_io.specs.State.{SourceState, SinkState}
 use Rattle.nv_io.specs.declared.sink.SinkFailed.{SinkFailed}
 use Rattle.nv_io.specs.declared.source.SourceFailed.{SourceFailed}
-use Rattle.nv_serve.specs.declared.status.Status.{Status}
-use Rattle.nv_serve.specs.declared.status.Status.TheVariants.{Done, SomeRefused, Usage, ReadFault, WriteFault, InputTooLong, OutOfMemory}
-use Rattle.nv_serve.specs.Output.{opened, output, complete_output, usage_line, is_refused, lines_of, input_limit}
+use Rattle.nv_input.specs.declared.status.Status.{Status}
+use Rattle.nv_input.specs.declared.status.Status.TheVariants.{Done, SomeRefused, Usage, ReadFault, WriteFault, InputTooLong, OutOfMemory}
+use Rattle.nv_serve.specs.Output.{opened, output, complete_output, usage_line, is_refused}
+use Rattle.nv_input.specs.Lines.{lines_of, input_limit}
 use Rattle.nv_reply.specs.Reply.{replies}
-use Rattle.nv_reply.specs.Session.{Session}
+use Rattle.nv_reply.specs.Session.{Session, new_session}
 use Rattle.nv_io.specs.Passed.{IsPrefix}
-use Rattle.nv_serve.specs.Calls.{BeginsDue, Moved, told_left, start_at, no_call, and_puts, LastTakeGivesNothing}
-use Rattle.nv_serve.specs.Run.{IsFinished, NothingFollowsAFault}
+use Rattle.nv_input.specs.Calls.{BeginsDue, Moved, told_left, start_at, no_call, and_puts, NothingFollowsAFault}
+use Rattle.nv_serve.specs.Run.{IsFinished}
+use Rattle.nv_input.specs.Ends.{InputEnds}
 use Rattle.nv_serve.specs.Traced.{TracesAreMeant}
 use Rattle.nv_io.specs.Writing.{Wrote, PutFailed}
-use Rattle.nv_reply.specs.declared.stop.Stop.{Stop}
-use Rattle.nv_reply.specs.declared.stop.Stop.TheVariants as stops
-use Rattle.nv_serve.specs.inner.Endings.{status_of, Finished, StopEnds, StopCalls, Ends, Refuses}
+use Rattle.nv_serve.specs.inner.Endings.{Ends, Refuses}
 use Rattle.nv_io.proofs.Writing.{gave_nothing, took_nothing}
 use Rattle.nv_serve.proofs.Lengths.{lines_longer}
 use Rattle.nv_serve.proofs.Traced.{traces_meant}
@@ -96,16 +96,19 @@ module _ {S K : Type 0} (takes : S → List ℕ → Result ℕ SourceFailed → 
   )
 
   module _ (s : S) (k : K) (t : S) (l : K) where
-    -- a run from a session before the first line that is stopped
-    abbrev pub StoppedFrom : Session → Stop → Type 0
-    StoppedFrom first stop =
+    -- an input whose lines are answered from a session on
+    abbrev pub EndedFrom : Session → Status → Type 0
+    EndedFrom first status =
         Moved source_state sink_state (s, k) (t, l) (λ given written.
-        StopEnds first (source_state s, sink_state k) (source_state t, sink_state l) (given, written) stop
-        × StopCalls takes puts (start_at first s k) (record { first = first; source = t; sink = l; given = given; written = written }) stop)
+        InputEnds first (source_state s, sink_state k) (source_state t, sink_state l) (given, written) status
+        × NothingFollowsAFault takes puts (start_at first s k) (record { first = first; source = t; sink = l; given = given; written = written }) status)
 
-    stopped_so : (stop : Stop) → accepts words ≡ true → StoppedFrom (opened words) stop → EndedAt s k t l (status_of stop)
-    stopped_so stops.ReadFault few (given, written, gave, took, (ends, calls)) = (given, written, gave, took, ((few, ends), calls))
-    stopped_so stops.WriteFault few (given, written, gave, took, (ends, calls)) = (
+    opened_so : (status : Status) → accepts words ≡ true → EndedFrom (opened words) status → EndedAt s k t l status
+    opened_so Done few (given, written, gave, took, (ends, calls)) = (given, written, gave, took, ((few, ends), calls))
+    opened_so SomeRefused few (given, written, gave, took, (ends, calls)) = (given, written, gave, took, ((few, ends), calls))
+    opened_so Usage few (given, written, gave, took, (none, calls)) = absurd none
+    opened_so ReadFault few (given, written, gave, took, (ends, calls)) = (given, written, gave, took, ((few, ends), calls))
+    opened_so WriteFault few (given, written, gave, took, (ends, calls)) = (
       given,
       written,
       gave,
@@ -115,8 +118,8 @@ module _ {S K : Type 0} (takes : S → List ℕ → Result ℕ SourceFailed → 
         calls,
       ),
     )
-    stopped_so stops.InputTooLong few (given, written, gave, took, (ends, calls)) = (given, written, gave, took, ((few, ends), calls))
-    stopped_so stops.OutOfMemory few (given, written, gave, took, (ends, calls)) = (
+    opened_so InputTooLong few (given, written, gave, took, (ends, calls)) = (given, written, gave, took, ((few, ends), calls))
+    opened_so OutOfMemory few (given, written, gave, took, (ends, calls)) = (
       given,
       written,
       gave,
@@ -127,27 +130,9 @@ module _ {S K : Type 0} (takes : S → List ℕ → Result ℕ SourceFailed → 
       ),
     )
 
-    pub stopped : (first : Session) (stop : Stop) → first ≡ opened words → accepts words ≡ true → StoppedFrom first stop → EndedAt s k t l (status_of stop)
-    stopped first stop is few ends = stopped_so stop few (subst (λ from. StoppedFrom from stop) is ends)
-
-    -- a run from a session before the first line that reads its input to the end
-    abbrev pub FinishedFrom : Session → Bool → Type 0
-    FinishedFrom first refused =
-        Moved source_state sink_state (s, k) (t, l) (λ given written.
-        Finished first (source_state s, sink_state k) (source_state t, sink_state l) (given, written) refused
-        × LastTakeGivesNothing takes puts (start_at first s k) (record { first = first; source = t; sink = l; given = given; written = written }))
-
-    pub all_done : (first : Session) (refused : Bool) → first ≡ opened words → accepts words ≡ true → refused ≡ false → FinishedFrom first refused → EndedAt s k t l Done
-    all_done first refused is few none ends = by (subst (λ some. FinishedFrom (opened words) some) none (subst (λ from. FinishedFrom from refused) is ends))
-      where
-        by : FinishedFrom (opened words) false → EndedAt s k t l Done
-        by (given, written, gave, took, (finished, last)) = (given, written, gave, took, ((few, finished), last))
-
-    pub done_but_some : (first : Session) (refused : Bool) → first ≡ opened words → accepts words ≡ true → refused ≡ true → FinishedFrom first refused → EndedAt s k t l SomeRefused
-    done_but_some first refused is few some ends = by (subst (λ some. FinishedFrom (opened words) some) some (subst (λ from. FinishedFrom from refused) is ends))
-      where
-        by : FinishedFrom (opened words) true → EndedAt s k t l SomeRefused
-        by (given, written, gave, took, (finished, last)) = (given, written, gave, took, ((few, finished), last))
+    -- with the hops that accepted arguments ask for
+    pub answered : (hops : ℕ) (status : Status) → hops ≡ hops_in words → accepts words ≡ true → EndedFrom (new_session hops) status → EndedAt s k t l status
+    answered hops status is few ends = opened_so status few (subst (λ h. EndedFrom (new_session h) status) is ends)
 
     -- the input was read to its end
     pub done : (status : Status) → EndedAt s k t l status → IsFinished status → MovedTo s k t l (λ given written. IsAtEnd (source_state t).left × (written ≡ output words given))

@@ -2,7 +2,7 @@
 use Rattle.std.proofs.Common.{◌≡◌, ℕ, ◌+◌, ◌≤◌, Bool, true, false, cond, List, [], ◌∷◌, ◌++◌, length, sum_by, ap, ◌∙◌, arith}
 use Rattle.std.specs.List.{slice_split, onto_first}
 use Rattle.std.proofs.lemmas.List.Sums.{sum_by-append, sum_by-cons}
-use Rattle.nv_serve.specs.Output.{is_newline, lines_of}
+use Rattle.nv_input.specs.Lines.{is_newline, lines_of}
 
 onto_longer : (byte : ℕ) (parts : List (List ℕ)) → sum_by length (onto_first byte parts) ≤ 1 + sum_by length parts
 onto_longer byte [] = omega arith

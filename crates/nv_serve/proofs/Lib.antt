@@ -1,10 +1,4 @@
-pub mod Conversing
-pub mod Cuts
 pub mod Endings
-pub mod Kept
 pub mod Lengths
 pub mod Outputs
-pub mod Pieces
-pub mod Splits
-pub mod StateAfter
 pub mod Traced

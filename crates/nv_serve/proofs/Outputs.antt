@@ -6,12 +6,13 @@ use Rattle.clap.specs.Words.{Text}
 use Rattle.nv_options.specs.Options.{accepts}
 use Rattle.nv_reply.specs.Session.{Session}
 use Rattle.nv_reply.specs.Reply.{reply, replies, session_after, some_refused}
-use Rattle.nv_serve.specs.Output.{is_newline, lines_of, complete_lines, opened, output, complete_output, usage_line}
+use Rattle.nv_input.specs.Lines.{is_newline, lines_of, complete_lines}
+use Rattle.nv_serve.specs.Output.{opened, output, complete_output, usage_line}
 use Rattle.nv_io.specs.Passed.{IsPrefix}
-use Rattle.nv_serve.specs.inner.StateAfter.{IsStateAfter}
-use Rattle.nv_serve.proofs.Splits.{split_has_first, take-butlast}
-use Rattle.nv_serve.proofs.Kept.{reply_nothing}
-use Rattle.nv_serve.proofs.StateAfter.{written_prefix, stands_more, written_end}
+use Rattle.nv_input.specs.inner.StateAfter.{IsStateAfter}
+use Rattle.nv_input.proofs.Splits.{split_has_first, take-butlast}
+use Rattle.nv_input.proofs.Kept.{reply_nothing}
+use Rattle.nv_input.proofs.StateAfter.{written_prefix, stands_more, written_end}
 
 -- a list with a first element has a last
 has_last : {X : Type 0} (x : X) (xs : List X) → (init : List X) × (last : X) × (x ∷ xs ≡ init ++ last ∷ [])

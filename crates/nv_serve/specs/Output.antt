@@ -1,22 +1,10 @@
 -- The output of a run.
-use Rattle.std.specs.Prelude.{ℕ, ◌-◌, Bool, ◌==◌, if◌then◌else◌, List, length, take, codes}
-use Rattle.std.specs.List.{slice_split}
+use Rattle.std.specs.Prelude.{ℕ, Bool, if◌then◌else◌, List, codes}
 use Rattle.clap.specs.Words.{Text}
 use Rattle.nv_options.specs.Options.{accepts, hops_in}
+use Rattle.nv_input.specs.Lines.{lines_of, complete_lines}
 use Rattle.nv_reply.specs.Session.{Session, new_session}
 use Rattle.nv_reply.specs.Reply.{replies, some_refused}
-
-abbrev pub is_newline : ℕ → Bool
-is_newline byte = byte == 10
-
--- The lines of an input: the texts between its newlines. The last has no newline; where the input ends with one,
--- the last is a line without words, which gets no reply.
-abbrev pub lines_of : List ℕ → List (List ℕ)
-lines_of input = slice_split is_newline input
-
--- the complete lines: all but the last, which has no newline
-abbrev pub complete_lines : List ℕ → List (List ℕ)
-complete_lines input = take (length (lines_of input) - 1) (lines_of input)
 
 -- the session before the first line, by the program's arguments
 abbrev pub opened : List Text → Session
@@ -37,7 +25,3 @@ complete_output words input = replies (opened words) (complete_lines input)
 -- whether a line of the input is refused
 abbrev pub is_refused : List Text → List ℕ → Bool
 is_refused words input = some_refused (opened words) (lines_of input)
-
--- no more of an input is run than this many bytes
-abbrev pub input_limit : ℕ
-input_limit = 268435456

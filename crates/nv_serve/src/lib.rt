@@ -1,13 +1,9 @@
-//! The program's one call: a script of lines is read, each line is run, and each is answered before the next is run.
+//! The program's one call: its arguments are read, a script of lines is answered, and the status says how the run ended.
 #![tactic(auto)]
 
-mod converse;
-mod cut;
 mod laws;
 mod serve;
-mod server;
-mod status;
 
 pub use laws::output_goes_on;
+pub use nv_input::Status;
 pub use serve::run;
-pub use status::Status;

@@ -4,16 +4,16 @@ ghost use Rattle.std.specs.String.{string_bytes};
 ghost use Rattle.clap.specs.Words.{Text};
 ghost use Rattle.nv_options.specs.Options.{accepts, hops_in};
 ghost use Rattle.nv_io.specs.Counts.{Rose, count_after};
-ghost use Rattle.nv_serve.specs.Calls.{BeginsDue, Moved, told_left, start_at};
-ghost use Rattle.nv_serve.specs.Output.{lines_of, opened, output, complete_output, usage_line, is_refused, input_limit};
-ghost use Rattle.nv_serve.specs.Run.{IsFinished, NothingFollowsAFault};
+ghost use Rattle.nv_input.specs.Calls.{BeginsDue, Moved, told_left, start_at, NothingFollowsAFault};
+ghost use Rattle.nv_input.specs.Lines.{lines_of, input_limit};
+ghost use Rattle.nv_serve.specs.Output.{opened, output, complete_output, usage_line, is_refused};
+ghost use Rattle.nv_serve.specs.Run.{IsFinished};
 ghost use Rattle.nv_serve.specs.Traced.{TracesAreMeant};
 ghost use Rattle.nv_serve.specs.inner.Endings.{Ends, Refuses};
 ghost use Rattle.nv_io.specs.Writing.{Wrote, PutFailed};
 
 use crate::Status;
-use crate::converse::converse;
-use crate::server::Server;
+use nv_input::answer_input;
 use nv_io::{Sink, Source, put_all};
 use nv_options::{ArgumentFault, accept_arguments};
 use std::alloc::Global;
@@ -100,29 +100,9 @@ fn serve<S: Source, K: Sink>(
         → (source.new ≡ source.old) × ((result ≡ Status.Usage) ⊎ (result ≡ Status.WriteFault) ⊎ (result ≡ Status.OutOfMemory)) }
 {
     match accept_arguments(alloc, arguments) {
-        Ok(hops) => answer_lines(alloc, hops, source, sink),
+        Ok(hops) => answer_input(alloc, hops, source, sink),
         Err(ArgumentFault::Refused) => refuse_arguments(sink),
         Err(ArgumentFault::Memory) => Status::OutOfMemory,
-    }
-}
-
-// Answers the lines of the input, where these words are accepted and ask for so many hops.
-fn answer_lines<S: Source, K: Sink>(alloc: Global, hops: u8, source: &mut S, sink: &mut K) -> Status
-    ensures { (words : List Text) → accepts words ≡ true → hops ≡ hops_in words
-        → Moved S.state K.state (source.old, sink.old) (source.new, sink.new) (λ given written.
-        Ends words (S.state source.old, K.state sink.old) (S.state source.new, K.state sink.new) (given, written) result
-        × NothingFollowsAFault S.take_gives K.put_gives (start_at (opened words) source.old sink.old)
-        (record { first = opened words; source = source.new; sink = sink.new; given = given; written = written }) result) }
-{
-    let mut server = Server::new(alloc, hops);
-    let conversed = converse(alloc, &mut server, source, sink);
-    let some_refused = server.some_refused;
-    // A call: at the end of the scope the drop of each field would be proved anew on each way out.
-    drop(server);
-    match conversed {
-        Ok(()) if some_refused => Status::SomeRefused,
-        Ok(()) => Status::Done,
-        Err(stop) => Status::of(&stop),
     }
 }
 

@@ -1,6 +1,7 @@
 use Rattle.std.proofs.Common.{◌≡◌, ap}
 use Rattle.nb_net.specs.Network.{Network}
 use Rattle.nb_dump.proofs.Scripts.{scripts}
+use Rattle.nb_text.proofs.Appends.{grown_more, on_err}
 use Rattle.nb_dump.proofs.parts.put_listed.Goals as goal
 
 pub returns-clause-ok : goal.returns-clause-ok
@@ -12,3 +13,9 @@ returns-clause-ok c =
     let groups' = rw groups at c.in_ok-put_record-2.ensures.ok in
     let bindings' = rw bindings at c.in_ok-put_record-3.ensures.ok in
     scripts _ _ _ _ _ (scripts _ _ _ _ _ sets' groups') bindings'
+
+pub returns-in_err-put_record-2-clause-err : goal.returns-in_err-put_record-2-clause-err
+returns-in_err-put_record-2-clause-err c = on_err _ _ (grown_more _ _ _ _ c.in_ok-put_record.ensures.ok c.in_err-put_record-2.ensures.err)
+
+pub returns-in_err-put_record-3-clause-err : goal.returns-in_err-put_record-3-clause-err
+returns-in_err-put_record-3-clause-err c = on_err _ _ (grown_more _ _ _ _ c.in_ok-put_record.ensures.ok (grown_more _ _ _ _ c.in_ok-put_record-2.ensures.ok c.in_err-put_record-3.ensures.err))

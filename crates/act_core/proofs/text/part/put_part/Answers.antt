@@ -1,0 +1,5 @@
+use Rattle.act_core.proofs.Lists.{grown_more, on_err}
+use Rattle.act_core.proofs.text.part.put_part.Goals as goal
+
+pub returns-in_err-put_bits-clause-err : goal.returns-in_err-put_bits-clause-err
+returns-in_err-put_bits-clause-err c = on_err _ _ (grown_more _ _ _ _ c.in_ok-extend_from_slice.ensures.items c.in_err-put_bits.ensures.err)

@@ -1,8 +1,0 @@
-use Rattle.std.proofs.lemmas.Result.{err_from_is_err_and}
-use Rattle.nb_dump.proofs.Appends.{grown_more}
-use Rattle.nb_dump.proofs.rules.put_port_names.Goals as goal
-
-pub returns-in_err-put_word-clause-err : goal.returns-in_err-put_word-clause-err
-returns-in_err-put_word-clause-err c =
-    let p = err_from_is_err_and c.from_residual.result c.from_residual.ensures.1 in
-    rw (p.1) (grown_more _ _ _ _ c.loop-port.invariant c.in_err-put_word.ensures.err)

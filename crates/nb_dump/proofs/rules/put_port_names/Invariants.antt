@@ -1,8 +1,0 @@
-use Rattle.std.proofs.Common.{◌≡◌, ◌++◌, take}
-use Rattle.nb_dump.specs.Edits.{port_name}
-use Rattle.nb_dump.specs.Words.{each_spaced}
-use Rattle.nb_dump.proofs.rules.put_port_names.Given as goal
-
--- the names so far come after what was there
-abbrev pub invariant-loop-port : goal.invariant-loop-port
-invariant-loop-port l = l.out.items ≡ l.fn.out.items ++ each_spaced (port_name l.objects) (take l.port-index l.ports)

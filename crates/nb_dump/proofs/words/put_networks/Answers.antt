@@ -1,8 +1,0 @@
-use Rattle.std.proofs.lemmas.Result.{err_from_is_err_and}
-use Rattle.nb_dump.proofs.Appends.{grown_more}
-use Rattle.nb_dump.proofs.words.put_networks.Goals as goal
-
-pub returns-in_err-put_network-clause-err : goal.returns-in_err-put_network-clause-err
-returns-in_err-put_network-clause-err c =
-    let p = err_from_is_err_and c.from_residual.result c.from_residual.ensures.1 in
-    rw (p.1) (grown_more _ _ _ _ c.loop-net.invariant c.in_err-put_network.ensures.err)

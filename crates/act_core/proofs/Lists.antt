@@ -1,8 +1,6 @@
 -- A joined list, one item on.
-use Rattle.std.proofs.Common.{◌≡◌, ◌<◌, ◌+◌, ℕ, List, ◌++◌, Result, Ok, Err, OnErr, length, drop, slice_index_or, append_assoc}
+use Rattle.std.proofs.Common.{◌≡◌, ◌<◌, ◌+◌, ℕ, List, ◌++◌, length, drop, slice_index_or, append_assoc}
 use Rattle.std.proofs.lemmas.List.{at_drop_more}
-use Rattle.nv_base.specs.Growth.{GrowsAtEnd}
-use Rattle.nv_base.proofs.Growth.{grows_more}
 use Rattle.act_core.specs.Text.{joined}
 
 -- with this item's text at the end, the items after it say the same
@@ -19,12 +17,3 @@ appended_thrice there one two end first second third a b c = rw (c, b, a) (simp 
 pub appended_four : (there one two three end first second third fourth : List ℕ) → one ≡ there ++ first → two ≡ one ++ second → three ≡ two ++ third → end ≡ three ++ fourth
     → end ≡ there ++ (((first ++ second) ++ third) ++ fourth)
 appended_four there one two three end first second third fourth a b c d = rw (d, c, b, a) (simp append_assoc)
-
--- what was appended to, and then grew, grew at its end
-pub grown_more : (there middle end more : List ℕ) → middle ≡ there ++ more → GrowsAtEnd middle end → GrowsAtEnd there end
-grown_more there middle end more e grown = grows_more there middle end (more, e) grown
-
--- what holds, holds where there is a fault
-pub on_err : {T E : Type 0} (r : Result T E) (P : Type 0) → P → OnErr r P
-on_err (Ok x) P p = tt
-on_err (Err e) P p = p

@@ -1,14 +1,11 @@
 -- Which action lists are well-formed.
-use Rattle.std.specs.Prelude.{ℕ, ◌^◌, Bool, true, false, ◌&&◌, ◌||◌, ◌==◌, nat_lt, nat_le, nat_eq, List, [], ◌∷◌, Option, Some, None, codes, is_some, is_none}
+use Rattle.std.specs.Prelude.{ℕ, ◌^◌, Bool, true, false, ◌&&◌, ◌||◌, ◌==◌, nat_lt, nat_le, List, [], ◌∷◌, Option, Some, None, is_some, is_none}
 use Rattle.std.specs.List.{list_all}
-use Rattle.std.specs.Cmp.Lexicographic.{pointwise}
 use Rattle.nv_base.specs.Field.{field_width}
-use Rattle.nv_base.specs.Name.{is_object_name}
+use Rattle.nv_base.specs.Name.{is_quotable}
 use Rattle.nv_base.specs.declared.ip4.Ip4.{Ip4}
-use Rattle.expr_core.specs.Width.{part_width}
+use Rattle.expr_core.specs.Width.{part_width, limit}
 use Rattle.expr_core.specs.declared.constant.Const.{Const}
-use Rattle.expr_core.specs.declared.constant.Form.{Form}
-use Rattle.expr_core.specs.declared.constant.Form.TheVariants as form
 use Rattle.expr_core.specs.declared.part.Bits.{Bits}
 use Rattle.expr_core.specs.declared.part.Bits.TheVariants.{Whole, Bit, Range}
 use Rattle.act_core.specs.declared.action.Action.{Action}
@@ -16,13 +13,6 @@ use Rattle.act_core.specs.declared.action.Action.TheVariants as action
 use Rattle.act_core.specs.declared.step.Target.{Target}
 use Rattle.act_core.specs.declared.step.Step.{Step}
 use Rattle.act_core.specs.declared.step.Step.TheVariants.{Jump, Set, Copy, SetOutport, Exchange, CtLbTo, CtSnatTo, CtDnatTo}
-
--- the numbers that a form spells are below this one
-abbrev pub limit : Form → ℕ
-limit form.Dec = 2 ^ 128
-limit form.Hex = 2 ^ 128
-limit form.Mac = 2 ^ 48
-limit form.Ip4 = 2 ^ 32
 
 -- the constant fits so many bits, and the spelling of its form
 abbrev pub fits : ℕ → Const → Bool
@@ -33,10 +23,6 @@ abbrev pub are_bits_of : ℕ → Bits → Bool
 are_bits_of width Whole = true
 are_bits_of width (Bit n) = nat_lt n width
 are_bits_of width (Range first last) = nat_le first last && nat_lt last width
-
--- a string may hold the name of a port or of a multicast group
-abbrev pub is_quotable : List ℕ → Bool
-is_quotable name = is_object_name name || pointwise nat_eq name (codes "_MC_flood") || pointwise nat_eq name (codes "_MC_unknown")
 
 -- an address is a number of 32 bits, as its type says
 abbrev pub is_address : Ip4 → Bool

@@ -9,5 +9,5 @@ mod well_formed;
 
 pub use action::Action;
 pub use step::{Step, Target};
-pub use text::{put_actions, put_const};
-pub use well_formed::{are_bits_of, fits, is_quotable, is_well_formed};
+pub use text::put_actions;
+pub use well_formed::{are_bits_of, fits, is_well_formed};

@@ -1,5 +1,5 @@
 //! Action lists as text.
-ghost use Rattle.std.specs.Prelude.{◌≡◌, [], ◌++◌, codes, OnOk, OnErr};
+ghost use Rattle.std.specs.Prelude.{◌≡◌, [], ◌++◌, OnOk, OnErr};
 ghost use Rattle.nv_base.specs.Growth.{GrowsAtEnd};
 ghost use Rattle.act_core.specs.Text.{spaced_text, block_text, action_text, joined, actions_text};
 
@@ -8,7 +8,6 @@ mod step;
 
 use crate::{Action, Step};
 use nv_base::OutOfMemory;
-pub use part::put_const;
 use step::put_step;
 
 // A step, and a space after it.

@@ -1,15 +1,16 @@
 //! Which action lists are well-formed.
 ghost use Rattle.std.specs.Prelude.{◌≡◌, ◌^◌, ◌&&◌, is_some, is_none};
 ghost use Rattle.std.specs.List.{list_all};
+ghost use Rattle.expr_core.specs.Width.{limit};
 ghost use Rattle.act_core.specs.WellFormed as formed;
 
 use crate::{Action, Step, Target};
 use expr_core::{Bits, Const, Form, has_bits};
-use nv_base::{Ip4, is_object_name};
+use nv_base::{Ip4, is_quotable};
 
 /// How many bits the numbers have that a form spells.
 fn form_width(form: Form) -> u32
-    ensures { 2 ^ result ≡ formed.limit form }
+    ensures { 2 ^ result ≡ limit form }
 {
     match form {
         Form::Dec | Form::Hex => 128,
@@ -34,13 +35,6 @@ pub fn are_bits_of(width: u8, bits: Bits) -> bool
         Bits::Bit(bit) => bit < width,
         Bits::Range(first, last) => first <= last && last < width,
     }
-}
-
-/// Whether a string may hold the name: that of a port or of a multicast group.
-pub fn is_quotable(name: &[u8]) -> bool
-    ensures { result ≡ formed.is_quotable name.now }
-{
-    is_object_name(name) || name == b"_MC_flood".as_slice() || name == b"_MC_unknown".as_slice()
 }
 
 // Each address of 32 bits is one.

@@ -11,14 +11,16 @@ use Rattle.nv_base.specs.Ip4.{ip4_of}
 use Rattle.nv_base.specs.Mac.{mac_of}
 use Rattle.nv_base.specs.Number.{decimal_of}
 use Rattle.expr_core.specs.declared.constant.Const.{Const}
-use Rattle.act_parse.specs.Token.{begins_word, word, after_word, is_word, is_at, or_else, number_after_0x, constant_of, longest, quoted}
+use Rattle.expr_const.specs.Constant.{or_else, number_after_0x, constant_of, longest}
+use Rattle.act_parse.specs.Token.{begins_word, word, after_word, is_word, is_at, quoted}
 use Rattle.act_laws.specs.Tokens.{Token, signs, word_token, sign_token, first_token}
 use Rattle.act_laws.specs.Tokens.Token.{Constant, Name, Word, Sign}
-use Rattle.act_parse.proofs.Choices.{none_from}
-use Rattle.act_laws.proofs.Constants.{no_decimal, same_pointwise}
+use Rattle.expr_const.proofs.Choices.{none_from}
+use Rattle.expr_const.proofs.Misses.{no_decimal}
+use Rattle.act_laws.proofs.Constants.{same_pointwise}
 use Rattle.act_laws.proofs.Longest.{nowhere}
-use Rattle.act_parse.proofs.Shapes.{hexadecimal_parts}
-use Rattle.act_laws.proofs.FirstBytes.{mac_first, mac_third, ip4_first}
+use Rattle.expr_const.proofs.Shapes.{hexadecimal_parts}
+use Rattle.expr_const.proofs.FirstBytes.{mac_first, mac_third, ip4_first}
 use Rattle.act_laws.proofs.TakesTokens.{same_bytes, at_takes, word_takes, find_passes, quoted_takes}
 
 -- what the first token says of the text

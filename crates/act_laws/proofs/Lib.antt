@@ -1,5 +1,4 @@
 pub mod Longest
-pub mod FirstBytes
 pub mod TakesTokens
 pub mod TakesSteps
 pub mod TakesFields

@@ -2,8 +2,8 @@
 use Rattle.std.proofs.Common.{◌≡◌, ℕ, suc, zero, ◌<◌, ◌≤◌, List, length, take, Option, Some, None, refl, subst, ◌∙◌, arith}
 use Rattle.std.specs.Option.{option_map}
 use Rattle.expr_core.specs.declared.constant.Const.{Const}
-use Rattle.act_parse.specs.Token.{or_else, constant_of, longest}
-use Rattle.act_parse.proofs.Longest.{NoneBetween, cut, here}
+use Rattle.expr_const.specs.Constant.{or_else, constant_of, longest}
+use Rattle.expr_const.proofs.LongestFronts.{NoneBetween, cut, here}
 
 -- the front of m bytes is a constant, and no longer one of at most n is
 pub found : (m n : ℕ) (text : List ℕ) (c : Const) → 0 < m → m ≤ n → constant_of (take m text) ≡ Some c → NoneBetween m n text → longest n text ≡ Some (c, m)

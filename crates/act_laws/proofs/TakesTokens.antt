@@ -15,11 +15,13 @@ use Rattle.expr_core.specs.Width.{is_decimal, is_address}
 use Rattle.expr_core.specs.declared.constant.Const.{Const}
 use Rattle.expr_core.specs.declared.constant.Form.{Form}
 use Rattle.expr_core.specs.declared.constant.Form.TheVariants as form
+use Rattle.nv_base.specs.Name.{is_quotable}
 use Rattle.act_core.specs.WellFormed as formed
-use Rattle.act_parse.specs.Token.{word, after_word, is_at, longest, as_written, constant, before_quote, name_before_quote, quoted}
+use Rattle.expr_const.specs.Constant.{longest}
+use Rattle.act_parse.specs.Token.{word, after_word, is_at, as_written, constant, before_quote, name_before_quote, quoted}
 use Rattle.act_parse.specs.Reading.{Reading, and_then, stuck, token, tokens, ended, decimal_within, decimal, address_within, ip4}
 use Rattle.act_parse.specs.Reading.Reading.{Read, Stuck}
-use Rattle.act_parse.proofs.Choices.{guarded}
+use Rattle.expr_const.proofs.Choices.{guarded}
 
 -- equal byte by byte
 pub same_bytes : (a b : List ℕ) → pointwise nat_eq a b ≡ true → a ≡ b
@@ -143,12 +145,12 @@ before_takes text n is within =
     not_false true e = refl
     not_false false e = absurd (cc)
 
-pub quoted_takes : (text : List ℕ) (x : List ℕ × List ℕ) → quoted text ≡ Some x → (text ≡ 34 ∷ (x.0 ++ 34 ∷ x.1)) × (formed.is_quotable x.0 ≡ true)
+pub quoted_takes : (text : List ℕ) (x : List ℕ × List ℕ) → quoted text ≡ Some x → (text ≡ 34 ∷ (x.0 ++ 34 ∷ x.1)) × (is_quotable x.0 ≡ true)
 quoted_takes [] x e = absurd (cc)
 quoted_takes (b ∷ bs) x e =
     let outer = guarded (eqb b 34) (name_before_quote bs) x e in
     let inner = cond_some _ (take (before_quote bs) bs, drop (before_quote bs + 1) bs) x outer.1 in
     let tests = and_parts _ _ inner.0 in
     let whole = before_takes bs (before_quote bs) refl (ltb-true _ _ tests.0) in
-    let P : List ℕ × List ℕ → Type 0 = λ y. (b ∷ bs ≡ 34 ∷ (y.0 ++ 34 ∷ y.1)) × (formed.is_quotable y.0 ≡ true) in
+    let P : List ℕ × List ℕ → Type 0 = λ y. (b ∷ bs ≡ 34 ∷ (y.0 ++ 34 ∷ y.1)) × (is_quotable y.0 ≡ true) in
     subst P inner.1 (ap (λ c. c ∷ bs) (eqb-true b 34 outer.0) ∙ ap (λ xs. 34 ∷ xs) whole, tests.1)

@@ -14,7 +14,8 @@ use Rattle.expr_core.specs.declared.part.Bits.TheVariants.{Whole, Bit, Range}
 use Rattle.act_core.specs.WellFormed.{fits, are_bits_of}
 use Rattle.act_core.specs.declared.step.Step.TheVariants.{Drop, Set, Copy, SetOutport, Exchange, DecTtl}
 use Rattle.act_parse.specs.declared.keyword.Keyword.{Keyword}
-use Rattle.act_parse.specs.Token.{word, after_word, is_at, constant_in, constant, quoted}
+use Rattle.expr_const.specs.Constant.{constant_in}
+use Rattle.act_parse.specs.Token.{word, after_word, is_at, constant, quoted}
 use Rattle.act_parse.specs.Keyword.{keyword_name, keyword_of, keywords, is_keyword}
 use Rattle.act_parse.specs.Reading as reading
 use Rattle.act_parse.specs.Reading.{and_then, stuck, token, ended, decimal}

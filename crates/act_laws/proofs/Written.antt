@@ -17,18 +17,21 @@ use Rattle.expr_core.specs.Text.{const_text, bits_text}
 use Rattle.expr_core.specs.Width.{part_width}
 use Rattle.expr_core.specs.declared.part.Bits.{Bits}
 use Rattle.expr_core.specs.declared.part.Bits.TheVariants.{Whole, Bit, Range}
-use Rattle.act_core.specs.WellFormed.{limit, fits, are_bits_of}
+use Rattle.expr_core.specs.Width.{limit}
+use Rattle.act_core.specs.WellFormed.{fits, are_bits_of}
 use Rattle.act_core.specs.declared.step.Step.TheVariants.{Set, Copy}
 use Rattle.expr_core.specs.declared.constant.Const.{Const}
-use Rattle.act_parse.specs.Token.{is_in_word, word, after_word, is_at, constant, constant_of, number_after_0x, as_written}
+use Rattle.expr_const.specs.Constant.{constant_of, number_after_0x}
+use Rattle.act_parse.specs.Token.{is_in_word, word, after_word, is_at, constant, as_written}
 use Rattle.act_parse.specs.Keyword.{keyword_of, keywords, block_of, blocks}
 use Rattle.act_parse.specs.Reading as reading
-use Rattle.act_parse.specs.Reading.Reading.{Read, Stuck}
-use Rattle.act_parse.proofs.Choices.{none_from}
+use Rattle.act_parse.specs.Reading.Reading.{Read}
+use Rattle.expr_const.proofs.Choices.{none_from}
 use Rattle.act_laws.proofs.Longest.{nowhere}
-use Rattle.act_parse.proofs.Shapes.{hexadecimal_parts, mac_digits, mac_length}
-use Rattle.act_laws.proofs.FirstBytes.{ip4_first}
-use Rattle.act_laws.proofs.Constants.{no_decimal, stops, dots, constant_read, decimal_read}
+use Rattle.expr_const.proofs.Shapes.{hexadecimal_parts, mac_digits, mac_length}
+use Rattle.expr_const.proofs.FirstBytes.{ip4_first}
+use Rattle.expr_const.proofs.Misses.{no_decimal}
+use Rattle.act_laws.proofs.Constants.{stops, dots, constant_read, decimal_read}
 
 -- a word before a byte that is in no word
 run : (w : List ℕ) (b : ℕ) (rest : List ℕ) → list_all is_in_word w ≡ true → is_in_word b ≡ false → prefix_len is_in_word (w ++ b ∷ rest) ≡ length w

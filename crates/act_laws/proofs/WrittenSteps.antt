@@ -6,7 +6,7 @@ use Rattle.std.specs.Cmp.Lexicographic.{pointwise, same_text}
 use Rattle.std.proofs.Math.Seq.{take-append_seam}
 use Rattle.std.proofs.lemmas.List.{append-nil}
 use Rattle.std.proofs.lemmas.Bool.{and_parts, false≢true, ltb-true, lt-ltb, eqb-true, or_cases}
-use Rattle.nv_base.specs.Name.{is_name_byte, is_object_name}
+use Rattle.nv_base.specs.Name.{is_name_byte, is_object_name, is_quotable}
 use Rattle.nv_base.specs.Field.{field_name, field_width, all_fields}
 use Rattle.nv_base.specs.Ip4.{ip4_text}
 use Rattle.nv_base.specs.declared.ip4.Ip4.{Ip4}
@@ -16,17 +16,18 @@ use Rattle.expr_core.specs.declared.part.Bits.{Bits}
 use Rattle.expr_core.specs.Text.{const_text, truth_text}
 use Rattle.expr_core.specs.declared.part.Bits.TheVariants.{Whole}
 use Rattle.act_core.specs.Text.{joined, part_text, target_text, step_text}
-use Rattle.act_core.specs.WellFormed.{is_quotable, is_address, is_target, have_ports_or_none, is_step, are_bits_of, fits}
+use Rattle.act_core.specs.WellFormed.{is_address, is_target, have_ports_or_none, is_step, are_bits_of, fits}
 use Rattle.act_core.specs.declared.step.Target.{Target}
 use Rattle.act_core.specs.declared.step.Step.{Step}
 use Rattle.act_core.specs.declared.step.Step.TheVariants.{Next, Jump, Output, Drop, Set, Copy, SetOutport, Exchange, DecTtl, CtNext, CtLb, CtLbTo, CtCommit, CtSnat, CtSnatTo, CtDnat, CtDnatTo, PutArp, GetArp}
-use Rattle.act_parse.specs.Token.{constant, constant_of, quoted, before_quote, is_at}
+use Rattle.expr_const.specs.Constant.{constant_of}
+use Rattle.act_parse.specs.Token.{constant, quoted, before_quote, is_at}
 use Rattle.act_parse.specs.Keyword.{keywords}
 use Rattle.act_parse.specs.Reading as reading
-use Rattle.act_parse.specs.Reading.Reading.{Read, Stuck}
-use Rattle.act_parse.specs.inner.Gives.{is_in_constant}
-use Rattle.act_parse.proofs.Choices.{none_from}
-use Rattle.act_parse.proofs.ConstantFronts.{constant_spelt}
+use Rattle.act_parse.specs.Reading.Reading.{Read}
+use Rattle.expr_const.specs.inner.Bytes.{is_in_constant}
+use Rattle.expr_const.proofs.Choices.{none_from}
+use Rattle.expr_const.proofs.ConstantFronts.{constant_spelt}
 use Rattle.act_laws.proofs.Constants.{stops, colon, decimal_read, ip4_read}
 use Rattle.act_laws.proofs.Written.{zero_first, no_constant, field_read, step_of_part, assigned_read, set_read, copy_read}
 

@@ -6,7 +6,7 @@ ghost use Rattle.act_parse.specs.Reading as reading;
 ghost use Rattle.act_parse.specs.inner.Gives.{Reads, shown};
 
 use crate::stop::{Read, stuck};
-use act_core::is_quotable;
+use nv_base::is_quotable;
 
 /// Whether a word may begin with this byte: a letter or `_`.
 fn begins_word(byte: u8) -> bool

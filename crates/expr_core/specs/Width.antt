@@ -2,7 +2,7 @@
 use Rattle.std.specs.Prelude.{ℕ, ◌+◌, ◌-◌, ◌/◌, ◌%◌, ◌^◌, Bool, true, false, ◌&&◌, if◌then◌else◌}
 use Rattle.expr_core.specs.declared.constant.Const.{Const}
 use Rattle.expr_core.specs.declared.constant.Form.{Form}
-use Rattle.expr_core.specs.declared.constant.Form.TheVariants.{Dec, Ip4}
+use Rattle.expr_core.specs.declared.constant.Form.TheVariants.{Dec, Hex, Mac, Ip4}
 use Rattle.expr_core.specs.declared.part.Bits.{Bits}
 use Rattle.expr_core.specs.declared.part.Bits.TheVariants.{Whole, Bit, Range}
 
@@ -37,3 +37,10 @@ prefix_mask len = 2 ^ 32 - 2 ^ (32 - len)
 -- the bits that count
 abbrev pub mask_of : Const → Const → ℕ
 mask_of base mask = if is_prefix base mask then prefix_mask mask.value else mask.value
+
+-- the numbers that a form spells are below this one
+abbrev pub limit : Form → ℕ
+limit Dec = 2 ^ 128
+limit Hex = 2 ^ 128
+limit Mac = 2 ^ 48
+limit Ip4 = 2 ^ 32

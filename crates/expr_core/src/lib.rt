@@ -30,7 +30,7 @@ pub use predicate::{Pred, pred_of};
 pub use role::Role;
 pub use subject::{Subject, subject_of};
 pub use test::{Test, prerequisite_tests};
-pub use text::put_tree;
+pub use text::{put_bits, put_const, put_tree};
 pub use tree::{Expr, Node, Tree, Typed};
 pub use typed::TypedAtom;
 pub use width::has_bits;

@@ -11,13 +11,15 @@ mod tree;
 mod typed;
 
 use crate::{Bits, Rel};
+pub use constant::put_const;
 pub(crate) use expr::put_read_atom;
 use nv_base::{OutOfMemory, put_dec};
 pub use tree::put_tree;
 pub(crate) use typed::put_typed_atom;
 
-// Which bits of a field, in brackets.
-fn put_bits(out: &mut Vec<u8>, bits: Bits) -> Result<(), OutOfMemory>
+/// Appends which bits of a field, in brackets; nothing where they are the whole field. After `OutOfMemory` the bytes before are
+/// first, and part of the text may follow.
+pub fn put_bits(out: &mut Vec<u8>, bits: Bits) -> Result<(), OutOfMemory>
     ensures ok { OnOk result (out.new.items ≡ out.old.items ++ bits_text bits) }
     ensures err { OnErr result (GrowsAtEnd out.old.items out.new.items) }
 {

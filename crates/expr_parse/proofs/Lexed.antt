@@ -1,32 +1,26 @@
 -- What the tokens of a text are, from any offset on: a blank, a word, a sign or a text in quotes before a text.
 use Rattle.std.proofs.Common.{◌≡◌, ℕ, suc, zero, ◌+◌, ◌<◌, List, [], ◌∷◌, ◌++◌, length, drop, Some, refl, ap, sym, subst, ◌∙◌, arith, append_assoc}
-use Rattle.std.proofs.Common.{length-append, ◌≤◌, Bool, true, false, cond, ◌||◌, ◌&&◌, take, None, eqb, get_or, not, ◌%◌, ◌^◌, Option}
-use Rattle.std.proofs.Common.{decimal}
+use Rattle.std.proofs.Common.{length-append, ◌≤◌, Bool, true, false, cond, ◌||◌, ◌&&◌, take, None, eqb, get_or, not, Option}
 use Rattle.std.proofs.lemmas.List.{drop_at}
 use Rattle.std.proofs.Math.Seq.{get_or-append_seam, take-append_seam}
 use Rattle.expr_core.specs.declared.comparison.Rel.TheVariants.{Eq, Ne, Lt, Le, Gt, Ge}
 use Rattle.nv_base.specs.Name.{is_name_byte}
-use Rattle.nv_base.specs.Ip4.{ip4_text}
-use Rattle.nv_base.specs.Mac.{mac_text}
-use Rattle.nv_base.specs.Number.{hexadecimal}
-use Rattle.nv_base.proofs.ByteTrips.{written_address, written_mac}
-use Rattle.nv_base.proofs.RoundTrips.{decimal_is_read, written_hexadecimal}
 use Rattle.expr_core.specs.declared.constant.Form.TheVariants.{Dec, Hex, Mac, Ip4 as Address}
-use Rattle.expr_core.specs.Text.{number_in}
-use Rattle.expr_parse.specs.Written.{limit}
 use Rattle.expr_core.specs.declared.constant.Form.TheVariants as form
 use Rattle.expr_parse.proofs.Words.{Token, blanks, first_token, in_front, tokens_at, tokens_from, kinds, list_all, option_map, and_parts, or_left}
 use Rattle.expr_parse.proofs.Words.{or_right, false≢true, length-take-le, get_or-take, list_all_at, mac_of, Class, Letter, Digit, Quote, Dollar, At}
 use Rattle.expr_parse.proofs.Words.{Other, begins_name, class_of, Name, Number, AddrSet, Group, constant, constant_of, is_in_name, is_name}
 use Rattle.expr_parse.proofs.Words.{name_after, spelled, is_in_constant, is_blank, Rel, rel_text, Relation, And, Or, Not, Open, Close, OpenBrace}
 use Rattle.expr_parse.proofs.Words.{CloseBrace, OpenBracket, CloseBracket, Comma, Slash, Dots, sign_among, signs, prefix_len, eqb-true, Text}
-use Rattle.expr_parse.proofs.Words.{is_quotable, is_digit, join_with_byte, and_right, false_from_ne_true, list_all-append, octet_of, pair_of, address}
-use Rattle.expr_parse.proofs.Words.{ip4_of, Ip4, decimal_of, Const, Form, const_text, or_else, number_after_0x, IsConst}
+use Rattle.expr_parse.proofs.Words.{is_quotable, false_from_ne_true}
+use Rattle.expr_parse.proofs.Words.{Ip4, Const, const_text, or_else, IsConst}
 use Rattle.expr_parse.proofs.Lexing.{standing}
 use Rattle.expr_parse.proofs.Longest.{none_from, guarded, mapped, chosen, NoneBetween, found}
 use Rattle.expr_parse.proofs.Fronts.{apart, numbered, never_numbered, constant_begins, spelled_by, kind, fronts}
-use Rattle.expr_parse.proofs.TokenFronts.{constant_spelt, mac_byte, name_all, with_name, pair_found, single_found, is_plain, quotable_bytes, some_text, without_name}
-use Rattle.expr_parse.proofs.Shapes.{weaker, mac_digits, decimal_parts, split_parts, ip4_number, ip4_digits, ip4_length, mac_not_so_long, hexadecimal_parts}
+use Rattle.expr_const.proofs.ConstantFronts.{constant_spelt, mac_byte}
+use Rattle.expr_const.proofs.Misses.{mac_fails, spells}
+use Rattle.expr_parse.proofs.TokenFronts.{name_all, with_name, pair_found, single_found, is_plain, quotable_bytes, some_text, without_name}
+use Rattle.expr_parse.proofs.Shapes.{weaker, mac_digits}
 
 -- from each offset on, these are the tokens of the text, and they reach its end
 abbrev pub Lexed : List ℕ → List Token → Type 0
@@ -281,69 +275,9 @@ quotes name rest ts may after =
 
 -- A written constant is a word that spells it.
 
--- what is between pieces
-between : (q : ℕ → Bool) (c : ℕ) (parts : List (List ℕ)) → 2 ≤ length parts → q c ≡ false → list_all q (join_with_byte c parts) ≡ false
-between q c [] two fails = absurd (omega arith)
-between q c (p ∷ []) two fails = absurd (omega arith)
-between q c (p ∷ r ∷ ps) two fails = rw (list_all-append q p (c ∷ join_with_byte c (r ∷ ps)), fails, and_right (list_all q p) false refl) refl
-
--- a MAC has a byte `:`, and an address a byte `.`
-mac_fails : (q : ℕ → Bool) (text : List ℕ) (n : ℕ) → q 58 ≡ false → mac_of text ≡ Some n → list_all q text ≡ false
-mac_fails q text n fails e = let split = split_parts pair_of 6 58 text n e in subst (λ (xs : List ℕ). list_all q xs ≡ false) split.3 (between q 58 split.0 (omega (arith, split.1)) fails)
-
-ip4_fails : (q : ℕ → Bool) (text : List ℕ) (a : Ip4) → q 46 ≡ false → ip4_of text ≡ Some a → list_all q text ≡ false
-ip4_fails q text a fails e =
-    let number = ip4_number text a e in
-    let split = split_parts octet_of 4 46 text number.0 number.1 in
-    subst (λ (xs : List ℕ). list_all q xs ≡ false) split.3 (between q 46 split.0 (omega (arith, split.1)) fails)
-
-pub no_decimal : (text : List ℕ) → list_all (λ c. is_digit c 10) text ≡ false → decimal_of text ≡ None
-no_decimal text fails = none_from (decimal_of text) (λ v e. false≢true (sym fails ∙ (decimal_parts text v e).1))
-
--- no byte of these is an `x`
-no_hexadecimal : (q : ℕ → Bool) (text : List ℕ) → q 120 ≡ false → list_all q text ≡ true → number_after_0x text ≡ None
-no_hexadecimal q text fails all = none_from (number_after_0x text) (λ n e.
-    let parts = hexadecimal_parts text n e in
-    let after = (and_parts (q 48) (q 120 && list_all q parts.0) (subst (λ (xs : List ℕ). list_all q xs ≡ true) parts.1 all)).1 in
-    false≢true (sym fails ∙ (and_parts (q 120) (list_all q parts.0) after).0))
-
 -- the constant by its form
 abbrev pub constant_from : Option ℕ → Option ℕ → Option ℕ → Option Ip4 → Option Const
 constant_from d h m a = or_else (option_map (constant Dec) d) (or_else (option_map (constant Hex) h) (or_else (option_map (constant Mac) m) (option_map (λ a. constant Address a.0) a)))
-
-is_decimal : (d h m : Option ℕ) (a : Option Ip4) (v : ℕ) → d ≡ Some v → constant_from d h m a ≡ Some (constant Dec v)
-is_decimal d h m a v e = rw e refl
-
-is_hexadecimal : (d h m : Option ℕ) (a : Option Ip4) (v : ℕ) → d ≡ None → h ≡ Some v → constant_from d h m a ≡ Some (constant Hex v)
-is_hexadecimal d h m a v e f = rw (e, f) refl
-
-is_mac : (d h m : Option ℕ) (a : Option Ip4) (v : ℕ) → d ≡ None → h ≡ None → m ≡ Some v → constant_from d h m a ≡ Some (constant Mac v)
-is_mac d h m a v e f g = rw (e, f, g) refl
-
-is_address : (d h m : Option ℕ) (a : Option Ip4) (v : ℕ) → d ≡ None → h ≡ None → m ≡ None → a ≡ Some (address v) → constant_from d h m a ≡ Some (constant Address v)
-is_address d h m a v e f g i = rw (e, f, g, i) refl
-
-mac_constant : (text : List ℕ) (v : ℕ) → mac_of text ≡ Some v → constant_of text ≡ Some (constant Mac v)
-mac_constant text v e =
-    is_mac (decimal_of text) (number_after_0x text) (mac_of text) (ip4_of text) v
-    (no_decimal text (mac_fails (λ c. is_digit c 10) text v refl e)) (no_hexadecimal _ text refl (mac_digits text v e)) e
-
-address_constant : (text : List ℕ) (v : ℕ) → ip4_of text ≡ Some (address v) → constant_of text ≡ Some (constant Address v)
-address_constant text v e =
-    let few : (length text ≡ 17 → ⊥) = λ long. omega (arith, long, ip4_length text (address v) e) in
-    is_address (decimal_of text) (number_after_0x text) (mac_of text) (ip4_of text) v
-    (no_decimal text (ip4_fails (λ c. is_digit c 10) text (address v) refl e)) (no_hexadecimal _ text refl (ip4_digits text (address v) e)) (mac_not_so_long text few) e
-
--- what is written of a number is the constant
-spells : (f : Form) (v : ℕ) → v < limit f → constant_of (number_in f v) ≡ Some (constant f v)
-spells Dec v small = is_decimal (decimal_of (decimal v)) (number_after_0x (decimal v)) (mac_of (decimal v)) (ip4_of (decimal v)) v (decimal_is_read v small)
-spells Hex v small = is_hexadecimal (decimal_of (hexadecimal v)) (number_after_0x (hexadecimal v)) (mac_of (hexadecimal v)) (ip4_of (hexadecimal v)) v (no_decimal (hexadecimal v) refl) (written_hexadecimal v small)
-spells Mac v small =
-    let same : v % 2 ^ 48 ≡ v = omega (arith, small) in
-    ap (λ (n : ℕ). constant_of (mac_text n)) same ∙ mac_constant (mac_text v) v (written_mac v small)
-spells Address v small =
-    let same : v % 2 ^ 32 ≡ v = omega (arith, small) in
-    ap (λ (n : ℕ). constant_of (ip4_text (address n))) same ∙ address_constant (ip4_text (address v)) v (written_address v small)
 
 -- a text that spells a constant is a word
 spelt_word : (w : List ℕ) (c : Const) → constant_of w ≡ Some c → IsWord w (Number c)

@@ -1,16 +1,15 @@
 -- The text of a tree has the tree's tokens: bits, parts, atoms and operands before a text.
-use Rattle.std.proofs.Common.{◌≡◌, ℕ, suc, zero, ◌+◌, ◌-◌, ◌<◌, ◌≤◌, Bool, true, false, cond, eqb, ◌&&◌, ◌||◌, is_some, List, [], ◌∷◌, ◌++◌, length}
+use Rattle.std.proofs.Common.{◌≡◌, ℕ, suc, ◌+◌, ◌-◌, ◌<◌, ◌≤◌, Bool, true, false, cond, eqb, ◌||◌, List, [], ◌∷◌, ◌++◌, length}
 use Rattle.std.proofs.Common.{take, get_or, Option, Some, None, refl, ap, sym, subst, ◌∙◌, arith, decimal, append_assoc, length-append, append-nil}
 use Rattle.std.proofs.Math.Seq.{take-append_seam, take-append-add}
-use Rattle.std.proofs.lemmas.List.Splits.{slice_split_at}
 use Rattle.nv_base.proofs.ByteTrips.{decimal_is_clear}
 use Rattle.nv_base.proofs.RoundTrips.{decimal_is_read}
 use Rattle.expr_core.specs.Text.{item_text, items_text, right_text, part_text, truth_text, enclosed, formula_text, operands_text, relation_text}
 use Rattle.expr_core.specs.declared.constant.Form.TheVariants as form
 use Rattle.expr_core.specs.declared.comparison.Item.TheVariants as item_of
 use Rattle.expr_core.specs.declared.comparison.Right.TheVariants as right_of
-use Rattle.expr_parse.proofs.Words.{is_digit, All, list_all, slice_split, option_map, and_parts, and_right, eqb-false, false≢true, list_all-append}
-use Rattle.expr_parse.proofs.Words.{octet_of, number_of_parts, address, ip4_of, Ip4, mac_of, decimal_of, Bits, Whole, Bit, Range, bits_text, Digit}
+use Rattle.expr_parse.proofs.Words.{is_digit, All, list_all, option_map, and_parts, and_right, eqb-false, false≢true, list_all-append}
+use Rattle.expr_parse.proofs.Words.{ip4_of, Ip4, mac_of, decimal_of, Bits, Whole, Bit, Range, bits_text, Digit}
 use Rattle.expr_parse.proofs.Words.{class_of, Token, Number, CloseBracket, Dots, constant, constant_of, number_after_0x, spelled, is_blank, blanks}
 use Rattle.expr_parse.proofs.Words.{first_token, decimal_token, bits_tokens, AreBits, Const, Item, Right, Atom, Truth, Bare, Compare, Part}
 use Rattle.expr_parse.proofs.Words.{const_text, rel_text, atom_text, Name, AddrSet, Group, Relation, Slash, Comma, OpenBrace, CloseBrace}
@@ -20,8 +19,9 @@ use Rattle.expr_parse.proofs.Words.{needs_parentheses, expr_writing, expr_text, 
 use Rattle.expr_parse.proofs.Words.{IsLexed, enclosed_tokens, tree_tokens, operand_tokens, more_tokens, AreTwo, IsWellFormed, AreWellFormed}
 use Rattle.expr_parse.proofs.Longest.{none_from, NoneBetween, found}
 use Rattle.expr_parse.proofs.Fronts.{decimal_class, apart, fronts, spelled_by}
+use Rattle.expr_const.proofs.Misses.{no_decimal, no_address}
 use Rattle.expr_parse.proofs.Shapes.{decimal_parts, hexadecimal_parts, mac_digits}
-use Rattle.expr_parse.proofs.Lexed.{Lexed, respelled, token, constant_from, no_decimal, constant_word, opening_bracket, closing_bracket, dots, leads, no_blank, word, regrouped, three_pieces, blank}
+use Rattle.expr_parse.proofs.Lexed.{Lexed, respelled, token, constant_from, constant_word, opening_bracket, closing_bracket, dots, leads, no_blank, word, regrouped, three_pieces, blank}
 use Rattle.expr_parse.proofs.Lexed.{quotes, slash, comma, opening_brace, closing_brace, relation, Stops, IsWord, name_word, set_word, group_word, nothing, opening, closing, negation, conjunction}
 use Rattle.expr_parse.proofs.Lexed.{disjunction, name_class}
 
@@ -37,25 +37,6 @@ no_mark digit a dot mark x (y ∷ xs) ys ds other apart all e =
     let rest = (and_parts (digit x) (list_all digit (y ∷ xs)) all).1 in
     let passes = (and_parts (digit y) (list_all digit xs) rest).0 in
     false≢true (sym apart ∙ subst (λ (n : ℕ). digit n ≡ true) second passes)
-
--- an empty part is no byte
-refused : (a b : Bool) (n : ℕ) → b ≡ false → cond (a && b) (Some n) None ≡ None
-refused a b n e = rw (e, and_right a false refl) refl
-
-empty_part : (d : List ℕ) (more : List (List ℕ)) → number_of_parts octet_of 4 (d ∷ [] ∷ more) ≡ None
-empty_part d more = refused (eqb (suc (suc (length more))) 4) (is_some (octet_of d) && false) _ (and_right (is_some (octet_of d)) false refl)
-
--- where the bytes after a dot end, or begin with a dot, the part after it is empty
-empty_after : (rest : List ℕ) (j : ℕ) → (more : List (List ℕ)) × (slice_split (λ b. eqb b 46) (take j (46 ∷ rest)) ≡ [] ∷ more)
-empty_after rest zero = ([], refl)
-empty_after rest (suc j) = (slice_split (λ b. eqb b 46) (take j rest), refl)
-
-no_address : (d rest : List ℕ) (j : ℕ) → All (λ x. eqb x 46 ≡ false) d → ip4_of (d ++ 46 ∷ take j (46 ∷ rest)) ≡ None
-no_address d rest j clear =
-    let empty = empty_after rest j in
-    let parts : slice_split (λ b. eqb b 46) (d ++ 46 ∷ take j (46 ∷ rest)) ≡ d ∷ [] ∷ empty.0 =
-    slice_split_at (λ b. eqb b 46) d 46 (take j (46 ∷ rest)) clear refl ∙ ap (λ (ps : List (List ℕ)). d ∷ ps) empty.1 in
-    ap (λ (ps : List (List ℕ)). option_map address (number_of_parts octet_of 4 ps)) parts ∙ ap (option_map address) (empty_part d empty.0)
 
 -- what has a dot, and is no number after `0x`, MAC or address, is no constant
 missing : (text : List ℕ) → ((q : ℕ → Bool) → q 46 ≡ false → list_all q text ≡ false) → number_after_0x text ≡ None → mac_of text ≡ None → ip4_of text ≡ None → constant_of text ≡ None

@@ -1,17 +1,9 @@
 -- The longest front of a text that is a token, runs of bytes, and choices between a value and none.
-use Rattle.std.proofs.Common.{◌≡◌, Bool, true, false, cond, Option, Some, None, inl, inr, refl, ℕ, suc, ◌+◌, ◌<◌, ◌≤◌, List, [], ◌∷◌, length, take, arith, zero, ◌∙◌}
-use Rattle.expr_parse.proofs.Words.{option_map, or_else, list_all, prefix_len, get_or-take, length-take-le, list_all_at, prefix_len_stops, cases_lt}
+pub use Rattle.expr_const.proofs.Choices.{none_from, guarded}
+pub use Rattle.expr_const.proofs.Runs.{run_ends}
+use Rattle.std.proofs.Common.{◌≡◌, Bool, true, false, cond, Option, Some, None, inl, inr, refl, ℕ, suc, ◌+◌, ◌<◌, ◌≤◌, List, [], ◌∷◌, take, arith, zero, ◌∙◌}
+use Rattle.expr_parse.proofs.Words.{option_map, or_else, list_all, prefix_len, cases_lt}
 use Rattle.expr_parse.proofs.Words.{some_pair_parts, Token, longest}
-
--- what can be no value is none
-pub none_from : {T : Type 0} (o : Option T) → ((x : T) → o ≡ Some x → ⊥) → o ≡ None
-none_from None never = refl
-none_from (Some x) never = absurd (never x refl)
-
--- a value after a test
-pub guarded : {T : Type 0} (b : Bool) (o : Option T) (x : T) → cond b o None ≡ Some x → (b ≡ true) × (o ≡ Some x)
-guarded true o x e = (refl, e)
-guarded false o x e = absurd cc
 
 pub mapped : {T U : Type 0} (f : T → U) (o : Option T) (y : U) → option_map f o ≡ Some y → (x : T) × (o ≡ Some x) × (f x ≡ y)
 mapped f None y e = absurd cc
@@ -30,11 +22,6 @@ run_passes {X} p (x ∷ xs) = go (p x) refl (run_passes p xs)
     go : (b : Bool) → p x ≡ b → list_all p (take (prefix_len p xs) xs) ≡ true → list_all p (take (cond b (1 + prefix_len p xs) 0) (x ∷ xs)) ≡ true
     go true e rest = let one : 1 + prefix_len p xs ≡ suc (prefix_len p xs) = omega arith in rw (one, e) rest
     go false e rest = refl
-
-pub run_ends : {X : Type 0} (p : X → Bool) (xs : List X) (k : ℕ) (d : X) → prefix_len p xs < k → k ≤ length xs → list_all p (take k xs) ≡ false
-run_ends p xs k d past within =
-    let here : prefix_len p xs < length (take k xs) = rw (length-take-le k xs within) past in
-    list_all_at p (take k xs) (prefix_len p xs) d here (rw (get_or-take k xs (prefix_len p xs) d past) (prefix_len_stops p xs d (omega arith)))
 
 -- The longest front of a text that is a token.
 

@@ -1,19 +1,20 @@
 -- The longest token of a text, by the byte that it begins with.
 use Rattle.std.proofs.Common.{◌≡◌, ℕ, suc, zero, ◌+◌, ◌<◌, ◌≤◌, Bool, true, false, cond, ltb, leb, eqb, ◌&&◌, List, [], ◌∷◌, length, take, drop}
-use Rattle.std.proofs.Common.{get_or, Option, Some, None, refl, ap, sym, subst, ◌∙◌, arith, inl, inr, ◌-◌, not, ◌||◌, codes, nat_eq, min}
+use Rattle.std.proofs.Common.{get_or, Option, Some, None, refl, ap, sym, subst, ◌∙◌, arith, inl, inr, ◌-◌, not, ◌||◌, codes, nat_eq}
 use Rattle.std.proofs.lemmas.Bool.{cases_eq, not-false, cases_order}
 use Rattle.std.specs.Cmp.Lexicographic.{same_text, as_long}
 use Rattle.std.proofs.lemmas.List.Sums.{prefix_len_passes}
 use Rattle.nv_base.specs.Name.{is_name_byte, is_object_name}
 use Rattle.expr_core.specs.declared.constant.Form.TheVariants as form
+use Rattle.expr_const.specs.Constant.{longest as longest_constant}
 use Rattle.expr_parse.proofs.Words.{list_all, prefix_len, option_map, and_parts, and_from, or_left, and_left, lt-ltb, ltb-true, leb-true, le-leb}
 use Rattle.expr_parse.proofs.Words.{eqb-true, false_from_ne_true, false≢true, length-take-le, prefix_len-le-length, cond_some, mac_of, Const}
 use Rattle.expr_parse.proofs.Words.{Letter, begins_name, class_of, Token, Name, Number, or_else, constant, is_in_name, is_name, name_after, spelled}
 use Rattle.expr_parse.proofs.Words.{front_name, longest, pointwise, and_right, or_cases, not-true, get_or-take, take-take, list_all_at}
-use Rattle.expr_parse.proofs.Words.{prefix_len_stops, Quote, Text, is_quotable, quoted_of, Other, sign_among, signs, is_digit, digit_value, or_right}
-use Rattle.expr_parse.proofs.Words.{ip4_of, decimal_of, Digit, constant_of, number_after_0x, is_in_constant}
-use Rattle.expr_parse.proofs.Longest.{guarded, NoneBetween, cut, found, run_passes, run_ends, none_from, mapped, chosen, shorter, here}
-use Rattle.expr_parse.proofs.Shapes.{mac_not_so_long, decimal_parts, decimal_length, weaker, hexadecimal_parts, mac_digits, mac_length, ip4_digits, ip4_length}
+use Rattle.expr_parse.proofs.Words.{prefix_len_stops, Quote, Text, is_quotable, quoted_of, Other, sign_among, signs}
+use Rattle.expr_parse.proofs.Words.{Digit, constant_of}
+use Rattle.expr_parse.proofs.Longest.{guarded, NoneBetween, cut, found, run_passes, run_ends}
+use Rattle.expr_parse.proofs.Shapes.{mac_not_so_long}
 use Rattle.expr_parse.proofs.Fronts.{told, fronts}
 
 -- each byte of a name may be in one
@@ -341,74 +342,16 @@ none_found text some first missing alone = sym (cut spelled 0 (length text) text
 
 -- The longest token of a text that begins with a digit.
 
--- what is known of the text of a constant
-abbrev pub Spelt : List ℕ → Type 0
-Spelt text = (list_all is_in_constant text ≡ true) × (length text ≤ 39)
+abbrev pub number_token : Const × ℕ → Token × ℕ
+number_token x = (Number x.0, x.1)
 
-hexadecimal_byte : (c : ℕ) → is_digit c 16 ≡ true → is_in_constant c ≡ true
-hexadecimal_byte c e = or_left _ _ (or_left _ _ (or_left (is_digit c 16) _ e))
+number_or : (o : Option Const) (others : Option (Const × ℕ)) (tokens : Option (Token × ℕ)) (m : ℕ) → tokens ≡ option_map number_token others
+    → or_else (option_map (λ t. (t, m)) (option_map Number o)) tokens ≡ option_map number_token (or_else (option_map (λ c. (c, m)) o) others)
+number_or None others tokens m same = same
+number_or (Some c) others tokens m same = refl
 
-decimal_byte : (c : ℕ) → is_digit c 10 ≡ true → is_in_constant c ≡ true
-decimal_byte c e = hexadecimal_byte c (more (digit_value c) e)
-  where
-    more : (n : ℕ) → ltb n 10 ≡ true → ltb n 16 ≡ true
-    more n e = lt-ltb n 16 (omega (arith, ltb-true n 10 e))
-
-pub mac_byte : (c : ℕ) → (is_digit c 16 || eqb c 58) ≡ true → is_in_constant c ≡ true
-mac_byte c e = elim (or_cases (is_digit c 16) (eqb c 58) e) as (λ _. is_in_constant c ≡ true) [ inl digit ↦ hexadecimal_byte c digit | inr colon ↦ or_right _ (eqb c 58) colon ]
-
-ip4_byte : (c : ℕ) → (is_digit c 10 || eqb c 46) ≡ true → is_in_constant c ≡ true
-ip4_byte c e = elim (or_cases (is_digit c 10) (eqb c 46) e) as (λ _. is_in_constant c ≡ true) [ inl digit ↦ decimal_byte c digit | inr dot ↦ or_left _ _ (or_right _ (eqb c 46) dot) ]
-
-decimal_spelt : (text : List ℕ) (v : ℕ) → decimal_of text ≡ Some v → Spelt text
-decimal_spelt text v e =
-    let parts = decimal_parts text v e in
-    (weaker (λ c. is_digit c 10) is_in_constant decimal_byte text parts.1, (decimal_length 39 text v e (omega (arith, parts.3)) (omega arith)).1)
-
-hexadecimal_spelt : (text : List ℕ) (v : ℕ) → number_after_0x text ≡ Some v → Spelt text
-hexadecimal_spelt text v e =
-    let parts = hexadecimal_parts text v e in
-    let digits = weaker (λ c. is_digit c 16) is_in_constant hexadecimal_byte parts.0 parts.3 in
-    let P : List ℕ → Type 0 = Spelt in
-    subst P (sym parts.1) (digits, omega (arith, parts.2))
-
-mac_spelt : (text : List ℕ) (n : ℕ) → mac_of text ≡ Some n → Spelt text
-mac_spelt text n e = (weaker (λ c. is_digit c 16 || eqb c 58) is_in_constant mac_byte text (mac_digits text n e), omega (arith, mac_length text n e))
-
-pub constant_spelt : (text : List ℕ) (c : Const) → constant_of text ≡ Some c → Spelt text
-constant_spelt text c e =
-    chosen _ _ c e (λ d. let v = mapped (constant form.Dec) (decimal_of text) c d in decimal_spelt text v.0 v.1)
-    (λ e. chosen _ _ c e (λ h. let v = mapped (constant form.Hex) (number_after_0x text) c h in hexadecimal_spelt text v.0 v.1)
-    (λ e. chosen _ _ c e (λ m. let v = mapped (constant form.Mac) (mac_of text) c m in mac_spelt text v.0 v.1)
-    (λ i. let v = mapped (λ a. constant form.Ip4 a.0) (ip4_of text) c i in
-    (weaker _ is_in_constant ip4_byte text (ip4_digits text v.0 v.1), omega (arith, ip4_length text v.0 v.1)))))
-
--- no constant is longer than the run of its bytes among the first 39
-no_longer : (text : List ℕ) (k : ℕ) → prefix_len is_in_constant (take (min (length text) 39) text) < k → k ≤ length text → constant_of (take k text) ≡ None
-no_longer text k past within = none_from (constant_of (take k text)) (λ c e.
-    let spelt = constant_spelt (take k text) c e in
-    let long : length (take k text) ≡ k = length-take-le k text within in
-    let short : k ≤ min (length text) 39 = omega (arith, spelt.1, long) in
-    let room : length (take (min (length text) 39) text) ≡ min (length text) 39 = length-take-le (min (length text) 39) text (omega arith) in
-    let beyond : list_all is_in_constant (take k (take (min (length text) 39) text)) ≡ false = run_ends is_in_constant (take (min (length text) 39) text) k 0 past (omega (arith, room, short)) in
-    false≢true (sym (subst (λ (xs : List ℕ). list_all is_in_constant xs ≡ false) (take-take k (min (length text) 39) text short) beyond) ∙ spelt.0))
-
-pub begins : (text : List ℕ) (most m : ℕ) → 0 < length text → class_of (get_or text 0 0) ≡ Digit → most ≡ min (length text) 39 → m ≡ prefix_len is_in_constant (take most text) → (m ≤ length text) × (longest spelled m text ≡ longest spelled (length text) text)
-begins text most m some first limit is =
-    let run : m ≡ prefix_len is_in_constant (take (min (length text) 39) text) = is ∙ ap (λ (n : ℕ). prefix_len is_in_constant (take n text)) limit in
-    let room : length (take (min (length text) 39) text) ≡ min (length text) 39 = length-take-le (min (length text) 39) text (omega arith) in
-    let within : m ≤ length text = omega (arith, run, room, prefix_len-le-length is_in_constant (take (min (length text) 39) text)) in
-    let beyond : NoneBetween spelled m (length text) text = λ k past high.
-    fronts Digit text k some first (omega arith) ∙ ap (option_map Number) (no_longer text k (omega (arith, run, past)) high) in
-    (within, sym (cut spelled m (length text) text within beyond))
-
--- one front after the other, from the longest
-pub goes_on : (text : List ℕ) (m : ℕ) → 0 < length text → class_of (get_or text 0 0) ≡ Digit → 0 < m → None ≡ constant_of (take m text) → longest spelled (m - 1) text ≡ longest spelled m text
-goes_on text zero some first low missing = absurd (omega arith)
-goes_on text (suc m) some first low missing =
-    let back : suc m - 1 ≡ m = omega arith in
-    rw back (sym (shorter spelled m text (fronts Digit text (suc m) some first low ∙ ap (option_map Number) (sym missing))))
-
-pub ends : (text : List ℕ) (m : ℕ) (c : Const) → 0 < length text → class_of (get_or text 0 0) ≡ Digit → 0 < m → Some c ≡ constant_of (take m text) → Some (Number c, m) ≡ longest spelled m text
-ends text zero c some first low is = absurd (omega arith)
-ends text (suc m) c some first low is = sym (here spelled m text (Number c) (fronts Digit text (suc m) some first low ∙ ap (option_map Number) (sym is)))
+-- it is the longest constant
+pub longest_number : (text : List ℕ) (n : ℕ) → 0 < length text → class_of (get_or text 0 0) ≡ Digit → longest spelled n text ≡ option_map number_token (longest_constant n text)
+longest_number text zero some first = refl
+longest_number text (suc n) some first =
+    rw (fronts Digit text (suc n) some first (omega arith)) (number_or (constant_of (take (suc n) text)) (longest_constant n text) (longest spelled n text) (suc n) (longest_number text n some first))

@@ -13,13 +13,14 @@ pub use Rattle.nv_base.specs.Bytes.{octet_of, pair_of, number_of_parts}
 pub use Rattle.nv_base.specs.Ip4.{address, ip4_of}
 pub use Rattle.nv_base.specs.declared.ip4.Ip4.{Ip4}
 pub use Rattle.nv_base.specs.Mac.{mac_of}
+pub use Rattle.nv_base.specs.Name.{is_quotable}
 pub use Rattle.nv_base.specs.Number.{digits_number, decimal_of, hexadecimal_of}
 pub use Rattle.expr_core.specs.Formula.{Formula, Formulas, formulas, formulas_map}
 pub use Rattle.expr_core.specs.Formula.Formula.{Leaf, Not as Negation, And as Conjunction, Or as Disjunction}
 pub use Rattle.expr_core.specs.Formula.Formulas.{Nil, Cons}
 pub use Rattle.expr_core.specs.Text.{is_joined, needs_parentheses, expr_writing, expr_text, bits_text, const_text, rel_text, atom_text}
 pub use Rattle.expr_core.specs.WellFormed.{AreTwo, IsWellFormed, AreWellFormed, one_if, levels_of, levels_among}
-pub use Rattle.expr_core.specs.Width.{is_decimal}
+pub use Rattle.expr_core.specs.Width.{is_decimal, limit}
 pub use Rattle.expr_core.specs.declared.comparison.Item.{Item}
 pub use Rattle.expr_core.specs.declared.comparison.Rel.{Rel}
 pub use Rattle.expr_core.specs.declared.comparison.Right.{Right}
@@ -30,6 +31,8 @@ pub use Rattle.expr_core.specs.declared.expr.Atom.TheVariants.{Truth, Bare, Comp
 pub use Rattle.expr_core.specs.declared.part.Bits.{Bits}
 pub use Rattle.expr_core.specs.declared.part.Bits.TheVariants.{Whole, Bit, Range}
 pub use Rattle.expr_core.specs.declared.part.Part.{Part}
+pub use Rattle.expr_const.specs.Constant.{or_else, constant_in as constant, number_after_0x, constant_of}
+pub use Rattle.expr_const.specs.inner.Bytes.{is_in_constant}
 pub use Rattle.expr_parse.specs.Class.{begins_name}
 pub use Rattle.expr_parse.specs.Faults.{fault_offset, up_to, BeginsWith}
 pub use Rattle.expr_parse.specs.Grammar.{Reading, and_then, bit_number, last_bit, first_bit, bits, part_of, part, mask, number, item, items, right, compared, truth, closed}
@@ -42,7 +45,7 @@ pub use Rattle.expr_parse.specs.GrammarRules.IsMatch.{alone, joined as is_match}
 pub use Rattle.expr_parse.specs.GrammarRules.AreUnits.{last, more}
 pub use Rattle.expr_parse.specs.GrammarRules.IsUnit.{plain, comparison}
 pub use Rattle.expr_parse.specs.GrammarRules.IsOperand.{truth as is_truth, bare as is_bare, negation as is_negation, enclosed as is_enclosed}
-pub use Rattle.expr_parse.specs.Spelling.{or_else, is_in_name, is_name, name_after, is_quotable, quoted_of, constant, number_after_0x, constant_of, signs, sign_among, spelled}
+pub use Rattle.expr_parse.specs.Spelling.{is_in_name, is_name, name_after, quoted_of, signs, sign_among, spelled}
 pub use Rattle.expr_parse.specs.Token.{Token, Tokens}
 pub use Rattle.expr_parse.specs.Token.Token.{Name, Number, Text, AddrSet, Group, Relation, And, Or, Not, Open, Close, OpenBrace, CloseBrace, OpenBracket, CloseBracket, Comma, Slash, Dots}
 pub use Rattle.expr_parse.specs.Tokens.{is_blank, blanks, longest, first_token, in_front, tokens_at, tokens_from, tokens_of}
@@ -56,5 +59,5 @@ pub use Rattle.expr_parse.specs.declared.operator.Operator.{Operator}
 pub use Rattle.expr_parse.specs.declared.token.TokenAt.{TokenAt}
 pub use Rattle.expr_parse.specs.inner.Borrowed.{token_of, token_at}
 pub use Rattle.expr_parse.specs.inner.Class.{class_of}
-pub use Rattle.expr_parse.specs.inner.Fronts.{front_name, is_in_constant}
+pub use Rattle.expr_parse.specs.inner.Fronts.{front_name}
 pub use Rattle.expr_parse.specs.inner.Gives.{seen}

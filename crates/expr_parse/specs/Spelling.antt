@@ -1,24 +1,14 @@
 -- Which texts spell a token.
 use Rattle.std.specs.Prelude.{ℕ, ◌-◌, ◌==◌, ◌||◌, ◌&&◌, Bool, false, nat_le, nat_eq, List, [], ◌∷◌, length, take, drop, slice_index, Option, Some, None, codes, if◌then◌else◌}
-use Rattle.std.specs.List.{list_all, starts_with}
+use Rattle.std.specs.List.{list_all}
 use Rattle.std.specs.Cmp.Lexicographic.{pointwise}
 use Rattle.std.specs.Option.{option_map}
-use Rattle.nv_base.specs.Name.{is_object_name}
-use Rattle.nv_base.specs.Number.{decimal_of, hexadecimal_of}
-use Rattle.nv_base.specs.Mac.{mac_of}
-use Rattle.nv_base.specs.Ip4.{ip4_of}
-use Rattle.expr_core.specs.declared.constant.Const.{Const}
-use Rattle.expr_core.specs.declared.constant.Form.{Form}
-use Rattle.expr_core.specs.declared.constant.Form.TheVariants as form
+use Rattle.nv_base.specs.Name.{is_quotable}
 use Rattle.expr_core.specs.declared.comparison.Rel.TheVariants.{Eq, Ne, Lt, Le, Gt, Ge}
+use Rattle.expr_const.specs.Constant.{or_else, constant_of}
 use Rattle.expr_parse.specs.Class.{is_between, begins_name}
 use Rattle.expr_parse.specs.Token.{Token}
 use Rattle.expr_parse.specs.Token.Token.{Name, Number, Text, AddrSet, Group, Relation, And, Or, Not, Open, Close, OpenBrace, CloseBrace, OpenBracket, CloseBracket, Comma, Slash, Dots}
-
--- the first of two that is there
-abbrev pub or_else : {T : Type 0} → Option T → Option T → Option T
-or_else None second = second
-or_else (Some t) second = Some t
 
 -- a letter, a digit, `_` or `.`
 abbrev pub is_in_name : ℕ → Bool
@@ -34,10 +24,6 @@ abbrev pub name_after : ℕ → List ℕ → Option (List ℕ)
 name_after mark [] = None
 name_after mark (b ∷ bs) = if (b == mark) && is_name bs then Some bs else None
 
--- the name of a port, or of a multicast group
-abbrev pub is_quotable : List ℕ → Bool
-is_quotable text = is_object_name text || pointwise nat_eq text (codes "_MC_flood") || pointwise nat_eq text (codes "_MC_unknown")
-
 -- what is between the first byte and the last
 abbrev pub inside : List ℕ → List ℕ
 inside text = take (length text - 2) (drop 1 text)
@@ -49,22 +35,6 @@ is_quoted text = nat_le 2 (length text) && (slice_index text 0 == 34) && (slice_
 -- what is between double quotes, where it may
 abbrev pub quoted_of : List ℕ → Option (List ℕ)
 quoted_of text = if is_quoted text && is_quotable (inside text) then Some (inside text) else None
-
--- the constant of this form and number
-abbrev pub constant : Form → ℕ → Const
-constant f n = record { form = f; value = n }
-
--- the number after `0x`
-abbrev pub number_after_0x : List ℕ → Option ℕ
-number_after_0x text = if starts_with nat_eq text (codes "0x") then hexadecimal_of (drop 2 text) else None
-
--- the constant that a text spells
-abbrev pub constant_of : List ℕ → Option Const
-constant_of text =
-    or_else (option_map (constant form.Dec) (decimal_of text))
-    (or_else (option_map (constant form.Hex) (number_after_0x text))
-    (or_else (option_map (constant form.Mac) (mac_of text))
-    (option_map (λ a. constant form.Ip4 a.0) (ip4_of text))))
 
 -- the signs, and how each is spelled
 abbrev pub signs : List (List ℕ × Token)

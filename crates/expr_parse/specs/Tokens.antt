@@ -2,8 +2,9 @@
 use Rattle.std.specs.Prelude.{ℕ, zero, suc, ◌+◌, ◌==◌, ◌||◌, Bool, List, [], ◌∷◌, length, take, drop, Option, Some, None}
 use Rattle.std.specs.List.{prefix_len}
 use Rattle.std.specs.Option.{option_map}
+use Rattle.expr_const.specs.Constant.{or_else}
 use Rattle.expr_parse.specs.Token.{Token, Tokens}
-use Rattle.expr_parse.specs.Spelling.{or_else, spelled}
+use Rattle.expr_parse.specs.Spelling.{spelled}
 
 -- a space or a tab
 abbrev pub is_blank : ℕ → Bool

@@ -1,13 +1,13 @@
 -- Trees that have a text, and the tokens of that text.
-use Rattle.std.specs.Prelude.{◌≡◌, ℕ, ◌<◌, ◌^◌, Bool, true, List, [], ◌∷◌, ◌++◌, length, if◌then◌else◌}
+use Rattle.std.specs.Prelude.{◌≡◌, ◌<◌, Bool, true, List, [], ◌∷◌, ◌++◌, length, if◌then◌else◌}
 use Rattle.expr_core.specs.Formula.{Formula, Formulas}
 use Rattle.expr_core.specs.Formula.Formula.{Leaf, Not as Negation, And as Conjunction, Or as Disjunction}
 use Rattle.expr_core.specs.Formula.Formulas.{Nil, Cons}
+use Rattle.nv_base.specs.Name.{is_quotable}
 use Rattle.expr_core.specs.Named.{without_offsets}
+use Rattle.expr_core.specs.Width.{limit}
 use Rattle.expr_core.specs.Text.{is_joined, needs_parentheses, expr_writing, expr_text}
 use Rattle.expr_core.specs.declared.constant.Const.{Const}
-use Rattle.expr_core.specs.declared.constant.Form.{Form}
-use Rattle.expr_core.specs.declared.constant.Form.TheVariants.{Dec, Hex, Mac, Ip4}
 use Rattle.expr_core.specs.declared.comparison.Item.{Item}
 use Rattle.expr_core.specs.declared.comparison.Item.TheVariants as item_of
 use Rattle.expr_core.specs.declared.comparison.Right.{Right}
@@ -15,7 +15,7 @@ use Rattle.expr_core.specs.declared.comparison.Right.TheVariants as right_of
 use Rattle.expr_core.specs.declared.expr.Atom.{Atom}
 use Rattle.expr_core.specs.declared.expr.Atom.TheVariants.{Truth, Bare, Compare}
 use Rattle.expr_core.specs.declared.part.Part.{Part}
-use Rattle.expr_parse.specs.Spelling.{is_name, is_quotable}
+use Rattle.expr_parse.specs.Spelling.{is_name}
 use Rattle.expr_parse.specs.Token.{Token}
 use Rattle.expr_parse.specs.Token.Token.{Name, Relation, And, Or, Not, Open, Close, OpenBrace, CloseBrace}
 use Rattle.expr_parse.specs.Tokens.{tokens_of}
@@ -24,13 +24,6 @@ use Rattle.expr_parse.specs.Grammar.Reading.{Read}
 use Rattle.expr_parse.specs.GrammarRules.{kinds, decimal, truth_number, bits_tokens, AreBits, item_tokens, items_tokens}
 
 -- Well-formed trees: each part can be spelled.
-
--- the numbers that a form spells are below this one
-abbrev pub limit : Form → ℕ
-limit Dec = 2 ^ 128
-limit Hex = 2 ^ 128
-limit Mac = 2 ^ 48
-limit Ip4 = 2 ^ 32
 
 abbrev pub IsConst : Const → Type 0
 IsConst c = c.value < limit c.form

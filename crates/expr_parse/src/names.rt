@@ -9,8 +9,8 @@ ghost use Rattle.expr_parse.specs.inner.Borrowed.{front_token};
 ghost use Rattle.expr_parse.specs.Tokens.{first_token};
 
 use crate::class::begins_name;
-use crate::constants::{MAC_LEN, mac_front};
 use crate::token::{FrontToken, Token};
+use expr_const::{MAC_LEN, mac_front};
 
 /// Whether this byte may be in a name.
 fn is_in_name(byte: u8) -> bool

@@ -3,19 +3,12 @@ ghost use Rattle.std.specs.Prelude.{◌≡◌, ◌==◌, ◌<◌, not, length, s
 ghost use Rattle.std.specs.List.{prefix_len};
 ghost use Rattle.expr_parse.specs.inner.Class.{class_of};
 ghost use Rattle.expr_parse.specs.declared.class.Class.TheVariants.{Quote};
-ghost use Rattle.expr_parse.specs.Spelling.{is_quotable};
+ghost use Rattle.nv_base.specs.Name.{is_quotable};
 ghost use Rattle.expr_parse.specs.inner.Borrowed.{front_token};
 ghost use Rattle.expr_parse.specs.Tokens.{first_token};
 
 use crate::token::{FrontToken, Token};
-use nv_base::is_object_name;
-
-/// Whether the text may be in double quotes: the name of a port or of a multicast group.
-fn is_quotable(text: &[u8]) -> bool
-    ensures { result ≡ is_quotable text.now }
-{
-    is_object_name(text) || text == b"_MC_flood".as_slice() || text == b"_MC_unknown".as_slice()
-}
+use nv_base::is_quotable;
 
 /// How many bytes there are before the first double quote, or in all the text.
 fn before_quote(text: &[u8]) -> usize

@@ -9,10 +9,9 @@ ghost use Rattle.nb_net.specs.Sound.{IsSound};
 ghost use Rattle.nb_table.specs.Table.{with_exchanged};
 ghost use Rattle.nb_tables.specs.Undo.{back_steps};
 
-use crate::groups::is_among;
 use nb_core::{Backend, Frontend, Lb, Proto, Router, Switch, Vip};
 use nb_removal::{others, remove_lb_named, remove_vip};
-use nb_tables::{Records, Work};
+use nb_tables::{Records, Work, add_number};
 use nv_base::{Items, Kept, Name, ObjId, OutOfMemory};
 use std::alloc::Global;
 
@@ -224,9 +223,7 @@ fn with_number(
     ensures { IfOk result (λ longer. longer ≡ with_number number numbers.now) }
 {
     let mut longer = numbers.copy(alloc)?;
-    if !is_among(number, numbers.as_slice()) {
-        longer.push(number)?;
-    }
+    add_number(&mut longer, number)?;
     Ok(longer)
 }
 

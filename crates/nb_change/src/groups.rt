@@ -1,14 +1,13 @@
 //! Edits of port groups.
 ghost use Rattle.std.specs.Prelude.{◌≡◌, OnOk, IfOk};
 ghost use Rattle.nb_core.specs.declared.edit.Edit.TheVariants as edit;
-ghost use Rattle.nb_net.specs.Effect.{effect, named_port_ids, with_number};
-ghost use Rattle.nb_net.specs.Belongs.{is_among};
+ghost use Rattle.nb_net.specs.Effect.{effect, named_port_ids};
 ghost use Rattle.nb_net.specs.Sound.{IsSound};
 ghost use Rattle.nb_tables.specs.Undo.{back_steps};
 
 use nb_core::Group;
 use nb_removal::remove_acls;
-use nb_tables::{Place, Records, Work};
+use nb_tables::{Place, Records, Work, add_number};
 use nv_base::{Items, Name, ObjId, OutOfMemory};
 use std::alloc::Global;
 
@@ -84,20 +83,4 @@ fn port_ids(records: &Records, alloc: Global, names: &[Name]) -> Result<Items<Ob
         }
     }
     Ok(ids)
-}
-
-// Puts a number last, where it is not there.
-fn add_number(numbers: &mut Items<ObjId>, number: ObjId) -> Result<(), OutOfMemory>
-    ensures { OnOk result (numbers.new ≡ with_number number numbers.old) }
-{
-    if is_among(number, numbers.as_slice()) {
-        return Ok(());
-    }
-    numbers.push(number)
-}
-
-pub(crate) fn is_among(number: ObjId, numbers: &[ObjId]) -> bool
-    ensures { result ≡ is_among number numbers.now }
-{
-    numbers.iter().any(|other| number.0 == other.0)
 }

@@ -1,5 +1,5 @@
 -- What a microflow gives: the packet fits its fields, and its port has a name that a match may quote.
-use Rattle.std.proofs.Common.{◌≡◌, ℕ, ◌<◌, ◌^◌, ◌==◌, Bool, true, false, List, [], ◌∷◌, ◌++◌, length, map, get_or, eqb, Option, Some, None, Result, Ok, Err, IfOk, IfSome, option_map, refl, sym, ap, subst, ◌∙◌, if◌then◌else◌}
+use Rattle.std.proofs.Common.{◌≡◌, ℕ, ◌<◌, ◌^◌, Bool, true, false, List, [], ◌∷◌, ◌++◌, map, get_or, eqb, Option, Some, None, Result, Ok, Err, IfOk, IfSome, option_map, refl, sym, ap, subst, ◌∙◌, if◌then◌else◌}
 use Rattle.std.specs.Bool.{IsTrue}
 use Rattle.std.specs.List.{AllByRecursion, find}
 use Rattle.std.proofs.lemmas.Bool.{false≢true, eq-eqb, eqb-true}
@@ -13,31 +13,29 @@ use Rattle.nv_base.specs.declared.field.Prerequisite.TheVariants as needs
 use Rattle.expr_core.specs.Formula.{Formula, Formulas, formulas_map}
 use Rattle.expr_core.specs.Formula.Formula.{Leaf, Not, And, Or}
 use Rattle.expr_core.specs.Formula.Formulas.{Nil, Cons}
-use Rattle.expr_core.specs.Named.{named, named_atom, without_offsets, atom_without_offset}
-use Rattle.expr_core.specs.WellFormed.{AreTwo, IsWellFormed, AreWellFormed}
+use Rattle.expr_core.specs.Named.{named, named_atom}
+use Rattle.expr_core.specs.WellFormed.{IsWellFormed, AreWellFormed}
 use Rattle.expr_core.specs.WellTyped.{IsTyped}
 use Rattle.expr_core.specs.declared.comparison.Item.{Item}
 use Rattle.expr_core.specs.declared.comparison.Item.TheVariants.{One, Masked, Text, AddrSet, Group}
 use Rattle.expr_core.specs.declared.comparison.Rel.TheVariants.{Eq}
 use Rattle.expr_core.specs.declared.comparison.Right.TheVariants as right_of
 use Rattle.expr_core.specs.declared.expr.Atom.{Atom}
-use Rattle.expr_core.specs.declared.expr.Atom.TheVariants as atom
 use Rattle.expr_core.specs.declared.part.Bits.TheVariants.{Whole, Bit, Range}
 use Rattle.expr_core.specs.declared.role.Role.TheVariants as role
 use Rattle.expr_core.specs.declared.typed.TypedAtom.{TypedAtom}
 use Rattle.expr_core.specs.declared.typed.TypedAtom.TheVariants.{Truth, Bare, Holds, Compare}
-use Rattle.expr_parse.specs.Grammar.{Reading, and_then, whole, levels, level_limit, finished, reading}
+use Rattle.expr_parse.specs.Grammar.{Reading, reading}
 use Rattle.expr_parse.specs.Grammar.Reading.{Read, Fails}
-use Rattle.expr_parse.specs.Spelling.{is_quotable}
+use Rattle.nv_base.specs.Name.{is_quotable}
 use Rattle.expr_parse.specs.Token.{Tokens}
-use Rattle.expr_parse.specs.Tokens.{tokens_of}
 use Rattle.expr_parse.specs.Written.{IsItem, IsLeaf}
-use Rattle.expr_parse.specs.declared.fault.MatchFault.TheVariants.{Syntax}
 use Rattle.expr_parse.proofs.WellFormed.{formed}
 use Rattle.expr_check.specs.Check.{checked}
 use Rattle.expr_check.specs.declared.fault.TypeFault.{TypeFault}
 use Rattle.expr_check.proofs.Passed.{well_typed}
 use Rattle.nb_read.specs.Readings.{checked_match, parsed_match}
+use Rattle.nb_net.proofs.MatchReadings.{IsWhole, formed_too, reading_whole}
 use Rattle.nb_net.proofs.Reading.{goes_on, there_after}
 use Rattle.pkt_core.specs.Packet.{Values, IsPacket, place, value, with_value, with_values, zero_packet}
 use Rattle.pkt_core.proofs.Only.{place_within, field_at}
@@ -159,49 +157,6 @@ port_named es are = there_after IsNamed (λ name. is_quotable name ≡ true) (λ
         either : (b : Bool) → IfSome (find (is_of Inport) es) IsNamed → IfSome (if b then Some e else find (is_of Inport) es) IsNamed
         either true rest = are.0
         either false rest = rest
-
--- ---- what is read is well-formed, in names too
-
-leaf_formed : (a : Atom) → IsLeaf a → IsLeaf (atom_without_offset a)
-leaf_formed (atom.Truth b) is = is
-leaf_formed (atom.Bare p) is = is
-leaf_formed (atom.Compare p r s) is = is
-
-two : (fs : Formulas Atom) → AreTwo fs → AreTwo (formulas_map atom_without_offset fs)
-two Nil are = are
-two (Cons f Nil) are = are
-two (Cons f (Cons g fs)) are = are
-
-mutual
-  formed_too : (f : Formula Atom) → IsWellFormed IsLeaf f → IsWellFormed IsLeaf (without_offsets f)
-  formed_too (Leaf a) is = leaf_formed a is
-  formed_too (Not f) is = formed_too f is
-  formed_too (And fs) is = (two fs is.0, all_formed fs is.1)
-  formed_too (Or fs) is = (two fs is.0, all_formed fs is.1)
-
-  all_formed : (fs : Formulas Atom) → AreWellFormed IsLeaf fs → AreWellFormed IsLeaf (formulas_map atom_without_offset fs)
-  all_formed Nil are = are
-  all_formed (Cons f fs) are = (formed_too f are.0, all_formed fs are.1)
-
--- a match is read to the end of its text
-abbrev IsWhole : Reading (Formula Atom) → Type 0
-IsWhole (Read f rest) = rest ≡ []
-IsWhole (Fails fault) = Unit {0}
-
-finished_whole : (len end : ℕ) (f : Formula Atom) (ts : Tokens) → IsWhole (finished len end f ts)
-finished_whole len end f [] = by (end == len)
-  where
-    by : (b : Bool) → IsWhole (if b then Read f [] else Fails (Syntax end))
-    by true = refl
-    by false = tt
-finished_whole len end f (t ∷ ts) = tt
-
-whole_after : (r : Reading (Formula Atom)) (go_on : Formula Atom → Tokens → Reading (Formula Atom)) → ((f : Formula Atom) (ts : Tokens) → IsWhole (go_on f ts)) → IsWhole (and_then r go_on)
-whole_after (Read f ts) go_on all = all f ts
-whole_after (Fails fault) go_on all = tt
-
-reading_whole : (text : List ℕ) → IsWhole (reading text)
-reading_whole text = let ts = tokens_of text in whole_after (whole ts.1 (levels ts.1 level_limit) ts.0) (finished (length text) ts.1) (finished_whole (length text) ts.1)
 
 -- ---- microflows
 

@@ -2,8 +2,7 @@
 use Rattle.std.proofs.Common.{◌≡◌, ◌+◌, ◌==◌, nat_lt, ℕ, Bool, List, [], ◌∷◌, drop, Some, Ok, IfOk}
 use Rattle.std.specs.Bool.{IsTrue}
 use Rattle.std.proofs.lemmas.Result.{IfOk-at_ok}
-use Rattle.expr_parse.specs.Spelling.{is_quotable}
-use Rattle.nv_base.specs.Name.{is_object_name}
+use Rattle.nv_base.specs.Name.{is_object_name, is_quotable}
 use Rattle.nb_core.specs.declared.refusal.Refusal.TheVariants.{WrongWords}
 use Rattle.nb_words.specs.Commands.{read_commands}
 use Rattle.nb_words.specs.declared.command.Command.{Command}

@@ -11,7 +11,7 @@ use Rattle.nb_core.specs.declared.switch.Addr.{Addr}
 use Rattle.nb_core.specs.declared.switch.Guard.{Guard}
 use Rattle.nb_net.specs.Network.{Network}
 use Rattle.nb_text.specs.Words.{each_spaced}
-use Rattle.nb_text.proofs.Appends.{two}
+use Rattle.nv_base.proofs.Growth.{appended_twice}
 use Rattle.nb_script.specs.Commands.{command_line, script}
 use Rattle.nb_dump.specs.Edits.{option_edits, address_edits, guard_edits, ports_edits, members_edits, port_name}
 
@@ -65,4 +65,4 @@ some_members net g some = by g.ports some
 
 -- what is there after the scripts of two lists of edits
 pub scripts : (a b c : List ℕ) (xs ys : List Edit) → b ≡ a ++ script xs → c ≡ b ++ script ys → c ≡ a ++ script (xs ++ ys)
-scripts a b c xs ys one more = two a b c (script xs) (script ys) one more ∙ ap (λ l. a ++ l) (sym (script_append xs ys))
+scripts a b c xs ys one more = appended_twice a b c (script xs) (script ys) one more ∙ ap (λ l. a ++ l) (sym (script_append xs ys))

@@ -1,20 +1,18 @@
 //! How many ACLs there are and how long they are, each counted once for each switch that it applies to (not from OVN).
-ghost use Rattle.std.specs.Prelude.{◌≡◌, ◌*◌, IfOk, OnOk};
+ghost use Rattle.std.specs.Prelude.{◌≡◌, ◌*◌, IfOk};
 ghost use Rattle.nb_limits.specs.Limitless.{IsSoundButLimits};
 ghost use Rattle.nb_limits.specs.inner.GroupSwitches.{switch_count};
 ghost use Rattle.nb_limits.specs.inner.Weights.{weight, acl_weight, on_switch, on_group, on_switches, on_groups};
 ghost use Rattle.nb_limits.specs.inner.Within.{up_to};
 ghost use Rattle.nb_core.specs.declared.refusal.Kind.TheVariants as kind;
 ghost use Rattle.nb_net.specs.Amounts.{amount, bound};
-ghost use Rattle.nb_net.specs.Belongs.{is_among};
-ghost use Rattle.nb_net.specs.Effect.{with_number};
 
 use crate::bounds::bound;
 use crate::within::{add, add_times};
 use expr_core::put_tree;
 use nb_core::{Acl, Group, Kind};
-use nb_tables::Records;
-use nv_base::{Items, ObjId, OutOfMemory};
+use nb_tables::{Records, add_number};
+use nv_base::{Items, OutOfMemory};
 use std::alloc::Global;
 
 /// What is added up of ACLs.
@@ -188,20 +186,4 @@ pub(crate) fn switch_count(
         }
     }
     Ok(switches.as_slice().len() as u64)
-}
-
-// Puts a number last, where it is not there.
-fn add_number(numbers: &mut Items<ObjId>, number: ObjId) -> Result<(), OutOfMemory>
-    ensures { OnOk result (numbers.new ≡ with_number number numbers.old) }
-{
-    if is_among(number, numbers.as_slice()) {
-        return Ok(());
-    }
-    numbers.push(number)
-}
-
-fn is_among(number: ObjId, numbers: &[ObjId]) -> bool
-    ensures { result ≡ is_among number numbers.now }
-{
-    numbers.iter().any(|other| number.0 == other.0)
 }

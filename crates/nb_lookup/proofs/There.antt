@@ -1,6 +1,6 @@
 -- Whether any record of a list is as it is asked for, by those that are found.
-use Rattle.std.proofs.Common.{◌≡◌, ℕ, Bool, true, false, cond, not, ◌==◌, ◌&&◌, ◌||◌, if◌then◌else◌, List, [], ◌∷◌, Option, Some, None, refl, sym, ap, ◌∙◌, subst}
-use Rattle.std.proofs.lemmas.Bool.{and_parts, and_from, eqb-true, false≢true, true≢false, not-true}
+use Rattle.std.proofs.Common.{◌≡◌, ℕ, Bool, true, false, cond, not, ◌==◌, ◌&&◌, ◌||◌, if◌then◌else◌, List, [], ◌∷◌, Option, Some, None, refl, sym, ap, ◌∙◌}
+use Rattle.std.proofs.lemmas.Bool.{and_parts, and_from, false≢true, true≢false, not-true}
 use Rattle.std.specs.Prelude.{IsTrue, find, is_some}
 use Rattle.std.specs.List.{list_any, AllByRecursion}
 use Rattle.nv_base.specs.Block.{Block}
@@ -15,6 +15,7 @@ use Rattle.nb_net.specs.Belongs.{same_block, same_policy, same_nat_kind, same_na
 use Rattle.nb_net.specs.Effect.{is_asked, is_nat, is_nat_at, is_route}
 use Rattle.nb_net.specs.Network.{Network, same, router_id}
 use Rattle.nb_net.specs.Readable.{are_apart}
+use Rattle.nb_net.proofs.Alike.{number_key}
 use Rattle.nb_net.proofs.AnyOf.{none_passes}
 use Rattle.nb_net.proofs.RecordLists.{found_holds, none_found, only}
 
@@ -117,9 +118,6 @@ module _ (router : ObjId) (prefix : Block) (routes : List Route) where
   other_policy first other is fails other_is = other_or first other fails ∙ (λ i. is i || other_is i) ∙ any_policy
 
 -- NAT rules of one router.
-number_key : (k a b : ℕ) → IsTrue (k == a) → IsTrue (k == b) → IsTrue (a == b)
-number_key k a b e f = subst (λ n. IsTrue (n == b)) (eqb-true k a e) f
-
 block_key : (k a b : Block) → IsTrue (same_block k a) → IsTrue (same_block k b) → IsTrue (same_block a b)
 block_key k a b e f =
     let x = and_parts (k.base.0 == a.base.0) (k.len == a.len) e in

@@ -2,21 +2,14 @@
 ghost use Rattle.std.specs.Prelude.{◌≡◌, IfOk, IfErr, None, Some, if◌then◌else◌};
 ghost use Rattle.std.specs.List.{list_any};
 ghost use Rattle.nb_core.specs.declared.refusal.Refusal.TheVariants.{WrongKind};
-ghost use Rattle.nb_net.specs.Belongs.{is_among, same_frontend};
+ghost use Rattle.nb_net.specs.Belongs.{same_frontend};
 ghost use Rattle.nb_net.specs.Network.{lb_named, lb_id};
 ghost use Rattle.nb_net.specs.Tests.{other_protocol, wants_protocol, has_vip, is_attached, switch_lbs, router_lbs, wants_attached};
 
 use crate::names::with_some;
 use nb_core::{Frontend, Lb, Proto, Refusal, Vip};
-use nb_tables::Records;
-use nv_base::{Name, ObjId};
-
-// Whether the number is one of these.
-fn is_among(number: ObjId, numbers: &[ObjId]) -> bool
-    ensures { result ≡ is_among number numbers.now }
-{
-    numbers.iter().any(|other| number == *other)
-}
+use nb_tables::{Records, is_among};
+use nv_base::Name;
 
 // Whether one of these VIPs is at the address and port.
 fn has_frontend(at: Frontend, vips: &[Vip]) -> bool

@@ -104,8 +104,8 @@ pub fn is_router_port(records: &Records, name: &Name) -> bool
     records.router_port_named(name).is_some()
 }
 
-/// Whether a load balancer has the name.
-pub fn is_lb(records: &Records, name: &Name) -> bool
+// Whether a load balancer has the name.
+fn is_lb(records: &Records, name: &Name) -> bool
     ensures { result ≡ is_some (lb_named records.now name.now) }
 {
     records.lb_named(name).is_some()

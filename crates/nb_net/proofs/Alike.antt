@@ -1,5 +1,5 @@
 -- Two records say the same whichever of them is named first.
-use Rattle.std.proofs.Common.{◌≡◌, ℕ, Bool, true, false, not, ◌&&◌, Some, None, Option, List, refl, sym}
+use Rattle.std.proofs.Common.{◌≡◌, ℕ, Bool, true, false, not, ◌&&◌, Some, None, Option, List, refl, sym, subst}
 use Rattle.std.specs.Prelude.{◌==◌, if◌then◌else◌}
 use Rattle.std.specs.Bool.{IsTrue}
 use Rattle.std.specs.Str.{bytes_eq}
@@ -25,6 +25,10 @@ one_test : (x y : Bool) → (x ≡ true → y ≡ true) → (y ≡ true → x �
 one_test true y there back = sym (there refl)
 one_test false true there back = back refl
 one_test false false there back = refl
+
+-- two numbers that are each like a third are alike
+pub number_key : (k a b : ℕ) → IsTrue (k == a) → IsTrue (k == b) → IsTrue (a == b)
+number_key k a b e f = subst (λ n. IsTrue (n == b)) (eqb-true k a e) f
 
 pub same_names : (a b : List ℕ) → IsTrue (bytes_eq a b) → a ≡ b
 same_names a b is = (bytes_eq-Decides a b).0 is

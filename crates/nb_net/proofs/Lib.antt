@@ -35,6 +35,7 @@ pub mod RisesNew
 pub mod RisesPeers
 pub mod RisesRecords
 pub mod RisesRemovals
+pub mod Rising
 pub mod Totals
 pub mod Whole
 pub mod Within

@@ -37,7 +37,7 @@ two (Cons f Nil) are = are
 two (Cons f (Cons g fs)) are = are
 
 mutual
-  formed_too : (f : Formula Atom) → IsWellFormed IsLeaf f → IsWellFormed IsLeaf (without_offsets f)
+  pub formed_too : (f : Formula Atom) → IsWellFormed IsLeaf f → IsWellFormed IsLeaf (without_offsets f)
   formed_too (Leaf a) is = leaf_formed a is
   formed_too (Not f) is = formed_too f is
   formed_too (And fs) is = (two fs is.0, all_formed fs is.1)
@@ -74,7 +74,7 @@ mutual
 
 -- A match is read to the end of its text.
 
-abbrev IsWhole : Reading (Formula Atom) → Type 0
+abbrev pub IsWhole : Reading (Formula Atom) → Type 0
 IsWhole (Read f rest) = rest ≡ []
 IsWhole (Fails fault) = Unit {0}
 
@@ -90,7 +90,7 @@ whole_after : (r : Reading (Formula Atom)) (go_on : Formula Atom → Tokens → 
 whole_after (Read f ts) go_on all = all f ts
 whole_after (Fails fault) go_on all = tt
 
-reading_whole : (text : List ℕ) → IsWhole (reading text)
+pub reading_whole : (text : List ℕ) → IsWhole (reading text)
 reading_whole text = let ts = tokens_of text in whole_after (whole ts.1 (levels ts.1 level_limit) ts.0) (finished (length text) ts.1) (finished_whole (length text) ts.1)
 
 printable : (role : Role) (text : List ℕ) (e : Formula Atom) (t : Formula TypedAtom) → reading text ≡ Read e [] → checked role e ≡ Ok t → IsPrintable role t

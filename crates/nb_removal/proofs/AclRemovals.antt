@@ -4,7 +4,6 @@ use Rattle.std.specs.Prelude.{find, filter, option_map}
 use Rattle.std.specs.Bool.{IsTrue}
 use Rattle.std.specs.Str.{bytes_eq}
 use Rattle.std.proofs.lemmas.Bool.{and_parts, and_from}
-use borrow.Author.Tests.{eqb-true}
 use Rattle.expr_core.specs.Text.{typed_text}
 use Rattle.expr_core.specs.Formula.{Formula}
 use Rattle.expr_core.specs.declared.typed.TypedAtom.{TypedAtom}
@@ -15,15 +14,12 @@ use Rattle.nb_net.specs.Belongs.{same_acl, same_way}
 use Rattle.nb_net.specs.Effect.{acl_like, is_rule, without}
 use Rattle.nb_net.specs.Network.{Network, same}
 use Rattle.nb_net.specs.Sound.{IsSound}
-use Rattle.nb_net.proofs.Alike.{same_names}
+use Rattle.nb_net.proofs.Alike.{number_key, same_names}
 use Rattle.nb_table.specs.Table.{NumbersRise, is_after, without_number}
 use Rattle.nb_tables.proofs.AclLikes.{one_way, filter_without_number}
 use Rattle.nb_tables.proofs.PlacedRecords.{none_without, rises}
 use Rattle.nb_removal.proofs.Goes.{alone_goes}
 use Rattle.nb_removal.proofs.AclsThatGo.{acl_smaller}
-
-number_key : (k a b : ℕ) → IsTrue (k == a) → IsTrue (k == b) → IsTrue (a == b)
-number_key k a b e f = subst (λ n. IsTrue (n == b)) (eqb-true k a e) f
 
 way_key : (k a b : Way) → IsTrue (same_way k a) → IsTrue (same_way k b) → IsTrue (same_way a b)
 way_key k a b e f = subst (λ w. IsTrue (same_way w b)) (one_way k a e) f

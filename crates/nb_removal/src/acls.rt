@@ -11,7 +11,7 @@ ghost use Rattle.nb_tables.specs.Undo.{back_steps};
 
 use expr_core::Typed;
 use nb_core::Way;
-use nb_tables::{Place, Work};
+use nb_tables::{Place, Work, is_same_way};
 use nv_base::{ObjId, OutOfMemory};
 
 /// Removes the ACLs of a switch or a group.
@@ -62,13 +62,4 @@ pub fn remove_acls_of_way(work: &mut Work, owner: ObjId, way: Way) -> Result<(),
         }
     }
     Ok(())
-}
-
-fn is_same_way(a: Way, b: Way) -> bool
-    ensures { result ≡ same_way a b }
-{
-    match (a, b) {
-        (Way::From, Way::From) | (Way::To, Way::To) => true,
-        (Way::From, Way::To) | (Way::To, Way::From) => false,
-    }
 }

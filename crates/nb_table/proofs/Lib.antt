@@ -4,4 +4,5 @@ pub mod Keyed
 pub mod Members
 pub mod Moves
 pub mod Tagged
+pub mod Through
 pub mod Undone

@@ -10,9 +10,9 @@ use Rattle.std.specs.Str.{bytes_eq}
 use Rattle.nv_base.specs.declared.object.ObjId.{ObjId}
 use Rattle.nb_net.specs.Effect.{each_where}
 use Rattle.nb_net.specs.Readable.{are_apart}
-use Rattle.nb_net.specs.Sound.{is_rising}
 use Rattle.nb_net.proofs.Alike.{same_names, names_sym}
 use Rattle.nb_net.proofs.RecordLists.{all_as, found_holds}
+pub use Rattle.nb_net.proofs.Rising.{rises}
 use Rattle.nb_table.specs.Table.{NumbersRise, with_record, without_number, with_exchanged}
 use Rattle.nb_table.proofs.Undone.{put_last}
 
@@ -79,17 +79,6 @@ named_once name_of name before x after apart is =
     (apart_rest bytes_eq (map name_of before) (name_of x) (map name_of after) (subst (λ names. IsTrue (are_apart bytes_eq names)) (map-append name_of before (x ∷ after)) apart)))))
 
 module _ {R : Type 0} (number : R → ObjId) where
-  above : (n : ℕ) (rs : List R) → IsTrue (list_all (λ later. nat_lt n later.0) (map number rs)) → AllByRecursion (λ r. n < (number r).0) rs
-  above n [] all = tt
-  above n (r ∷ rs) all =
-      let parts = and_parts (nat_lt n (number r).0) (list_all (λ later. nat_lt n later.0) (map number rs)) all in (ltb-true n (number r).0 parts.0, above n rs parts.1)
-
-  -- numbers that rise
-  pub rises : (rs : List R) → IsTrue (is_rising (map number rs)) → NumbersRise number rs
-  rises [] all = tt
-  rises (r ∷ rs) all =
-      let parts = and_parts (list_all (λ later. nat_lt (number r).0 later.0) (map number rs)) (is_rising (map number rs)) all in (above (number r).0 rs parts.0, rises rs parts.1)
-
   below : (limit : ℕ) (rs : List R) → IsTrue (list_all (λ n. nat_lt 0 n.0 && nat_lt n.0 limit) (map number rs)) → AllByRecursion (λ r. (number r).0 < limit) rs
   below limit [] all = tt
   below limit (r ∷ rs) all =

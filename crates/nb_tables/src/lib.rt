@@ -6,6 +6,7 @@ mod belongs;
 mod env;
 mod likes;
 mod named;
+mod numbers;
 mod peers;
 mod readers;
 mod records;
@@ -14,6 +15,8 @@ mod stores;
 mod undo;
 mod work;
 
+pub use likes::is_same_way;
+pub use numbers::{add_number, is_among};
 pub use records::Records;
 pub use step::Place;
 pub use undo::Undo;

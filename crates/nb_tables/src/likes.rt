@@ -5,6 +5,7 @@ ghost use Rattle.std.specs.Str.{bytes_eq};
 ghost use Rattle.expr_check.specs.Printed.{IsPrintable};
 ghost use Rattle.expr_core.specs.Text.{typed_text};
 ghost use Rattle.nb_read.specs.Readings.{role_of};
+ghost use Rattle.nb_net.specs.Belongs.{same_way};
 ghost use Rattle.nb_net.specs.Effect.{acl_like};
 ghost use Rattle.nb_table.specs.Table.{NumbersRise};
 
@@ -29,6 +30,16 @@ impl Records {
             after = Some(acl.id);
         }
         None
+    }
+}
+
+/// Tells whether two directions are one (not from OVN).
+pub fn is_same_way(a: Way, b: Way) -> bool
+    ensures { result ≡ same_way a b }
+{
+    match (a, b) {
+        (Way::From, Way::From) | (Way::To, Way::To) => true,
+        (Way::From, Way::To) | (Way::To, Way::From) => false,
     }
 }
 

@@ -21,7 +21,7 @@ use Rattle.net_rows.specs.declared.inputs.SwitchAclInput.{SwitchAclInput}
 use Rattle.net_rows.proofs.Elements.{any_from, any_gives, Contains-filter, Contains-flat_map, Contains-from_filter, Contains-from_flat_map, Contains-from_map, Contains-map}
 use Rattle.nd_full.specs.inner.Made.{has_related}
 use Rattle.nd_full.specs.inner.Owners.{acls_of, groups_of_port, groups_on, groups_with, ports_on, AreOwners}
-use Rattle.nd_full.proofs.Through.{all_left, none_left}
+use Rattle.nb_table.proofs.Through.{all_left, none_left}
 use Rattle.nd_full.proofs.Any.{any_agree, any_kept, any_members, both_ways, kept_passes, same_turned}
 
 -- two tests that pass

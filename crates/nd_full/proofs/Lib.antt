@@ -4,5 +4,4 @@ pub mod Applied
 pub mod Any
 pub mod Same
 pub mod Sound
-pub mod Through
 pub mod Unguarded

@@ -12,7 +12,7 @@ use Rattle.net_rows.specs.declared.rule.Rule.{Rule}
 use Rattle.net_rows.specs.declared.rule.Unit.{Unit}
 use Rattle.net_rows.proofs.Elements.{Contains-flat_map, Contains-from_flat_map}
 use Rattle.nd_full.specs.inner.Members.{HaveSameRows}
-use Rattle.nd_full.proofs.Through.{is_whole, left_after, with_next}
+use Rattle.nb_table.proofs.Through.{is_whole, left_after, with_next}
 
 pub same_itself : (xs : List Row) → HaveSameRows xs xs
 same_itself xs = record { members = λ r. (λ at. at, λ at. at) }

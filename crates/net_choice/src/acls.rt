@@ -1,14 +1,13 @@
 //! The ACL that decides on a packet.
 ghost use Rattle.std.specs.Prelude.{◌≡◌, option_map};
 ghost use Rattle.std.specs.Option.{option_copied};
-ghost use Rattle.nb_net.specs.Belongs.{same_way};
 ghost use Rattle.nb_net.specs.Sound.{IsSound};
 ghost use Rattle.net_meaning.specs.AclVerdict.{deciding};
 ghost use Rattle.net_choice.specs.inner.Acls.{first, first_of, first_on, first_with, is_before, takes};
 
 use expr_eval::holds;
 use nb_core::{Acl, Way};
-use nb_tables::Records;
+use nb_tables::{Records, is_same_way};
 use nv_base::ObjId;
 use pkt_core::Packet;
 
@@ -109,15 +108,6 @@ fn takes(records: &Records, way: Way, packet: &Packet, acl: &Acl) -> bool
     ensures { result ≡ takes records.now way packet.now acl.now }
 {
     is_same_way(acl.way, way) && holds(&acl.matching, packet, records)
-}
-
-fn is_same_way(a: Way, b: Way) -> bool
-    ensures { result ≡ same_way a b }
-{
-    match (a, b) {
-        (Way::From, Way::From) | (Way::To, Way::To) => true,
-        (Way::From, Way::To) | (Way::To, Way::From) => false,
-    }
 }
 
 // The first of two ACLs.

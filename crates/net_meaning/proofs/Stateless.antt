@@ -1,6 +1,6 @@
 -- Plain networks track no connections.
-use Rattle.std.proofs.Common.{◌≡◌, Bool, true, false, cond, List, [], ◌∷◌, refl, sym, ap, ◌∙◌}
-use Rattle.std.specs.Prelude.{not, ◌&&◌, ◌||◌}
+use Rattle.std.proofs.Common.{◌≡◌, Bool, true, false, List, [], ◌∷◌, refl}
+use Rattle.std.specs.Prelude.{not, ◌&&◌}
 use Rattle.std.specs.Bool.{IsTrue}
 use Rattle.std.specs.List.{AllByRecursion, list_all, list_any}
 use Rattle.std.proofs.lemmas.Bool.{false≢true}
@@ -13,7 +13,7 @@ use Rattle.nb_core.specs.declared.switch.Switch.{Switch}
 use Rattle.nb_net.specs.Belongs.{is_to_router}
 use Rattle.nb_net.specs.Network.{Network, same}
 use Rattle.nb_plain.specs.Plain.{tracks_none, IsPlain}
-use Rattle.net_meaning.specs.Applies.{is_empty, applies, is_related, balances, tracks}
+use Rattle.net_meaning.specs.Applies.{is_empty, applies, is_related, tracks}
 use Rattle.net_meaning.specs.Stateless.{IsStateless}
 
 not_related : (v : Verdict) → tracks_none v ≡ true → is_related v ≡ false

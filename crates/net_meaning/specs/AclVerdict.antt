@@ -1,5 +1,5 @@
 -- What ACLs decide on a packet that is not tracked (ovn-nb(5), 'ACL TABLE').
-use Rattle.std.specs.Prelude.{ℕ, List, filter, fold, Option, Some, None, nat_lt, if◌then◌else◌}
+use Rattle.std.specs.Prelude.{filter, fold, Option, Some, None, nat_lt, if◌then◌else◌}
 use Rattle.nv_base.specs.declared.object.ObjId.{ObjId}
 use Rattle.pkt_core.specs.Packet.{Values}
 use Rattle.expr_eval.specs.MatchMeaning.{holds}

@@ -1,5 +1,5 @@
 -- Which ACLs apply to a switch, and whether it tracks connections (ovn-nb(5), 'ACL TABLE').
-use Rattle.std.specs.Prelude.{ℕ, Bool, true, false, not, ◌&&◌, ◌||◌, List, [], ◌∷◌, filter}
+use Rattle.std.specs.Prelude.{Bool, true, false, not, ◌&&◌, ◌||◌, List, [], ◌∷◌, filter}
 use Rattle.std.specs.List.{list_any}
 use Rattle.nv_base.specs.declared.object.ObjId.{ObjId}
 use Rattle.nb_core.specs.declared.acl.Acl.{Acl}

@@ -1,5 +1,5 @@
 -- Where ports are, and what is at their other side (ovn-nb(5), 'Logical_Switch_Port TABLE', router-port).
-use Rattle.std.specs.Prelude.{ℕ, List, Option, Some, None, option_map, unwrap_or}
+use Rattle.std.specs.Prelude.{Option, Some, None, option_map, unwrap_or}
 use Rattle.std.specs.List.{find}
 use Rattle.nv_base.specs.declared.object.ObjId.{ObjId}
 use Rattle.nb_core.specs.declared.router.RouterPort.{RouterPort}

@@ -1,5 +1,5 @@
 -- Networks of switches that track no connections and lead to no router.
-use Rattle.std.specs.Prelude.{◌≡◌, Bool, true, false, not, ◌&&◌, IsTrue}
+use Rattle.std.specs.Prelude.{not, IsTrue}
 use Rattle.std.specs.List.{list_all}
 use Rattle.nb_net.specs.Belongs.{is_to_router}
 use Rattle.nb_net.specs.Network.{Network}

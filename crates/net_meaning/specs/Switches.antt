@@ -23,7 +23,7 @@ use Rattle.net_meaning.specs.AclVerdict.Decision.{Allowed, Dropped, Rejected}
 use Rattle.net_meaning.specs.Address.{is_multicast}
 use Rattle.net_meaning.specs.Guards.{is_let_in, is_let_out}
 use Rattle.net_meaning.specs.Places.{switch_port}
-use Rattle.net_meaning.specs.Walk.{Target, Passed, Part, Parts, Told, Walked, walk}
+use Rattle.net_meaning.specs.Walk.{Passed, Part, Parts, Walked, walk}
 use Rattle.net_meaning.specs.Walk.Passed.{GoesOn, Drops, Makes}
 use Rattle.net_meaning.specs.Walk.Target.{OnePort, Ports}
 use Rattle.net_meaning.specs.declared.answer.Answer.TheVariants.{Reject}

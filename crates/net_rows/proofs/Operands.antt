@@ -5,7 +5,7 @@ use Rattle.std.specs.Bool.{IsTrue}
 use Rattle.std.specs.List.{AllByRecursion, list_all}
 use Rattle.std.specs.Cmp.Lexicographic.{pointwise}
 use Rattle.std.proofs.lemmas.Bool.{and_from, false≢true, le-leb, lt-ltb, or_left}
-use Rattle.nv_base.specs.Name.{is_object_name}
+use Rattle.nv_base.specs.Name.{is_object_name, is_quotable}
 use Rattle.nv_base.specs.declared.field.Field.{Field}
 use Rattle.nv_base.specs.declared.field.Field.TheVariants.{Inport, Outport, EthSrc, EthDst, EthType, Ip4Src, Ip4Dst, ArpOp, ArpSpa, ArpSha, ArpTpa, UdpSrc, UdpDst}
 use Rattle.expr_core.specs.Formula.{Formula, formulas, formulas_map}
@@ -21,7 +21,6 @@ use Rattle.expr_core.specs.declared.part.Bits.TheVariants.{Whole}
 use Rattle.expr_core.specs.declared.role.Role.TheVariants as role
 use Rattle.expr_core.specs.declared.typed.TypedAtom.{TypedAtom}
 use Rattle.expr_parse.specs.Grammar.{level_limit}
-use Rattle.expr_parse.specs.Spelling.{is_quotable}
 use Rattle.expr_parse.specs.Written.{AreItems, IsItem, IsLeaf}
 use Rattle.expr_check.specs.Printed.{IsPrintable}
 use Rattle.sb_model.specs.Make as make

@@ -10,9 +10,10 @@ use Rattle.nb_core.specs.declared.switch.Switch.{Switch}
 use Rattle.nb_net.specs.Addresses.{macs}
 use Rattle.nb_net.specs.Network.{Network}
 use Rattle.nb_net.specs.Readable.{are_addresses, are_apart, are_guards, ips_of, is_ip4, is_mac, may_name, same_number}
-use Rattle.nb_net.specs.Sound.{IsSound, is_rising}
+use Rattle.nb_net.specs.Sound.{IsSound}
 use Rattle.nb_net.proofs.Numbered.{are_used}
 use Rattle.nb_net.proofs.Readable.{of_port}
+pub use Rattle.nb_net.proofs.Rising.{rises}
 use Rattle.nb_table.specs.Table.{NumbersRise}
 use Rattle.net_rows.proofs.Elements.{one_of, one_of_none}
 
@@ -26,19 +27,6 @@ each_passes {X} p (y ∷ xs) x all there = by (and_parts (p y) (list_all p xs) a
     by parts (inr later) rest = rest parts.1 later
 
 module _ {R : Type 0} (number : R → ObjId) where
-  all_above : (n : ℕ) (rs : List R) → IsTrue (list_all (λ later. nat_lt n later.0) (map number rs)) → AllByRecursion (λ r. n < (number r).0) rs
-  all_above n [] all = tt
-  all_above n (r ∷ rs) all =
-      let parts = and_parts (nat_lt n (number r).0) (list_all (λ later. nat_lt n later.0) (map number rs)) all in
-      (ltb-true n (number r).0 parts.0, all_above n rs parts.1)
-
-  -- numbers that rise
-  pub rises : (rs : List R) → IsTrue (is_rising (map number rs)) → NumbersRise number rs
-  rises [] all = tt
-  rises (r ∷ rs) all =
-      let parts = and_parts (list_all (λ later. nat_lt (number r).0 later.0) (map number rs)) (is_rising (map number rs)) all in
-      (all_above (number r).0 rs parts.0, rises rs parts.1)
-
   -- numbers that are from 1 on
   pub from_one : (next : ℕ) (rs : List R) → IsTrue (list_all (λ n. nat_lt 0 n.0 && nat_lt n.0 next) (map number rs)) → AllByRecursion (λ r. 0 < (number r).0) rs
   from_one next [] all = tt

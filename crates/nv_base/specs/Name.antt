@@ -1,6 +1,7 @@
 -- The names of objects.
 use Rattle.std.specs.Prelude.{ℕ, Bool, not, ◌&&◌, ◌||◌, ◌==◌, List, length, nat_lt, nat_le, nat_eq, codes}
 use Rattle.std.specs.List.{list_all, starts_with}
+use Rattle.std.specs.Cmp.Lexicographic.{pointwise}
 
 -- a quotation mark, single or double
 abbrev pub is_quote : ℕ → Bool
@@ -16,3 +17,7 @@ abbrev pub is_object_name : List ℕ → Bool
 is_object_name bytes =
     nat_lt 0 (length bytes) && nat_le (length bytes) 127 && list_all is_name_byte bytes
     && not (starts_with nat_eq bytes (codes "-")) && not (starts_with nat_eq bytes (codes "_MC_"))
+
+-- a string of a match or of an action may hold the name of a port or of a multicast group
+abbrev pub is_quotable : List ℕ → Bool
+is_quotable name = is_object_name name || pointwise nat_eq name (codes "_MC_flood") || pointwise nat_eq name (codes "_MC_unknown")

@@ -27,7 +27,7 @@ pub use laws::{
 };
 pub use mac::{Mac, mac_text, put_mac, read_mac};
 pub use memory::OutOfMemory;
-pub use name::{Name, is_object_name};
+pub use name::{Name, is_object_name, is_quotable};
 pub use number::{put_dec, put_hex, read_number};
 pub use object::ObjId;
 pub use prefix::{Prefix, put_prefix, read_prefix};

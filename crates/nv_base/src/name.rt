@@ -1,6 +1,6 @@
 ghost use Rattle.std.specs.Prelude.{◌≡◌, ℕ, List, IfOk};
 ghost use Rattle.std.specs.List.{list_all};
-ghost use Rattle.nv_base.specs.Name.{is_name_byte, is_object_name};
+ghost use Rattle.nv_base.specs.Name.{is_name_byte, is_object_name, is_quotable};
 
 use crate::OutOfMemory;
 use std::alloc::Global;
@@ -107,6 +107,14 @@ pub fn is_object_name(bytes: &[u8]) -> bool
         && all_name_bytes(bytes)
         && !bytes.starts_with(b"-")
         && !bytes.starts_with(b"_MC_")
+}
+
+/// Whether a string of a match or of an action may hold the name: that of a port or of a multicast group (the groups of
+/// ovn-northd(8), 'Logical Switch Datapaths').
+pub fn is_quotable(name: &[u8]) -> bool
+    ensures { result ≡ is_quotable name.now }
+{
+    is_object_name(name) || name == b"_MC_flood".as_slice() || name == b"_MC_unknown".as_slice()
 }
 
 fn all_name_bytes(bytes: &[u8]) -> bool

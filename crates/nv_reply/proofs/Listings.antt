@@ -11,7 +11,7 @@ use Rattle.nb_table.specs.Table.{NumbersRise, record_after}
 use Rattle.sb_model.specs.declared.row.Row.{Row}
 use Rattle.sb_rows.specs.Row.{rows_of}
 use Rattle.sb_rows.specs.Listing.{datapath_listing, is_asked_for, listing}
-use Rattle.nd_full.proofs.Through.{left_after, all_left, none_left, one_left}
+use Rattle.nb_table.proofs.Through.{left_after, all_left, none_left, one_left}
 use Rattle.nv_reply.specs.declared.stop.Stop.{Stop}
 use Rattle.nv_reply.specs.declared.stop.Stop.TheVariants.{OutOfMemory}
 use Rattle.nv_reply.specs.Reply.{datapaths}

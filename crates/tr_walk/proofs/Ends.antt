@@ -5,9 +5,9 @@ use Rattle.std.specs.Bool.{IsTrue}
 use Rattle.std.specs.List.{AllByRecursion, Contains, flat_map, list_all}
 use Rattle.std.proofs.lemmas.Bool.{false≢true, and_parts}
 use Rattle.nv_base.specs.declared.ip4.Ip4.{Ip4}
-use Rattle.nv_base.specs.Name.{is_object_name}
+use Rattle.nv_base.specs.Name.{is_object_name, is_quotable}
 use Rattle.expr_core.specs.Lookup.{Lookup}
-use Rattle.act_core.specs.WellFormed.{is_well_formed, is_quotable}
+use Rattle.act_core.specs.WellFormed.{is_well_formed}
 use Rattle.act_core.specs.declared.action.Action.{Action}
 use Rattle.nb_core.specs.declared.acl.Verdict.{Verdict}
 use Rattle.nb_core.specs.declared.acl.Verdict.TheVariants.{Allow, AllowRelated, AllowStateless, Drop, Reject}

@@ -1,6 +1,6 @@
 -- On the rows of a sound network without connections actions read only fields that are there.
 use Rattle.std.proofs.Common.{◌≡◌, ℕ, ◌+◌, Bool, true, false, cond, List, [], ◌∷◌, ◌++◌, map, sym, ap, refl, ◌∙◌, inl, inr, subst}
-use Rattle.std.specs.Prelude.{◌&&◌, ◌==◌, Option, Some, None}
+use Rattle.std.specs.Prelude.{◌==◌, Option, Some, None}
 use Rattle.std.specs.Bool.{IsTrue}
 use Rattle.std.specs.List.{AllByRecursion, Contains, flat_map}
 use Rattle.std.proofs.lemmas.Bool.{and_from, and_parts}
@@ -27,7 +27,7 @@ use Rattle.nb_net.specs.Sound.{IsSound}
 use Rattle.net_meaning.specs.Applies.{applies, balances, is_empty}
 use Rattle.net_meaning.specs.Stateless.{IsStateless}
 use Rattle.net_rows.specs.Acls.{ending, last_table, stage_of, switch_acl_rules}
-use Rattle.net_rows.specs.Build.{acl_on_input, has_unknown, port_l2_input, port_rules, port_sec_input, rows, switch_rules}
+use Rattle.net_rows.specs.Build.{acl_on_input, has_unknown, port_l2_input, port_rules, port_sec_input, switch_rules}
 use Rattle.net_rows.specs.Lookup.{answers, arp_rules, arp_rules_of, lookup_rule, looked_up, port_l2_rules, requests, switch_l2_rules}
 use Rattle.net_rows.specs.PortSecurity.{closed_rules, disabled_rules, guard_rules, guarded_rules, open_rules, port_sec_rules}
 use Rattle.net_rows.specs.Unit.{rule}

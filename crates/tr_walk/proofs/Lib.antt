@@ -11,4 +11,3 @@ pub mod Refinement
 pub mod Runs
 pub mod StageLaws
 pub mod Steps
-pub mod Through

@@ -1,13 +1,12 @@
 ghost use Rattle.std.specs.Prelude.{◌≡◌, ◌++◌, [], codes, OnOk, OnErr};
 ghost use Rattle.nv_base.specs.Growth.{GrowsAtEnd};
-ghost use Rattle.nv_base.specs.Field.{field_name};
 ghost use Rattle.expr_core.specs.Text.{truth_text};
 ghost use Rattle.act_core.specs.Text.{pipeline_name, port_text, target_text, joined, step_text};
 ghost use Rattle.act_core.specs.declared.step.Step.TheVariants.{Jump, Set, Copy, SetOutport, Exchange, CtLbTo, CtCommit, CtSnatTo, CtDnatTo};
 
-use super::part::{put_const, put_part};
+use super::part::put_part;
 use crate::{Step, Target};
-use expr_core::{Bits, Const};
+use expr_core::{Bits, Const, put_const};
 use nv_base::{Field, Ip4, OutOfMemory, put_dec, put_ip4};
 
 // The name of a pipeline.

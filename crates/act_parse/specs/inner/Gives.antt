@@ -1,6 +1,5 @@
 -- What the readers of a text return.
-use Rattle.std.specs.Prelude.{◌≡◌, ℕ, ◌==◌, ◌||◌, Bool, List, Result, Ok, Err}
-use Rattle.std.specs.Char.{is_digit}
+use Rattle.std.specs.Prelude.{◌≡◌, ℕ, List, Result, Ok, Err}
 use Rattle.std.specs.Borrow.{Bor}
 use Rattle.act_parse.specs.declared.stop.Stop.{Stop}
 use Rattle.act_parse.specs.declared.stop.Stop.TheVariants as stop
@@ -16,7 +15,3 @@ abbrev pub Reads : {T : Type 0} → Result (T × Bor (List ℕ)) Stop → Readin
 Reads (Ok x) reading = reading ≡ Read x.0 x.1.now
 Reads (Err (stop.Stuck left)) reading = reading ≡ Stuck left
 Reads (Err stop.Memory) reading = Unit {0}
-
--- a byte that constants are spelled with: a hexadecimal digit, `x`, `.` or `:`
-abbrev pub is_in_constant : ℕ → Bool
-is_in_constant byte = is_digit byte 16 || (byte == 120) || (byte == 46) || (byte == 58)

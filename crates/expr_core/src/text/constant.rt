@@ -1,5 +1,4 @@
 ghost use Rattle.std.specs.Prelude.{◌≡◌, ◌++◌, ◌%◌, ◌^◌, OnOk, OnErr};
-ghost use Rattle.nv_base.specs.Growth.{GrowsAtEnd};
 ghost use Rattle.nv_base.specs.Mac.{mac_text};
 ghost use Rattle.nv_base.specs.Ip4.{address, ip4_text};
 ghost use Rattle.expr_core.specs.Text.{const_text};
@@ -7,8 +6,8 @@ ghost use Rattle.expr_core.specs.Text.{const_text};
 use crate::{Const, Form};
 use nv_base::{Ip4, Mac, OutOfMemory, put_dec, put_hex, put_ip4, put_mac};
 
-/// Appends a constant as its form spells it.
-pub(crate) fn put_const(out: &mut Vec<u8>, constant: Const) -> Result<(), OutOfMemory>
+/// Appends a constant as its form spells it. After `OutOfMemory` the bytes are as before.
+pub fn put_const(out: &mut Vec<u8>, constant: Const) -> Result<(), OutOfMemory>
     ensures ok { OnOk result (out.new.items ≡ out.old.items ++ const_text constant) }
     ensures err { OnErr result (out.new.items ≡ out.old.items) }
 {

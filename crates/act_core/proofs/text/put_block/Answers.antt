@@ -1,4 +1,4 @@
-use Rattle.act_core.proofs.Lists.{grown_more, on_err}
+use Rattle.nv_base.proofs.Growth.{grown_more, on_err}
 use Rattle.act_core.proofs.text.put_block.Goals as goal
 
 pub returns-in_err-put_spaced_steps-clause-err : goal.returns-in_err-put_spaced_steps-clause-err

@@ -1,17 +1,9 @@
-use Rattle.std.proofs.Common.{◌∙◌, arith}
-use Rattle.expr_parse.proofs.TokenFronts.{begins, goes_on, ends}
+use Rattle.std.proofs.Common.{length, option_map, ap, sym, ◌∙◌}
+use Rattle.expr_parse.proofs.TokenFronts.{number_token, longest_number}
 use Rattle.expr_parse.proofs.constants.constant.Goals as goal
 
-pub loop-len-init : goal.loop-len-init
-loop-len-init c =
-    let front = begins c.args.text.now c.min.result c.constant_run-len.result c.requires.some c.requires.first c.min.ensures c.constant_run-len.ensures in
-    record { within = front.0; same = front.1 }
+pub returns-in_err-number : goal.returns-in_err-number
+returns-in_err-number c = rw c.from_residual.ensures (ap (option_map number_token) c.in_err-number.ensures.found ∙ sym (longest_number c.args.text.now (length c.args.text.now) c.requires.some c.requires.first))
 
-pub loop-len-preserved : goal.loop-len-preserved
-loop-len-preserved c = record {
-  within = omega (arith, c.loop-len.invariant.within);
-  same = goes_on c.args.text.now c.loop-len.len c.requires.some c.requires.first c.loop-len-test.true c.in_default.ensures ∙ c.loop-len.invariant.same;
-}
-
-pub returns-in-Some : goal.returns-in-Some
-returns-in-Some c = ends c.args.text.now c.loop-len.len c.in-Some.number c.requires.some c.requires.first c.loop-len-test.true c.in-Some.ensures ∙ c.loop-len.invariant.same
+pub returns : goal.returns
+returns c = ap (option_map number_token) c.in_ok-number.ensures.found ∙ sym (longest_number c.args.text.now (length c.args.text.now) c.requires.some c.requires.first)

@@ -11,7 +11,7 @@ loop-name-preserved c =
     let next = next_name c.args.names.now c.loop-name.name-index c.name-item.result c.loop-name-test.true c.name-item.is in
     elim c.match-port_id.branch [
       | in-Some+in_ok-add_number w ↦
-          w.ids-is ∙ w.in_ok-add_number.ensures ∙ ap (with_number w.in-Some.id) c.loop-name.invariant
+          w.ids-is ∙ w.in_ok-add_number.ensures.ok ∙ ap (with_number w.in-Some.id) c.loop-name.invariant
           ∙ sym (named_more net so_far c.name-item.result w.in-Some.id w.in-Some.ensures) ∙ sym (ap (named_port_ids net) next)
       | in_default w ↦ w.ids-is ∙ c.loop-name.invariant ∙ sym (named_same net so_far c.name-item.result w.in_default.ensures) ∙ sym (ap (named_port_ids net) next)
     ]

@@ -1,7 +1,7 @@
 use Rattle.nb_script.proofs.Lines.{line_of_three}
 use Rattle.nb_dump.specs.Edits.{port_name}
 use Rattle.nb_dump.proofs.Scripts.{each_of_map}
-use Rattle.nb_text.proofs.Appends.{grown_more, on_err}
+use Rattle.nv_base.proofs.Growth.{grown_more, on_err}
 use Rattle.nb_dump.proofs.ends.put_pg_set_ports.Goals as goal
 
 pub returns-clause-ok : goal.returns-clause-ok

@@ -1,5 +1,5 @@
 use Rattle.nb_dump.proofs.Scripts.{scripts}
-use Rattle.nb_text.proofs.Appends.{grown_more, on_err}
+use Rattle.nv_base.proofs.Growth.{grown_more, on_err}
 use Rattle.nb_dump.proofs.parts.put_object.Goals as goal
 
 pub returns-clause-ok : goal.returns-clause-ok

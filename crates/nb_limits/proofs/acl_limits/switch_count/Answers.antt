@@ -17,7 +17,7 @@ loop-number-preserved c =
     subst (λ (ports : List ObjId). IsNoted c.args.records.now ports c.match-get.switches) (sym next)
     (elim c.match-get.branch [
       | in-Some+in_ok-add_number w ↦
-          subst (IsNoted c.args.records.now _) (sym (w.switches-is ∙ w.in_ok-add_number.ensures))
+          subst (IsNoted c.args.records.now _) (sym (w.switches-is ∙ w.in_ok-add_number.ensures.ok))
           (one_noted c.args.records.now c.requires.limitless so_far c.loop-number.switches c.loop-number.invariant number w.in-Some.port.now
           (w.in-Some.ensures.record ∙ ap (record_of (λ (port : Port). port.id) number) c.ports.ensures))
       | in_default w ↦

@@ -1,5 +1,5 @@
 use Rattle.nb_script.proofs.Lines.{line_of_three}
-use Rattle.nb_text.proofs.Appends.{grown_more, on_err}
+use Rattle.nv_base.proofs.Growth.{grown_more, on_err}
 use Rattle.nb_script.proofs.commands.put_router_port_disabled.Goals as goal
 
 pub returns-clause-ok : goal.returns-clause-ok

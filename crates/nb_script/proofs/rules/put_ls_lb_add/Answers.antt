@@ -1,4 +1,4 @@
-use Rattle.nb_text.proofs.Appends.{grown_more, on_err}
+use Rattle.nv_base.proofs.Growth.{grown_more, on_err}
 use Rattle.nb_script.proofs.rules.put_ls_lb_add.Goals as goal
 
 pub returns-in_err-put_word-clause-err : goal.returns-in_err-put_word-clause-err

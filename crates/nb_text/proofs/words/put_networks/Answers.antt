@@ -1,5 +1,5 @@
 use Rattle.std.proofs.lemmas.Result.{err_from_is_err_and}
-use Rattle.nb_text.proofs.Appends.{grown_more}
+use Rattle.nv_base.proofs.Growth.{grown_more}
 use Rattle.nb_text.proofs.words.put_networks.Goals as goal
 
 pub returns-in_err-put_network-clause-err : goal.returns-in_err-put_network-clause-err

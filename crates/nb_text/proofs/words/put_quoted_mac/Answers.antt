@@ -1,4 +1,5 @@
-use Rattle.nb_text.proofs.Appends.{grown_more, on_err, quoted}
+use Rattle.nv_base.proofs.Growth.{grown_more, on_err}
+use Rattle.nb_text.proofs.Appends.{quoted}
 use Rattle.nb_text.proofs.words.put_quoted_mac.Goals as goal
 
 pub returns-clause-ok : goal.returns-clause-ok

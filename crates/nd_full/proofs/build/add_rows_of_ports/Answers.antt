@@ -11,7 +11,7 @@ use Rattle.nd_full.specs.inner.Made.{port_units}
 use Rattle.nd_full.specs.inner.Owners.{ports_on}
 use Rattle.nd_full.proofs.Applied.{some_unknown}
 use Rattle.nd_full.proofs.Sound.{ports_rise}
-use Rattle.nd_full.proofs.Through.{all_left, these_after, these_fewer, these_next, these_none, these_or, these_whole}
+use Rattle.nb_table.proofs.Through.{all_left, these_after, these_fewer, these_next, these_none, these_or, these_whole}
 use Rattle.nd_full.proofs.build.add_rows_of_ports.Goals as goal
 
 pub add_rows_of_port-requires-clause-there : goal.add_rows_of_port-requires-clause-there

@@ -5,7 +5,7 @@ use Rattle.net_meaning.specs.Switches.{takes_unknown}
 use Rattle.net_rows.specs.Build.{has_unknown}
 use Rattle.nd_full.specs.inner.Made.{port_units}
 use Rattle.nd_full.specs.inner.Owners.{ports_on}
-use Rattle.nd_full.proofs.Through.{these_after}
+use Rattle.nb_table.proofs.Through.{these_after}
 use Rattle.nd_full.proofs.build.add_rows_of_ports.Given as goal
 
 -- the rows so far, and then those of the ports that are left, are all; and such a port was there, or is left, where there is one

@@ -6,7 +6,7 @@ use Rattle.nb_tables.proofs.Peering.{found_is_record}
 use Rattle.nd_full.specs.inner.Made.{datapath_rows}
 use Rattle.nd_full.proofs.Same.{same_appended, same_equal, same_next, same_whole}
 use Rattle.nd_full.proofs.Sound.{switches_rise}
-use Rattle.nd_full.proofs.Through.{all_left, fewer_left}
+use Rattle.nb_table.proofs.Through.{all_left, fewer_left}
 use Rattle.nd_full.proofs.build.add_rows_of_switches.Goals as goal
 
 pub rows_of_datapath-requires-clause-there : goal.rows_of_datapath-requires-clause-there

@@ -6,7 +6,7 @@ use Rattle.net_meaning.specs.Applies.{is_related}
 use Rattle.nd_full.specs.inner.Made.{has_related}
 use Rattle.nd_full.specs.inner.Owners.{acls_of}
 use Rattle.nd_full.proofs.Sound.{acls_rise}
-use Rattle.nd_full.proofs.Through.{all_left, these_fail, these_fewer, these_none, these_pass}
+use Rattle.nb_table.proofs.Through.{all_left, these_fail, these_fewer, these_none, these_pass}
 use Rattle.nd_full.proofs.inputs.has_related_acl.Goals as goal
 
 pub loop-acl-init : goal.loop-acl-init

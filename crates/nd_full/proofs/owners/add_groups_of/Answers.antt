@@ -5,7 +5,7 @@ use Rattle.nb_core.specs.declared.sets.Group.{Group}
 use Rattle.nb_net.specs.Belongs.{is_among}
 use Rattle.nd_full.specs.inner.Owners.{groups_of_port, groups_with}
 use Rattle.nd_full.proofs.Sound.{groups_rise}
-use Rattle.nd_full.proofs.Through.{all_left, these_after, these_fewer, these_next, these_whole}
+use Rattle.nb_table.proofs.Through.{all_left, these_after, these_fewer, these_next, these_whole}
 use Rattle.nd_full.proofs.owners.add_groups_of.Goals as goal
 
 -- numbers one by one

@@ -6,7 +6,7 @@ use Rattle.nb_net.specs.Network.{same}
 use Rattle.nd_full.specs.inner.Made.{acl_unit, acl_units}
 use Rattle.nd_full.specs.inner.Owners.{acls_of}
 use Rattle.nd_full.proofs.Sound.{acls_rise}
-use Rattle.nd_full.proofs.Through.{all_left, these_after, these_fewer, these_next, these_whole}
+use Rattle.nb_table.proofs.Through.{all_left, these_after, these_fewer, these_next, these_whole}
 use Rattle.nd_full.proofs.switches.add_rows_of_acls.Goals as goal
 
 pub loop-acl-init : goal.loop-acl-init

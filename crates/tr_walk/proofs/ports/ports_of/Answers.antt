@@ -6,7 +6,7 @@ use Rattle.nb_net.specs.Network.{same}
 use Rattle.tr_walk.specs.inner.Sides.{numbers_in, ports_of}
 use Rattle.net_rows.proofs.Sound.{ports_rise}
 use Rattle.tr_walk.proofs.PortNumbers.{members}
-use Rattle.tr_walk.proofs.Through.{all_left, these_after, these_fewer, these_next, these_whole}
+use Rattle.nb_table.proofs.Through.{all_left, these_after, these_fewer, these_next, these_whole}
 use Rattle.tr_walk.proofs.ports.ports_of.Goals as goal
 
 pub loop-port-init : goal.loop-port-init

@@ -1,5 +1,5 @@
 use Rattle.act_core.proofs.Lists.{appended_thrice}
-use Rattle.act_core.proofs.Lists.{grown_more, on_err}
+use Rattle.nv_base.proofs.Growth.{grown_more, on_err}
 use Rattle.act_core.proofs.text.step.put_balanced.Goals as goal
 
 pub returns-clause-ok : goal.returns-clause-ok

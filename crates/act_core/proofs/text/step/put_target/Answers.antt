@@ -1,5 +1,4 @@
-use Rattle.act_core.proofs.Lists.{grown_more, on_err}
-use Rattle.nv_base.proofs.Growth.{appended_twice}
+use Rattle.nv_base.proofs.Growth.{grown_more, on_err, appended_twice}
 use Rattle.act_core.proofs.text.step.put_target.Goals as goal
 
 pub returns-in_err-put_port-clause-err : goal.returns-in_err-put_port-clause-err

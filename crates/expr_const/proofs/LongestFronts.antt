@@ -2,7 +2,7 @@
 use Rattle.std.proofs.Common.{◌≡◌, ℕ, suc, zero, ◌<◌, ◌≤◌, List, take, Some, None, inl, inr, refl, ◌∙◌, arith}
 use Rattle.std.proofs.lemmas.Bool.{cases_lt}
 use Rattle.expr_core.specs.declared.constant.Const.{Const}
-use Rattle.act_parse.specs.Token.{constant_of, longest}
+use Rattle.expr_const.specs.Constant.{constant_of, longest}
 
 pub shorter : (m : ℕ) (text : List ℕ) → constant_of (take (suc m) text) ≡ None → longest (suc m) text ≡ longest m text
 shorter m text e = rw e refl

@@ -1,7 +1,7 @@
 -- Choices between a value and none.
 use Rattle.std.proofs.Common.{◌≡◌, Bool, true, false, cond, Option, Some, None, ◌⊎◌, inl, inr, refl}
 use Rattle.std.specs.Option.{option_map}
-use Rattle.act_parse.specs.Token.{or_else}
+use Rattle.expr_const.specs.Constant.{or_else}
 
 -- what can be no value is none
 pub none_from : {T : Type 0} (o : Option T) → ((x : T) → o ≡ Some x → ⊥) → o ≡ None

@@ -1,6 +1,6 @@
 use Rattle.std.proofs.Common.{◌≡◌, ◌≤◌, length}
-use Rattle.act_parse.specs.Token.{longest}
-use Rattle.act_parse.proofs.constant.longest.Given as goal
+use Rattle.expr_const.specs.Constant.{longest}
+use Rattle.expr_const.proofs.constant.longest.Given as goal
 
 abbrev pub invariant-loop-len : goal.invariant-loop-len
 invariant-loop-len l = record {

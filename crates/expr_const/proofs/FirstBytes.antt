@@ -7,8 +7,8 @@ use Rattle.nv_base.specs.Bytes.{octet_of, pair_of}
 use Rattle.nv_base.specs.Ip4.{ip4_of}
 use Rattle.nv_base.specs.declared.ip4.Ip4.{Ip4}
 use Rattle.nv_base.specs.Mac.{mac_of}
-use Rattle.act_parse.proofs.Pieces.{weaker}
-use Rattle.act_parse.proofs.Shapes.{split_parts, pair_parts, octet_parts, ip4_number}
+use Rattle.expr_const.proofs.Pieces.{weaker}
+use Rattle.expr_const.proofs.Shapes.{split_parts, pair_parts, octet_parts, ip4_number}
 
 -- the first byte of pieces that are not empty
 joined_first : (q : ℕ → Bool) (c b : ℕ) (bs : List ℕ) (parts : List (List ℕ)) → list_all (λ p. list_all q p) parts ≡ true → list_all (λ p. ltb 0 (length p)) parts ≡ true → join_with_byte c parts ≡ b ∷ bs → q b ≡ true

@@ -8,7 +8,7 @@ use Rattle.std.proofs.lemmas.Bool.{cases_lt, lt-ltb, le-ltb, ltb-true, eqb-true,
 use Rattle.std.proofs.lemmas.Bool.Decides.{nat_tests}
 use Rattle.std.proofs.lemmas.Option.{same_Some}
 use Rattle.nv_base.specs.Number.{digits_number, has_no_leading_zero, decimal_of}
-use Rattle.act_parse.proofs.Choices.{guarded}
+use Rattle.expr_const.proofs.Choices.{guarded}
 
 -- decimal digits stand in a row
 pub decimal_digit : (c : ℕ) → digit_value c < 10 → (48 ≤ c) × (c ≤ 57) × (digit_value c ≡ c - 48)

@@ -11,10 +11,10 @@ use Rattle.nv_base.specs.Ip4.{address, ip4_of}
 use Rattle.nv_base.specs.declared.ip4.Ip4.{Ip4}
 use Rattle.nv_base.specs.Mac.{mac_of}
 use Rattle.nv_base.specs.Number.{digits_number, decimal_of, below, hexadecimal_of}
-use Rattle.act_parse.specs.Token.{number_after_0x}
-use Rattle.act_parse.proofs.Choices.{none_from, guarded, mapped}
-use Rattle.act_parse.proofs.Decimals.{decimal_parts, decimal_length}
-use Rattle.act_parse.proofs.Pieces.{weaker, joined_all, joined_length_le, joined_length_is}
+use Rattle.expr_const.specs.Constant.{number_after_0x}
+use Rattle.expr_const.proofs.Choices.{none_from, guarded, mapped}
+use Rattle.expr_const.proofs.Decimals.{decimal_parts, decimal_length}
+use Rattle.expr_const.proofs.Pieces.{weaker, joined_all, joined_length_le, joined_length_is}
 
 -- what the parts are that spell bytes
 pub split_parts : (byte : List ℕ → Option ℕ) (count c : ℕ) (text : List ℕ) (n : ℕ) → number_of_parts byte count (slice_split (λ b. eqb b c) text) ≡ Some n
@@ -27,11 +27,11 @@ there : {T : Type 0} (o : Option T) → is_some o ≡ true → (x : T) × (o ≡
 there None e = absurd cc
 there (Some x) e = (x, refl)
 
-below_parts : (limit : ℕ) (o : Option ℕ) (n : ℕ) → below limit o ≡ Some n → (o ≡ Some n) × (n < limit)
+pub below_parts : (limit : ℕ) (o : Option ℕ) (n : ℕ) → below limit o ≡ Some n → (o ≡ Some n) × (n < limit)
 below_parts limit None n e = absurd cc
 below_parts limit (Some m) n e = let inner = cond_some (ltb m limit) m n e in (ap Some inner.1, rw (← inner.1) (ltb-true _ _ inner.0))
 
-digits_parts : (radix : ℕ) (text : List ℕ) (n : ℕ) → digits_number radix text ≡ Some n → list_all (λ c. is_digit c radix) text ≡ true
+pub digits_parts : (radix : ℕ) (text : List ℕ) (n : ℕ) → digits_number radix text ≡ Some n → list_all (λ c. is_digit c radix) text ≡ true
 digits_parts radix text n e = (and_parts _ _ (cond_some _ (digits_value radix text) n e).0).0
 
 pub pair_parts : (p : List ℕ) → is_some (pair_of p) ≡ true → (eqb (length p) 2 ≡ true) × (list_all (λ c. is_digit c 16) p ≡ true)

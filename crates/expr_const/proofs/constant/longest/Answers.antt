@@ -1,6 +1,6 @@
 use Rattle.std.proofs.Common.{◌∙◌, arith}
-use Rattle.act_parse.proofs.ConstantFronts.{begins, goes_on, ends}
-use Rattle.act_parse.proofs.constant.longest.Goals as goal
+use Rattle.expr_const.proofs.ConstantFronts.{begins, goes_on, ends}
+use Rattle.expr_const.proofs.constant.longest.Goals as goal
 
 pub loop-len-init : goal.loop-len-init
 loop-len-init c =

@@ -11,14 +11,14 @@ use Rattle.nv_base.specs.Mac.{mac_of}
 use Rattle.nv_base.specs.Number.{decimal_of}
 use Rattle.expr_core.specs.declared.constant.Const.{Const}
 use Rattle.expr_core.specs.declared.constant.Form.TheVariants as form
-use Rattle.act_parse.specs.Token.{or_else, constant_in, constant_of, number_after_0x, longest}
-use Rattle.act_parse.specs.inner.Gives.{is_in_constant}
-use Rattle.act_parse.proofs.Choices.{none_from, mapped, first_or_second}
-use Rattle.act_parse.proofs.Decimals.{decimal_parts, decimal_length}
-use Rattle.act_parse.proofs.Pieces.{weaker}
-use Rattle.act_parse.proofs.Shapes.{hexadecimal_parts, mac_digits, mac_length, ip4_digits, ip4_length}
-use Rattle.act_parse.proofs.Longest.{NoneBetween, cut, shorter, here}
-use Rattle.act_parse.proofs.Runs.{run_ends}
+use Rattle.expr_const.specs.Constant.{or_else, constant_in, constant_of, number_after_0x, longest}
+use Rattle.expr_const.specs.inner.Bytes.{is_in_constant}
+use Rattle.expr_const.proofs.Choices.{none_from, mapped, first_or_second}
+use Rattle.expr_const.proofs.Decimals.{decimal_parts, decimal_length}
+use Rattle.expr_const.proofs.Pieces.{weaker}
+use Rattle.expr_const.proofs.Shapes.{hexadecimal_parts, mac_digits, mac_length, ip4_digits, ip4_length}
+use Rattle.expr_const.proofs.LongestFronts.{NoneBetween, cut, shorter, here}
+use Rattle.expr_const.proofs.Runs.{run_ends}
 
 -- what is known of the text of a constant
 abbrev pub Spelt : List ℕ → Type 0

@@ -1,0 +1,9 @@
+pub mod Choices
+pub mod Decimals
+pub mod Pieces
+pub mod Runs
+pub mod Shapes
+pub mod LongestFronts
+pub mod ConstantFronts
+pub mod FirstBytes
+pub mod Misses

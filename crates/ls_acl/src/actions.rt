@@ -32,10 +32,7 @@ pub(crate) fn drops(alloc: Global) -> Result<Items<Action>, OutOfMemory>
 pub(crate) fn goes_on_after(alloc: Global, step: Step) -> Result<Items<Action>, OutOfMemory>
     ensures { IfOk result (λ actions. actions ≡ steps (step ∷ Step.Next ∷ [])) }
 {
-    let mut actions = Items::with_capacity(alloc, 2)?;
-    actions.push(Action::Step(step))?;
-    actions.push(Action::Step(Step::Next))?;
-    Ok(actions)
+    Ok(Items::from_items(vec![in alloc; Action::Step(step), Action::Step(Step::Next)]?))
 }
 
 /// The packet is to be tracked.
@@ -67,14 +64,15 @@ pub(crate) fn passes(alloc: Global, tracks: bool) -> Result<Items<Action>, OutOf
 fn rejects(alloc: Global) -> Result<Action, OutOfMemory>
     ensures { IfOk result (λ action. action ≡ rejects) }
 {
-    let mut block = Items::with_capacity(alloc, 3)?;
-    block.push(Step::Copy(Field::Outport, Bits::Whole, Field::Inport))?;
-    block.push(Step::Set(Field::FlagsLoopback, Bits::Whole, in_decimal(1)))?;
-    block.push(Step::Jump {
-        egress: true,
-        table: LAST_TABLE,
-    })?;
-    Ok(Action::Reject(block))
+    let block = vec![in alloc;
+        Step::Copy(Field::Outport, Bits::Whole, Field::Inport),
+        Step::Set(Field::FlagsLoopback, Bits::Whole, in_decimal(1)),
+        Step::Jump {
+            egress: true,
+            table: LAST_TABLE,
+        },
+    ]?;
+    Ok(Action::Reject(Items::from_items(block)))
 }
 
 // What becomes of the packet that an ACL takes, in one action.
@@ -94,17 +92,14 @@ fn last_action(alloc: Global, verdict: Verdict) -> Result<Action, OutOfMemory>
 pub(crate) fn ending(alloc: Global, verdict: Verdict) -> Result<Items<Action>, OutOfMemory>
     ensures { IfOk result (λ actions. actions ≡ ending verdict) }
 {
-    let mut actions = Items::with_capacity(alloc, 1)?;
-    actions.push(last_action(alloc, verdict)?)?;
-    Ok(actions)
+    Ok(Items::from_items(vec![in alloc; last_action(alloc, verdict)?]?))
 }
 
 /// The packet's connection is blocked, and then the packet meets its end.
 pub(crate) fn blocks(alloc: Global, verdict: Verdict) -> Result<Items<Action>, OutOfMemory>
     ensures { IfOk result (λ actions. actions ≡ blocks verdict) }
 {
-    let mut actions = Items::with_capacity(alloc, 2)?;
-    actions.push(Action::Step(Step::CtCommit { blocked: true }))?;
-    actions.push(last_action(alloc, verdict)?)?;
-    Ok(actions)
+    let last = last_action(alloc, verdict)?;
+    let commit = Action::Step(Step::CtCommit { blocked: true });
+    Ok(Items::from_items(vec![in alloc; commit, last]?))
 }

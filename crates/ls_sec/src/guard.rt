@@ -193,12 +193,13 @@ fn lets_others_in(alloc: Global, name: &Name, guard: &Guard) -> Result<Rule, Out
     ensures { IfOk result (λ r. r ≡ lets_in_where name.now guard.now
         (is_none_of Field.EthType (ip4_type ∷ arp_type ∷ ip6_type ∷ []) ∷ [])) }
 {
-    let mut types = Items::with_capacity(alloc, 3)?;
-    types.push(Item::One(in_hexadecimal(0x800)))?;
-    types.push(Item::One(in_hexadecimal(0x806)))?;
-    types.push(Item::One(in_hexadecimal(0x86dd)))?;
     let mut terms = from_guarded(alloc, name, guard)?;
-    terms.push(is_none_of(Field::EthType, types))?;
+    let types = vec![in alloc;
+        Item::One(in_hexadecimal(0x800)),
+        Item::One(in_hexadecimal(0x806)),
+        Item::One(in_hexadecimal(0x86dd)),
+    ]?;
+    terms.push(is_none_of(Field::EthType, Items::from_items(types)))?;
     lets_in(alloc, terms)
 }
 
@@ -217,10 +218,11 @@ fn lets_others_out(alloc: Global, name: &Name, guard: &Guard) -> Result<Rule, Ou
     ensures { IfOk result (λ r. r ≡ lets_out_where name.now guard.now
         (is_none_of Field.EthType (ip4_type ∷ ip6_type ∷ []) ∷ [])) }
 {
-    let mut types = Items::with_capacity(alloc, 2)?;
-    types.push(Item::One(in_hexadecimal(0x800)))?;
-    types.push(Item::One(in_hexadecimal(0x86dd)))?;
     let mut terms = to_guarded(alloc, name, guard)?;
-    terms.push(is_none_of(Field::EthType, types))?;
+    let types = vec![in alloc;
+        Item::One(in_hexadecimal(0x800)),
+        Item::One(in_hexadecimal(0x86dd)),
+    ]?;
+    terms.push(is_none_of(Field::EthType, Items::from_items(types)))?;
     lets_out(alloc, terms)
 }

@@ -37,6 +37,13 @@ impl<T> Items<T> {
         })
     }
 
+    /// The list of the items of a `Vec`, in order.
+    pub fn from_items(items: Vec<T>) -> Self
+        ensures { result ≡ items.items }
+    {
+        Items { items }
+    }
+
     /// Puts an item last. After `OutOfMemory` the list is as before.
     #[inline]
     pub fn push(&mut self, item: T) -> Result<(), OutOfMemory>

@@ -73,9 +73,7 @@ fn compares(field: Field, item: Item) -> Typed
 pub fn one_step(alloc: Global, step: Step) -> Result<Items<Action>, OutOfMemory>
     ensures { IfOk result (λ actions. actions ≡ Action.Step step ∷ []) }
 {
-    let mut actions = Items::with_capacity(alloc, 1)?;
-    actions.push(Action::Step(step))?;
-    Ok(actions)
+    Ok(Items::from_items(vec![in alloc; Action::Step(step)]?))
 }
 
 /// A number as a constant of a match or an action, in decimal.
@@ -161,10 +159,7 @@ pub fn bit_is_set(field: Field, number: u8) -> Typed
 pub fn both(alloc: Global, one: Typed, other: Typed) -> Result<Typed, OutOfMemory>
     ensures { IfOk result (λ t. t ≡ all_of (one ∷ other ∷ [])) }
 {
-    let mut operands = Items::with_capacity(alloc, 2)?;
-    operands.push(one)?;
-    operands.push(other)?;
-    Ok(Typed::conjunction(operands))
+    Ok(Typed::conjunction(Items::from_items(vec![in alloc; one, other]?)))
 }
 
 /// The match `one || other`, of the packets that one of the two takes (ovn-sb(5), 'Logical_Flow TABLE', match). Where
@@ -172,10 +167,7 @@ pub fn both(alloc: Global, one: Typed, other: Typed) -> Result<Typed, OutOfMemor
 pub fn either(alloc: Global, one: Typed, other: Typed) -> Result<Typed, OutOfMemory>
     ensures { IfOk result (λ t. t ≡ one_of (one ∷ other ∷ [])) }
 {
-    let mut operands = Items::with_capacity(alloc, 2)?;
-    operands.push(one)?;
-    operands.push(other)?;
-    Ok(Typed::disjunction(operands))
+    Ok(Typed::disjunction(Items::from_items(vec![in alloc; one, other]?)))
 }
 
 /// The actions `outport = "name"; output;`, which send a packet out by the port or the multicast group of this name
@@ -183,8 +175,6 @@ pub fn either(alloc: Global, one: Typed, other: Typed) -> Result<Typed, OutOfMem
 pub fn goes_out_by(alloc: Global, name: Name) -> Result<Items<Action>, OutOfMemory>
     ensures { IfOk result (λ actions. actions ≡ goes_out_by name) }
 {
-    let mut actions = Items::with_capacity(alloc, 2)?;
-    actions.push(Action::Step(Step::SetOutport(name)))?;
-    actions.push(Action::Step(Step::Output))?;
-    Ok(actions)
+    let chosen = Action::Step(Step::SetOutport(name));
+    Ok(Items::from_items(vec![in alloc; chosen, Action::Step(Step::Output)]?))
 }

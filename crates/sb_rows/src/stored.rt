@@ -76,28 +76,27 @@ impl Stored {
     pub(crate) fn new(alloc: Global, row: Row, room: &mut Vec<u8>) -> Result<Self, OutOfMemory>
         ensures { IfOk result (λ stored. stored ≡ row) }
     {
-        room.clear();
-        room.reserve(MOST_TEXTS)?;
-        put_tree(room, &row.matching)?;
-        let text = Vec::from_slice(alloc, room.as_slice())?;
-        let key = key_of_row(&row);
-        let asked = asked_by(&row.matching);
-        let kept = Box::new(alloc, Written { row, text })?;
-        Ok(Stored { key, asked, kept })
+        let text = text_of(alloc, &row.matching, room)?;
+        Stored::with_text(alloc, row, text)
     }
 
     // An equal row, and the text of its match, which is not written again.
     pub(crate) fn copy(&self, alloc: Global) -> Result<Self, OutOfMemory>
         ensures { IfOk result (λ copied. copied ≡ self.now) }
     {
-        let row = self.kept.row.copy(alloc)?;
-        let text = Vec::from_slice(alloc, self.kept.text.as_slice())?;
+        let text = Vec::from_slice(alloc, self.text())?;
+        Stored::with_text(alloc, self.kept.row.copy(alloc)?, text)
+    }
+
+    // The row, beside the text of its match.
+    fn with_text(alloc: Global, row: Row, text: Vec<u8>) -> Result<Self, OutOfMemory>
+        requires { text.items ≡ typed_text row.matching }
+        ensures { IfOk result (λ stored. stored ≡ row) }
+    {
+        let key = key_of_row(&row);
+        let asked = asked_by(&row.matching);
         let kept = Box::new(alloc, Written { row, text })?;
-        Ok(Stored {
-            key: self.key,
-            asked: self.asked,
-            kept,
-        })
+        Ok(Stored { key, asked, kept })
     }
 
     pub(crate) fn row(&self) -> &Row
@@ -166,6 +165,16 @@ impl PartialEq for Stored {
     fn eq(&self, other: &Self) -> bool {
         self.row() == other.row()
     }
+}
+
+// The text of a match. `room` is a place to write in, of which nothing stays.
+fn text_of(alloc: Global, matching: &Typed, room: &mut Vec<u8>) -> Result<Vec<u8>, OutOfMemory>
+    ensures { IfOk result (λ text. text.items ≡ typed_text matching.now) }
+{
+    room.clear();
+    room.reserve(MOST_TEXTS)?;
+    put_tree(room, matching)?;
+    Ok(Vec::from_slice(alloc, room.as_slice())?)
 }
 
 // The key of a row.

@@ -15,7 +15,7 @@ use nv_base::{Items, OutOfMemory};
 use std::alloc::Global;
 
 /// What a line says.
-#[derive(Drop, PartialEq, Eq)]
+#[derive(Drop)]
 pub enum Line {
     /// Nothing: it is blank, or a comment.
     Nothing,

@@ -17,7 +17,7 @@ use pkt_micro::Micro;
 use std::alloc::Global;
 
 /// What a line asks to be told.
-#[derive(Drop, PartialEq, Eq)]
+#[derive(Drop)]
 pub enum Query {
     /// `lflow-list [DP]`: the flows of the datapath, or of all (ovn-sbctl(8), `lflow-list`).
     FlowList(Option<Name>),

@@ -15,7 +15,7 @@ pub enum OwnerKind {
 }
 
 /// One editing command. `may_exist` and `if_exists` say whether the option of that name stands.
-#[derive(Drop, PartialEq, Eq)]
+#[derive(Drop)]
 pub enum Edit {
     /// `ls-add NAME`
     LsAdd {

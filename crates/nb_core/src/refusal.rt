@@ -76,7 +76,7 @@ pub enum MicroRule {
 }
 
 /// Why a line is refused. A word is given by its number in the line, from 1; a place is the offset of a byte in the match.
-#[derive(Debug, Drop, PartialEq, Eq)]
+#[derive(Drop)]
 pub enum Refusal {
     /// The line is not UTF-8.
     NotUtf8,

@@ -12,7 +12,7 @@ use nv_base::{Items, OutOfMemory};
 use std::alloc::Global;
 
 /// A command of a line.
-#[derive(Drop, PartialEq, Eq)]
+#[derive(Drop)]
 pub struct Command {
     /// The number of its first word in the line, from 1.
     pub first: u32,

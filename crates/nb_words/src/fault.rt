@@ -2,7 +2,7 @@ use nb_core::Refusal;
 use nv_base::OutOfMemory;
 
 /// Why nothing was read of a line.
-#[derive(Drop, PartialEq, Eq)]
+#[derive(Drop)]
 pub enum LineFault {
     /// The line is refused.
     Refused(Refusal),

@@ -7,7 +7,7 @@ use nv_base::{Items, OutOfMemory};
 use std::alloc::Global;
 
 /// A word of a line.
-#[derive(Drop, PartialEq, Eq)]
+#[derive(Drop)]
 pub struct Word {
     /// Its bytes, without the quotes.
     pub text: Items<u8>,

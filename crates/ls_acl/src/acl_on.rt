@@ -1,5 +1,5 @@
 //! The rows of an ACL on a switch.
-ghost use Rattle.std.specs.Prelude.{◌≡◌, ◌++◌, IfOk, OnOk};
+ghost use Rattle.std.specs.Prelude.{◌≡◌, [], ◌∷◌, ◌++◌, IfOk, OnOk};
 ghost use Rattle.net_rows.specs.Acls.{
   first_stage_of,
   stage_of,
@@ -10,6 +10,7 @@ ghost use Rattle.net_rows.specs.Acls.{
   acl_on_rules,
 };
 ghost use Rattle.net_rows.specs.Unit.{rule, said_by, unit_of, unit_rows};
+ghost use Rattle.sb_model.specs.Make.{all_of};
 ghost use Rattle.ls_acl.specs.inner.Parts.{blocking_rule, refusing_rule};
 
 use crate::actions::{blocks, ending, goes_on, passes};
@@ -211,15 +212,21 @@ fn add_refusing_rows(
     Ok(())
 }
 
+// What the ACL takes of the packets of which this holds.
+fn taken_where(alloc: Global, known: Typed, acl: &AclOnInput) -> Result<Typed, OutOfMemory>
+    ensures { IfOk result (λ t. t ≡ all_of (known ∷ acl.now.matching ∷ [])) }
+{
+    both(alloc, known, acl.matching.copy(alloc)?)
+}
+
 // The connection of an established packet is blocked.
 fn blocking_rule(alloc: Global, priority: u16, acl: &AclOnInput) -> Result<Rule, OutOfMemory>
     ensures { IfOk result (λ rule. rule ≡ blocking_rule priority acl.now) }
 {
-    let is_established = predicate(Pred::CtEst);
     Ok(Rule {
         stage: stage_of(acl.way),
         priority,
-        matching: both(alloc, is_established, acl.matching.copy(alloc)?)?,
+        matching: taken_where(alloc, predicate(Pred::CtEst), acl)?,
         actions: blocks(alloc, acl.verdict)?,
     })
 }
@@ -232,7 +239,7 @@ fn refusing_rule(alloc: Global, priority: u16, acl: &AclOnInput) -> Result<Rule,
     Ok(Rule {
         stage: stage_of(acl.way),
         priority,
-        matching: both(alloc, is_new, acl.matching.copy(alloc)?)?,
+        matching: taken_where(alloc, is_new, acl)?,
         actions: ending(alloc, acl.verdict)?,
     })
 }

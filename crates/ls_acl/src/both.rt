@@ -1,4 +1,4 @@
-ghost use Rattle.std.specs.Prelude.{◌≡◌, ◌++◌, OnOk};
+ghost use Rattle.std.specs.Prelude.{◌≡◌, ◌++◌, IfOk, OnOk};
 ghost use Rattle.net_rows.specs.Unit.{said_by};
 ghost use Rattle.ls_acl.specs.inner.Parts.{both};
 
@@ -18,13 +18,20 @@ pub(crate) fn put_in_both(
 ) -> Result<(), OutOfMemory>
     ensures { OnOk result (rows.new ≡ rows.old ++ said_by unit (both rule egress)) }
 {
-    let in_egress = Rule {
-        stage: egress,
-        priority: rule.priority,
-        matching: rule.matching.copy(alloc)?,
-        actions: rule.actions.copy(alloc)?,
-    };
+    let in_egress = in_stage(alloc, &rule, egress)?;
     unit.put(rows, rule)?;
     unit.put(rows, in_egress)?;
     Ok(())
+}
+
+// The same rule, in another stage.
+fn in_stage(alloc: Global, rule: &Rule, other: Stage) -> Result<Rule, OutOfMemory>
+    ensures { IfOk result (λ same. same ≡ record rule.now { stage = other }) }
+{
+    Ok(Rule {
+        stage: other,
+        priority: rule.priority,
+        matching: rule.matching.copy(alloc)?,
+        actions: rule.actions.copy(alloc)?,
+    })
 }

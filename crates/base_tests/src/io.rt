@@ -80,11 +80,11 @@ fn third_take_fails(rt: HostRuntime) -> Result<(), Fail> {
     let fail = Vec::from_slice(rt.alloc(), &[3])?;
     let mut source = MemSource::new(bytes, 2, fail);
     let given = given_by(rt.alloc(), &mut source, 4)?;
-    assert_eq!(rt; given.as_slice(), b"ab cd !ef ".as_slice());
-    assert_eq!(rt; source.left(), b"g".as_slice());
-    assert_eq!(rt; (source.takes(), source.faults()), (4, 1));
+    assert!(rt; given.as_slice() == b"ab cd !ef ".as_slice());
+    assert!(rt; source.left() == b"g".as_slice());
+    assert!(rt; (source.takes(), source.faults()) == (4, 1));
     let rest = given_by(rt.alloc(), &mut source, 2)?;
-    assert_eq!(rt; rest.as_slice(), b"g  ".as_slice());
+    assert!(rt; rest.as_slice() == b"g  ".as_slice());
     Ok(())
 }
 
@@ -93,9 +93,9 @@ fn clean_source_gives_all(rt: HostRuntime) -> Result<(), Fail> {
     let bytes = Vec::from_slice(rt.alloc(), b"abcdefg")?;
     let mut source = CleanSource::new(bytes, 9);
     let given = given_by(rt.alloc(), &mut source, 1)?;
-    assert_eq!(rt; given.as_slice(), b"abcd ".as_slice());
-    assert_eq!(rt; source.left(), b"efg".as_slice());
-    assert_eq!(rt; source.takes(), 1);
+    assert!(rt; given.as_slice() == b"abcd ".as_slice());
+    assert!(rt; source.left() == b"efg".as_slice());
+    assert!(rt; source.takes() == 1);
     Ok(())
 }
 
@@ -104,10 +104,10 @@ fn first_put_fails_and_the_room_ends(rt: HostRuntime) -> Result<(), Fail> {
     let fail = Vec::from_slice(rt.alloc(), &[1])?;
     let mut sink = MemSink::new(rt.alloc(), 5, 2, fail)?;
     let taken = taken_by(rt.alloc(), &mut sink, b"abc", 5)?;
-    assert_eq!(rt; taken.as_slice(), [0, 2, 2, 1, 0].as_slice());
-    assert_eq!(rt; sink.as_slice(), b"ababa".as_slice());
-    assert_eq!(rt; (sink.puts(), sink.faults()), (5, 2));
-    assert_eq!(rt; sink.into_items().as_slice(), b"ababa".as_slice());
+    assert!(rt; taken.as_slice() == [0, 2, 2, 1, 0].as_slice());
+    assert!(rt; sink.as_slice() == b"ababa".as_slice());
+    assert!(rt; (sink.puts(), sink.faults()) == (5, 2));
+    assert!(rt; sink.into_items().as_slice() == b"ababa".as_slice());
     Ok(())
 }
 
@@ -116,8 +116,8 @@ fn null_sink_counts(rt: HostRuntime) -> Result<(), Fail> {
     let mut sink = NullSink::new();
     assert!(rt; sink.is_empty());
     let taken = taken_by(rt.alloc(), &mut sink, b"abc", 2)?;
-    assert_eq!(rt; taken.as_slice(), [3, 3].as_slice());
-    assert_eq!(rt; (sink.len(), sink.puts()), (6, 2));
+    assert!(rt; taken.as_slice() == [3, 3].as_slice());
+    assert!(rt; (sink.len(), sink.puts()) == (6, 2));
     Ok(())
 }
 
@@ -125,21 +125,15 @@ fn null_sink_counts(rt: HostRuntime) -> Result<(), Fail> {
 fn standard_readers(rt: HostRuntime) -> Result<(), Fail> {
     let mut source = StdSource::new(b"abcdefg".as_slice());
     let given = given_by(rt.alloc(), &mut source, 3)?;
-    assert_eq!(rt; given.as_slice(), b"abcd efg  ".as_slice());
-    assert_eq!(rt;
-        (source.given(), source.takes(), source.faults()),
-        (7, 3, 0)
-    );
-    assert_eq!(rt; source.into_inner().len(), 0);
+    assert!(rt; given.as_slice() == b"abcd efg  ".as_slice());
+    assert!(rt; (source.given(), source.takes(), source.faults()) == (7, 3, 0));
+    assert!(rt; source.into_inner().len() == 0);
 
     // A fault is no end: the reader may give bytes after it.
     let mut broken = StdSource::new(FailsOnce { reads: 0 });
     let given = given_by(rt.alloc(), &mut broken, 2)?;
-    assert_eq!(rt; given.as_slice(), b"!x ".as_slice());
-    assert_eq!(rt;
-        (broken.given(), broken.takes(), broken.faults()),
-        (1, 2, 1)
-    );
+    assert!(rt; given.as_slice() == b"!x ".as_slice());
+    assert!(rt; (broken.given(), broken.takes(), broken.faults()) == (1, 2, 1));
     Ok(())
 }
 
@@ -147,13 +141,13 @@ fn standard_readers(rt: HostRuntime) -> Result<(), Fail> {
 fn standard_writers(rt: HostRuntime) -> Result<(), Fail> {
     let mut sink = StdSink::new(Vec::new(rt.alloc()));
     let taken = taken_by(rt.alloc(), &mut sink, b"abc", 2)?;
-    assert_eq!(rt; taken.as_slice(), [3, 3].as_slice());
-    assert_eq!(rt; (sink.amount(), sink.puts(), sink.faults()), (6, 2, 0));
-    assert_eq!(rt; sink.into_inner().as_slice(), b"abcabc".as_slice());
+    assert!(rt; taken.as_slice() == [3, 3].as_slice());
+    assert!(rt; (sink.amount(), sink.puts(), sink.faults()) == (6, 2, 0));
+    assert!(rt; sink.into_inner().as_slice() == b"abcabc".as_slice());
 
     let mut stuck = StdSink::new(Stuck);
     let taken = taken_by(rt.alloc(), &mut stuck, b"abc", 2)?;
-    assert_eq!(rt; taken.as_slice(), [0, 0].as_slice());
-    assert_eq!(rt; (stuck.puts(), stuck.faults()), (2, 2));
+    assert!(rt; taken.as_slice() == [0, 0].as_slice());
+    assert!(rt; (stuck.puts(), stuck.faults()) == (2, 2));
     Ok(())
 }

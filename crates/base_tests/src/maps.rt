@@ -96,41 +96,70 @@ fn one_side_taken_leaves_the_other_flat(rt: HostRuntime) -> Result<(), Fail> {
     Ok(())
 }
 
-#[test]
-fn entries_are_put_taken_and_exchanged(rt: HostRuntime) -> Result<(), Fail> {
+// The names `lp1`, `lp2` and `lp10`, each with its number.
+fn three_names(alloc: Global) -> Result<Map<Name, ObjId>, OutOfMemory> {
     let mut names = Map::new();
     for (name, number) in [("lp2", 2), ("lp10", 10), ("lp1", 1)] {
-        let name = Name::from_slice(rt.alloc(), name.as_bytes())?;
-        let entry = Entry::new(rt.alloc(), name, ObjId(number))?;
-        assert!(rt; *entry.value() == ObjId(number));
+        let entry = Entry::new(
+            alloc,
+            Name::from_slice(alloc, name.as_bytes())?,
+            ObjId(number),
+        )?;
         if names.get(entry.key()).is_none() {
             names.put(entry);
         }
     }
+    Ok(names)
+}
+
+// The number of the name becomes another one; what it was.
+fn exchanged(names: &mut Map<Name, ObjId>, name: &Name, number: ObjId) -> Option<ObjId> {
+    if names.get(name).is_none() {
+        return None;
+    }
+    Some(names.exchange(name, number))
+}
+
+// The name after this one, or the first one, has these bytes and this number.
+fn is_after(names: &Map<Name, ObjId>, name: Option<&Name>, bytes: &[u8], number: ObjId) -> bool {
+    match names.first_after(name) {
+        Some((found, value)) => found.as_slice() == bytes && *value == number,
+        None => false,
+    }
+}
+
+// The entry of the name was there, is not once it is taken out, and is put in again.
+fn is_taken_and_put(names: &mut Map<Name, ObjId>, name: &Name) -> bool {
+    match names.take(name) {
+        Some(entry) if names.get(name).is_none() && names.get(entry.key()).is_none() => {
+            names.put(entry);
+            true
+        }
+        _ => false,
+    }
+}
+
+#[test]
+fn entries_are_put_taken_and_exchanged(rt: HostRuntime) -> Result<(), Fail> {
+    let mut names = three_names(rt.alloc())?;
     let key = Name::from_slice(rt.alloc(), b"lp10")?;
     assert!(rt; names.get(&key) == Some(&ObjId(10)));
-    if names.get(&key).is_some() {
-        assert!(rt; names.exchange(&key, ObjId(11)) == ObjId(10));
-    }
+    assert!(rt; exchanged(&mut names, &key, ObjId(11)) == Some(ObjId(10)));
     assert!(rt; names.get(&key) == Some(&ObjId(11)));
-    let after = names.first_after(Some(&key));
-    assert!(rt; matches!(after, Some((name, ObjId(2))) if name.as_slice() == b"lp2".as_slice()));
-    let first = names.first_after(None);
-    assert!(rt; matches!(first, Some((name, ObjId(1))) if name.as_slice() == b"lp1".as_slice()));
-    match names.take(&key) {
-        Some(entry) => {
-            assert!(rt; names.get(&key).is_none());
-            if names.get(entry.key()).is_none() {
-                names.put(entry);
-            }
-        }
-        None => assert!(rt; false),
-    }
+    assert!(rt; is_after(&names, Some(&key), b"lp2", ObjId(2)));
+    assert!(rt; is_after(&names, None, b"lp1", ObjId(1)));
+    assert!(rt; is_taken_and_put(&mut names, &key));
     assert!(rt; names.get(&key) == Some(&ObjId(11)));
+    Ok(())
+}
+
+#[test]
+fn the_only_entry_is_taken(rt: HostRuntime) -> Result<(), Fail> {
     let mut pairs = Map::new();
     assert!(rt; pairs.is_empty() && pairs.levels() == 0);
     let pair = (ObjId(1), ObjId(2));
     let entry = Entry::new(rt.alloc(), pair, ())?;
+    assert!(rt; *entry.key() == pair && *entry.value() == ());
     if pairs.get(&pair).is_none() {
         pairs.put(entry);
     }

@@ -13,3 +13,4 @@ pub mod Stable
 pub mod Tables
 pub mod Tail
 pub mod Taken
+pub mod Texts

@@ -6,7 +6,7 @@ use Rattle.std.specs.List.{All, AllWithin, find}
 use Rattle.std.specs.List.Sorted.{IsNonDecreasingBy, IsPartitionPoint}
 use Rattle.std.proofs.lemmas.Bool.{eqb-true, eq-eqb, and_parts}
 use Rattle.std.proofs.lemmas.Bool.Decides.{nat_tests}
-use Rattle.std.proofs.lemmas.List.{get_or-drop, get_or_default}
+use Rattle.std.proofs.lemmas.List.{drop_more, get_or-drop, get_or_default}
 use Rattle.std.proofs.lemmas.List.Elements.{All-head, All-tail}
 use Rattle.std.proofs.lemmas.List.Sorted.{IsNonDecreasingBy-from_all_adjacent, IsNonDecreasingBy-drop}
 use Rattle.pkt_core.specs.Packet.{Values}
@@ -93,6 +93,11 @@ module _ {X : Type 0} (key : X → ℕ) (t : ℕ) (passes : X → Bool) where
       by false is rest =
           sym (find_none (λ y. eqb (key y) t && passes y) xs
           (λ k d below. ap (λ (b : Bool). b && passes (get_or xs k d)) (later t (key x) (key (get_or xs k d)) (All-head (λ y. t ≤ key y) x xs from) (rise 0 (suc k) d (omega arith) (omega arith)) is)))
+
+  -- such a search from a place goes on at the next one, where the element has the key and does not pass
+  pub find_while_on : (xs : List X) (i : ℕ) (x : X) → i < length xs → x ≡ get_or xs i x → key x ≡ t → false ≡ passes x
+      → find_while (λ y. eqb (key y) t) passes (drop (i + 1) xs) ≡ find_while (λ y. eqb (key y) t) passes (drop i xs)
+  find_while_on xs i x within is has fails = rw (drop_more xs i x within, ← is, eq-eqb (key x) t has, ← fails) refl
 
 below_other : (t n : ℕ) → n < t → eqb n t ≡ false
 below_other t n h = grind (arith, nat_tests)

@@ -1,16 +1,16 @@
 -- Rows of which one is taken out are rows still, and a row is found by its key.
-use Rattle.std.proofs.Common.{◌≡◌, ◌≢◌, ℕ, ◌+◌, ◌-◌, ◌<◌, ◌≤◌, Bool, true, false, cond, List, length, get_or, take, drop, sym, ap, refl, ◌∙◌, subst, ltb, arith, length-drop, length-take}
+use Rattle.std.proofs.Common.{◌≡◌, ◌≢◌, ℕ, suc, ◌+◌, ◌-◌, ◌<◌, ◌≤◌, Bool, true, false, cond, List, ◌∷◌, ◌++◌, length, get_or, take, drop, sym, ap, refl, ◌∙◌, subst, ltb, arith, length-drop, length-take}
 use Rattle.std.specs.Prelude.{Option, Some, None, is_some, IfSome, IfNone, IsTrue, ◌↔◌}
 use Rattle.std.specs.Ordering.{is_lt, is_le}
 use Rattle.std.specs.List.{remove, All, AllPairs, Contains}
 use Rattle.std.specs.List.Sorted.{IsPartitionPoint, IsPartitionedBy}
 use Rattle.std.proofs.lemmas.Bool.{false≢true}
 use Rattle.std.proofs.lemmas.Bool.Decides.{nat_tests}
-use Rattle.std.proofs.lemmas.List.{get_or-take, get_or-drop}
+use Rattle.std.proofs.lemmas.List.{get_or-take, get_or-drop, set-get_or, set_split}
 use Rattle.std.proofs.lemmas.List.Edits.{length-remove, get_or-remove_below, get_or-remove_above}
 use Rattle.std.proofs.lemmas.List.Sorted.{sorted_far, ranks_by}
 use Rattle.sb_model.specs.declared.row.Row.{Row}
-use Rattle.sb_rows.specs.Row.{key_cmp, IsInRowOrder, AreRows, HasTypedMatch}
+use Rattle.sb_rows.specs.Row.{key_cmp, IsInRowOrder, AreRows, HasTypedMatch, IsWithout}
 use Rattle.sb_rows.specs.inner.Places.{IsAt}
 use Rattle.sb_rows.proofs.Order.{row_cmp_total, level_itself}
 
@@ -64,6 +64,15 @@ removed_are_rows xs left i is within are = subst AreRows (sym is) (record {
   distinct = AllPairs-remove xs i within (λ a b. a ≢ b) are.distinct;
   typed = All-remove xs i within HasTypedMatch are.typed;
 })
+
+-- and they are the rows without the one that was there
+pub removed_is_without : (row : Row) (xs left : List Row) (i : ℕ) → left ≡ remove xs i → IsAt row xs i → IsWithout row xs left
+removed_is_without row xs left i is (within, there) = record {
+  before = take i xs;
+  after = drop (suc i) xs;
+  were = sym (set-get_or xs i row) ∙ set_split xs i (get_or xs i row) within ∙ ap (λ x. take i xs ++ x ∷ drop (suc i) xs) there;
+  are = is;
+}
 
 -- ---- where a row is
 

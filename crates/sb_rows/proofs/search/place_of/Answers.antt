@@ -6,7 +6,7 @@ use Rattle.std.proofs.lemmas.List.Sorted.{IsPartitionPoint-from_clause}
 use Rattle.sb_model.specs.declared.row.Row.{Row}
 use Rattle.sb_rows.specs.Row.{key_cmp}
 use Rattle.sb_rows.proofs.Order.{key_cmp_total, keys_in_order, parted_lt, parted_le}
-use Rattle.sb_rows.proofs.Taken.{not_there, parted_drop}
+use Rattle.sb_rows.proofs.Taken.{at_place, not_there, parted_drop}
 use Rattle.sb_rows.proofs.search.place_of.Goals as goal
 
 if_none : {X : Type 0} (o : Option X) (P : Type 0) → P → IfNone o P
@@ -26,3 +26,6 @@ returns-in_err-at-clause-absent c =
     let begins = IsPartitionPoint-from_clause lower rows _ low.ensures.partitioned (parted_lt key_cmp_total rows up row) (λ a r q k. search rules) in
     let ends = IsPartitionPoint-from_clause most (drop low.result rows) _ (rw take_rest at count.ensures.partitioned) (parted_drop most rows low.result (parted_le key_cmp_total rows up row)) (λ a r q k. search rules) in
     if_none _ _ (not_there row rows low.result count.result begins (rw take_rest at count.ensures.bound) ends (rw take_rest at c.in_err-at.ensures.absent))
+
+pub returns-clause-there : goal.returns-clause-there
+returns-clause-there c = at_place c.args.row.now c.args.rows.now _ _ _ (rw take_rest at c.in_ok-at.ensures.there)

@@ -18,3 +18,6 @@ invariant_of-self-2 c = subst AreRows (sym (put_there c)) (put_keeps_rows c.args
 
 pub returns-clause-ok : goal.returns-clause-ok
 returns-clause-ok c = rw (← c.self.view_is) (put_there c)
+
+pub insert-requires : goal.insert-requires
+insert-requires c = rw c.deref.ensures.len at c.place_among-at.ensures.bound

@@ -1,5 +1,6 @@
 pub mod BuiltLines
 pub mod EachEdit
+pub mod Known
 pub mod Microflows
 pub mod QueryWords
 pub mod Quoted

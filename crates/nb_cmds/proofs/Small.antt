@@ -14,6 +14,9 @@ all : (a b : Bool) → a ≡ true → b ≡ true → (a && b) ≡ true
 all true b e f = f
 all false b e f = absurd cc
 
+pub only_passes : {X : Type 0} (p : X → Bool) (x : X) → list_all p (x ∷ []) ≡ true → p x ≡ true
+only_passes p x passes = (both (p x) true passes).0
+
 pub has_small_numbers : (c : Command) → is_small c ≡ true → c.first + length c.words < 2 ^ 32
 has_small_numbers c small = ltb-true (c.first + length c.words) (2 ^ 32) ((both (nat_lt (c.first + length c.words) (2 ^ 32)) (list_all is_short c.words) small).0)
 

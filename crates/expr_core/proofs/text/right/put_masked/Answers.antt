@@ -1,0 +1,13 @@
+use Rattle.std.proofs.Common.{append_assoc}
+use Rattle.nv_base.proofs.Growth.{grown_more, on_err}
+use Rattle.expr_core.proofs.Lists.{grown_kept}
+use Rattle.expr_core.proofs.text.right.put_masked.Goals as goal
+
+pub returns-in_err-extend_from_slice-clause-err : goal.returns-in_err-extend_from_slice-clause-err
+returns-in_err-extend_from_slice-clause-err c = on_err _ _ (grown_kept _ _ _ _ c.in_ok-put_const.ensures.ok c.in_err-extend_from_slice.ensures.items)
+
+pub returns-in_err-put_const-2-clause-err : goal.returns-in_err-put_const-2-clause-err
+returns-in_err-put_const-2-clause-err c = on_err _ _ (grown_more _ _ _ _ c.in_ok-put_const.ensures.ok (grown_kept _ _ _ _ c.in_ok-extend_from_slice.ensures.items c.in_err-put_const-2.ensures.err))
+
+pub returns-clause-ok : goal.returns-clause-ok
+returns-clause-ok c = rw (c.in_ok-put_const-2.ensures.ok, c.in_ok-extend_from_slice.ensures.items, c.in_ok-put_const.ensures.ok) (simp append_assoc)

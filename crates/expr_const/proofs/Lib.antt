@@ -7,3 +7,4 @@ pub mod LongestFronts
 pub mod ConstantFronts
 pub mod FirstBytes
 pub mod Misses
+pub mod Numbers

@@ -1,9 +1,18 @@
-use Rattle.std.proofs.lemmas.Result.{err_from_is_err_and}
-use Rattle.nv_base.proofs.Growth.{grows_on, grows_more}
+use Rattle.std.proofs.Common.{codes, ◌∙◌}
+use Rattle.nv_base.proofs.Growth.{grows_on, grows_more, on_err}
+use Rattle.act_core.specs.Text.{target_text}
+use Rattle.act_core.proofs.Lists.{item_appended}
 use Rattle.act_core.proofs.text.step.put_targets.Goals as goal
 
 pub returns-in_err-put_target-clause-err : goal.returns-in_err-put_target-clause-err
 returns-in_err-put_target-clause-err c =
-    let p = err_from_is_err_and c.from_residual-in_err-put_target.result c.from_residual-in_err-put_target.ensures.1 in
     let there = grows_on _ _ _ _ c.loop-target.invariant.grown c.in_ok-extend_from_slice.ensures.items in
-    rw (p.1) (grows_more _ _ _ there c.in_err-put_target.ensures.err)
+    on_err _ _ (grows_more _ _ _ there c.in_err-put_target.ensures.err)
+
+pub loop-target-preserved : goal.loop-target-preserved
+loop-target-preserved c =
+    let more = item_appended target_text (codes ",") _ _ _ _ _ _ _ c.loop-target-test.true c.in_ok-extend_from_slice.ensures.items c.in_ok-put_target.ensures.ok in
+    record {
+      grown = grows_on _ _ _ _ (grows_on _ _ _ _ c.loop-target.invariant.grown c.in_ok-extend_from_slice.ensures.items) c.in_ok-put_target.ensures.ok;
+      whole = rw (c.as_slice-front-in-loop-target.ensures) (more ∙ c.loop-target.invariant.whole);
+    }

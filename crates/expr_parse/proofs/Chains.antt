@@ -1,6 +1,12 @@
--- How far the reading of units that one operator joins, or of a set, has come.
-use Rattle.std.proofs.Common.{◌≡◌, ◌<◌, ◌≤◌, ℕ, zero, suc, List, [], ◌∷◌, ◌++◌, length, Some, None, ap, ◌∙◌, sym, arith, refl}
+-- How far the reading of units that one operator joins, or of a set, has come, and how a reading that began fails.
+use Rattle.std.proofs.Common.{◌≡◌, ◌<◌, ◌≤◌, ℕ, zero, suc, List, [], ◌∷◌, ◌++◌, length, Some, None, ap, ◌∙◌, sym, arith, refl, Result, Ok, Err, false, ◌==◌}
+use Rattle.std.specs.Borrow.{Bor}
+use Rattle.std.proofs.lemmas.Bool.{ne_eqb}
+use Rattle.std.specs.Result.{IsErrAnd, IfErr}
+use Rattle.expr_parse.specs.Grammar.{is_memory, finished}
+use Rattle.expr_parse.specs.inner.Gives.{Reads, fault_at}
 use Rattle.expr_parse.specs.declared.operator.Operator.TheVariants as operator
+use Rattle.expr_parse.specs.declared.token.Token.TheVariants as token
 use Rattle.expr_parse.proofs.Words.{length-map, Formula, Atom, MatchFault, Operator, TokenAt, Tokens, token_at, seen, Item, Right, Reading, and_then}
 use Rattle.expr_parse.proofs.Words.{item, items, sign, after_operator, chain_end, one_more, chain, Read, Fails}
 
@@ -68,3 +74,37 @@ begins_set end tokens left first none before e p shorter reads =
     let same : length (seen tokens) ≡ length tokens = length-map tokens token_at in
     let goes : items end (length (seen tokens)) before (seen left) ≡ set end (seen tokens) = ap (λ xs. items end (length (seen tokens)) xs (seen left)) one ∙ sym (ap (λ r. and_then r (λ i after. items end (length (seen tokens)) (i ∷ []) after)) reads) in
     (shorter, (length (seen tokens), omega arith, goes))
+
+-- where reading a first part failed, the whole fails in the same way
+pub fails_after : {S T : Type 0} (r : Result (T × Bor (List TokenAt)) MatchFault) (fault : MatchFault) (first : Reading S) (go_on : S → Tokens → Reading T) → IsErrAnd r (λ y. y ≡ fault)
+    → (is_memory fault ≡ false → first ≡ Fails fault) → Reads r (and_then first go_on)
+fails_after (Ok x) fault first go_on h failed = absurd h
+fails_after (Err y) fault first go_on h failed = rw h (λ other. rw (failed other) refl)
+
+-- after a comma and one item more
+set_step : (end : ℕ) (tokens left rest after : List TokenAt) (p : ℕ) (next : Item) (before more : List Item) (n : ℕ)
+    → length left ≤ length tokens → length left ≤ n → items end n before (seen left) ≡ set end (seen tokens)
+    → left ≡ record { offset = p; token = token.Comma } ∷ rest → item end (seen rest) ≡ Read next (seen after) → length after ≤ length rest → more ≡ before ++ next ∷ []
+    → SetSoFar end tokens more after
+set_step end tokens left rest after p next before more zero short fits goes there reads fewer is = absurd (omega (arith, fits, ap length there))
+set_step end tokens left rest after p next before more (suc n) short fits goes there reads fewer is =
+    let long = ap length there in
+    (omega (arith, long, short, fewer), (n, omega (arith, long, fits, fewer), rw is (rw (there, reads) at goes)))
+
+pub set_goes_on : (end : ℕ) (tokens left rest after : List TokenAt) (p : ℕ) (next : Item) (before more : List Item)
+    → SetSoFar end tokens before left → left ≡ record { offset = p; token = token.Comma } ∷ rest
+    → item end (seen rest) ≡ Read next (seen after) → length after ≤ length rest → more ≡ before ++ next ∷ []
+    → SetSoFar end tokens more after
+set_goes_on end tokens left rest after p next before more so_far = set_step end tokens left rest after p next before more so_far.1.0 so_far.0 so_far.1.1 so_far.1.2
+
+pub match_fails : {S T U : Type 0} (r : Result U MatchFault) (fault : MatchFault) (first : Reading S) (go_on : S → Tokens → Reading T) → IsErrAnd r (λ y. y ≡ fault)
+    → (is_memory fault ≡ false → first ≡ Fails fault) → IfErr r (λ f. is_memory f ≡ false → and_then first go_on ≡ Fails f)
+match_fails (Ok x) fault first go_on h failed = absurd h
+match_fails (Err y) fault first go_on h failed = rw h (λ other. rw (failed other) refl)
+
+-- where tokens are left, or the text goes on, the match is not finished
+pub not_finished : (len end : ℕ) (f : Formula Atom) (left : List TokenAt) → (left ≡ [] → end ≡ len → ⊥) → finished len end f (seen left) ≡ Fails (fault_at end (seen left))
+not_finished len end f [] never =
+    let other : (end == len) ≡ false = ne_eqb end len (never refl) in
+    rw other refl
+not_finished len end f (t ∷ ts) never = refl

@@ -1,5 +1,6 @@
 -- The operands that were looked at, and those that are left.
-use Rattle.std.proofs.Common.{◌≡◌, ◌≢◌, ℕ, ◌<◌, ◌≤◌, ◌+◌, Bool, true, false, not, List, [], ◌∷◌, length, drop, slice_index_or, refl, sym, ap, ◌∙◌}
+use Rattle.std.proofs.Common.{◌≡◌, ℕ, ◌<◌, ◌≤◌, ◌+◌, Bool, true, false, not, List, [], ◌∷◌, length, drop, slice_index_or, refl, sym, ap, ◌∙◌}
+use Rattle.std.specs.Bool.{beq}
 use Rattle.std.proofs.lemmas.List.{at_drop_more}
 use Rattle.std.proofs.Math.ListN.{drop_of_length-le}
 use Rattle.pkt_core.specs.Packet.{Values}
@@ -16,12 +17,18 @@ AndLeft wanted net packet fs i = meant wanted net packet (And (formulas (drop i 
 abbrev pub OrLeft : Bool → Lookup → Values → List (Formula TypedAtom) → ℕ → Type 0
 OrLeft wanted net packet fs i = meant wanted net packet (Or (formulas (drop i fs))) ≡ meant wanted net packet (Or (formulas fs))
 
--- a truth value that is not this one is the other
-pub other : (a b : Bool) → a ≢ b → a ≡ not b
-other true true unlike = absurd (unlike refl)
-other true false unlike = refl
-other false true unlike = refl
-other false false unlike = absurd (unlike refl)
+-- what a test of two truth values says of the first
+pub same_from_test : (a b : Bool) → beq a b ≡ true → a ≡ b
+same_from_test true true e = refl
+same_from_test true false e = absurd cc
+same_from_test false true e = absurd cc
+same_from_test false false e = refl
+
+pub other_from_test : (a b : Bool) → beq a b ≡ false → a ≡ not b
+other_from_test true true e = absurd cc
+other_from_test true false e = refl
+other_from_test false true e = refl
+other_from_test false false e = absurd cc
 
 module _ (net : Lookup) (packet : Values) where
   -- one operand and others

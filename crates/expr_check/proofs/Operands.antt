@@ -1,5 +1,6 @@
 -- The operands that were checked, and those that are left.
-use Rattle.std.proofs.Common.{◌≡◌, ℕ, ◌<◌, ◌≤◌, ◌+◌, List, [], ◌∷◌, ◌++◌, length, drop, slice_index_or, Result, Ok, Err, refl, ap, ◌∙◌}
+use Rattle.std.proofs.Common.{◌≡◌, ℕ, ◌<◌, ◌≤◌, ◌+◌, List, [], ◌∷◌, ◌++◌, length, drop, slice_index_or, Result, Ok, Err, refl, ap, sym, subst, ◌∙◌}
+use Rattle.std.specs.Result.{IsErrAnd, IfErr}
 use Rattle.std.proofs.lemmas.List.{at_drop_more}
 use Rattle.std.proofs.Math.ListN.{drop_of_length-le}
 use Rattle.expr_core.specs.Formula.{Formula, Formulas, formulas}
@@ -60,3 +61,8 @@ begins role fs = nothing_done (all_checked role (formulas fs))
     nothing_done : (r : Result (Formulas TypedAtom) TypeFault) → r ≡ mapped (in_front []) r
     nothing_done (Ok xs) = refl
     nothing_done (Err fault) = refl
+
+-- a fault that is handed on
+pub fault_stays : {T : Type 0} (r : Result T TypeFault) (fault : TypeFault) (Q : TypeFault → Type 0) → IsErrAnd r (λ y. y ≡ fault) → Q fault → IfErr r Q
+fault_stays (Ok x) fault Q h q = absurd h
+fault_stays (Err y) fault Q h q = subst Q (sym h) q

@@ -1,10 +1,12 @@
 -- How far the reading of targets, of steps and of actions has come.
-use Rattle.std.proofs.Common.{◌≡◌, ◌≤◌, ◌<◌, ◌+◌, ℕ, zero, suc, Bool, true, false, List, [], ◌∷◌, ◌++◌, length, drop, is_some, codes, Err, eqb, refl, ap, ◌∙◌, sym, subst, arith}
+use Rattle.std.proofs.Common.{◌≡◌, ◌≤◌, ◌<◌, ◌+◌, ℕ, zero, suc, Bool, true, false, List, [], ◌∷◌, ◌++◌, length, drop, is_some, codes, Result, Ok, Err, subst, eqb, refl, ap, ◌∙◌, sym, subst, arith}
 use Rattle.act_core.specs.declared.step.Target.{Target}
 use Rattle.act_core.specs.declared.step.Step.{Step}
 use Rattle.act_core.specs.declared.action.Action.{Action}
 use Rattle.act_parse.specs.Token.{is_at}
-use Rattle.act_parse.specs.Reading.{first_target, target, targets, all_targets, spaced_step, steps, all_steps, action, another, actions, reading}
+use Rattle.std.specs.Borrow.{Bor}
+use Rattle.std.specs.Result.{IsErrAnd}
+use Rattle.act_parse.specs.Reading.{Reading, and_then, first_target, target, targets, all_targets, spaced_step, steps, all_steps, action, another, actions, reading}
 use Rattle.act_parse.specs.Reading.Reading.{Read, Stuck}
 use Rattle.act_parse.specs.declared.stop.Stop.{Stop}
 use Rattle.act_parse.specs.declared.stop.Stop.TheVariants as stop_of
@@ -126,3 +128,12 @@ actions_more text left rest before more next so_far reads shorter pushed = go so
     go (suc m) le same (b ∷ bs) is =
         let step : actions (suc m) before (b ∷ bs) ≡ actions m (before ++ next ∷ []) rest = rw (ap another (sym is) ∙ reads) refl in
         (m, omega (arith, shorter, le), ap (λ ss. actions m ss rest) pushed ∙ sym step ∙ ap (actions (suc m) before) (sym is) ∙ same)
+
+-- where reading a first part stopped, the whole stops there
+pub stuck_after : {S T : Type 0} (r : Result (T × Bor (List ℕ)) Stop) (stopped : Stop) (first : Reading S) (go_on : S → List ℕ → Reading T) → IsErrAnd r (λ y. y ≡ stopped)
+    → Reads {T = S} (Err stopped) first → Reads r (and_then first go_on)
+stuck_after (Ok x) stopped first go_on h failed = absurd h
+stuck_after {S} (Err (stop_of.Stuck left)) stopped first go_on h failed =
+    let e : first ≡ Stuck left = subst (λ s. Reads {T = S} (Err s) first) (sym h) failed in
+    rw e refl
+stuck_after (Err stop_of.Memory) stopped first go_on h failed = tt

@@ -1,6 +1,6 @@
 use Rattle.std.proofs.Common.{sym, ◌∙◌, arith}
 use Rattle.std.proofs.lemmas.Result.{err_from_is_err_and}
-use Rattle.act_parse.proofs.Loops.{steps_begin, steps_more, steps_end, steps_fail}
+use Rattle.act_parse.proofs.Loops.{steps_begin, steps_more, steps_end, steps_fail, stuck_after}
 use Rattle.act_parse.proofs.action.all_steps.Goals as goal
 
 pub loop-alloc-init : goal.loop-alloc-init
@@ -16,3 +16,6 @@ returns-in_err-next-clause-reads c =
 
 pub returns-clause-reads : goal.returns-clause-reads
 returns-clause-reads c = steps_end c.args.text.now c.loop-alloc.left.now _ c.loop-alloc.invariant (sym c.is_at.ensures ∙ c.loop-alloc-test.false)
+
+pub returns-in_err-first-clause-reads : goal.returns-in_err-first-clause-reads
+returns-in_err-first-clause-reads c = stuck_after c.from_residual.result _ _ _ c.from_residual.ensures.1 c.in_err-first.ensures.reads

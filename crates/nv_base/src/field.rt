@@ -3,6 +3,8 @@ ghost use Rattle.std.specs.Prelude.{◌≡◌, ◌≤◌, ◌++◌, OnOk, OnErr}
 ghost use Rattle.nv_base.specs.Field.{field_number, field_width, field_name, field_printed, field_prerequisite, is_header, all_fields, is_named, field_of};
 
 use crate::OutOfMemory;
+use Prerequisite::{Arp, Icmp4, IcmpError, Ip4, Nothing, Tcp, Udp};
+use Printed::{Decimal, Hexadecimal, Ip4Address, MacAddress, PortName};
 
 /// A field of a packet. The header fields have ovn-sb(5)'s names, but for the quotes. The quotes, and the working
 /// fields, which a datapath keeps while a packet is in it, are not from OVN.
@@ -125,22 +127,6 @@ struct Facts {
     prerequisite: Prerequisite,
 }
 
-impl Facts {
-    fn new(width: u8, name: &'static str, printed: Printed, prerequisite: Prerequisite) -> Self
-        ensures width { result.width ≡ width }
-        ensures name { result.name.now ≡ name.now }
-        ensures printed { result.printed ≡ printed }
-        ensures prerequisite { result.prerequisite ≡ prerequisite }
-    {
-        Facts {
-            width,
-            name,
-            printed,
-            prerequisite,
-        }
-    }
-}
-
 // All the fields, in the order of their numbers.
 static ALL: [Field; 36] = [
     Field::Inport,
@@ -181,6 +167,47 @@ static ALL: [Field; 36] = [
     Field::Reg6,
 ];
 
+// The table of the fields, in the order of their numbers: the width of each, its name, how its numbers are written,
+// and its prerequisite.
+static FACTS: [(u8, &str, Printed, Prerequisite); 36] = [
+    (32, "inport", PortName, Nothing),
+    (32, "outport", PortName, Nothing),
+    (1, "flags.loopback", Decimal, Nothing),
+    (48, "eth.src", MacAddress, Nothing),
+    (48, "eth.dst", MacAddress, Nothing),
+    (16, "eth.type", Hexadecimal, Nothing),
+    (8, "ip.proto", Decimal, Ip4),
+    (8, "ip.ttl", Decimal, Ip4),
+    (32, "ip4.src", Ip4Address, Ip4),
+    (32, "ip4.dst", Ip4Address, Ip4),
+    (16, "arp.op", Decimal, Arp),
+    (32, "arp.spa", Ip4Address, Arp),
+    (48, "arp.sha", MacAddress, Arp),
+    (32, "arp.tpa", Ip4Address, Arp),
+    (48, "arp.tha", MacAddress, Arp),
+    (16, "tcp.src", Decimal, Tcp),
+    (16, "tcp.dst", Decimal, Tcp),
+    (12, "tcp.flags", Hexadecimal, Tcp),
+    (16, "udp.src", Decimal, Udp),
+    (16, "udp.dst", Decimal, Udp),
+    (8, "icmp4.type", Decimal, Icmp4),
+    (8, "icmp4.code", Decimal, Icmp4),
+    (8, "quote.proto", Decimal, IcmpError),
+    (32, "quote.src", Ip4Address, IcmpError),
+    (16, "quote.sport", Decimal, IcmpError),
+    (32, "quote.dst", Ip4Address, IcmpError),
+    (16, "quote.dport", Decimal, IcmpError),
+    (6, "ct_state", Decimal, Nothing),
+    (1, "ct_mark.blocked", Decimal, Nothing),
+    (32, "reg0", Decimal, Nothing),
+    (32, "reg1", Decimal, Nothing),
+    (32, "reg2", Decimal, Nothing),
+    (32, "reg3", Decimal, Nothing),
+    (32, "reg4", Decimal, Nothing),
+    (32, "reg5", Decimal, Nothing),
+    (48, "reg6", MacAddress, Nothing),
+];
+
 impl Field {
     /// All the fields, in the order of their numbers.
     #[tactic(auto, unfolding(crate::specs::Field::all_fields))]
@@ -190,52 +217,20 @@ impl Field {
         &ALL
     }
 
-    // The table of the fields.
+    // The field's row of the table.
     fn facts(self) -> Facts
         ensures width { result.width ≡ field_width self }
         ensures name { result.name.now ≡ field_name self }
         ensures printed { result.printed ≡ field_printed self }
         ensures prerequisite { result.prerequisite ≡ field_prerequisite self }
     {
-        use Prerequisite::{Arp, Icmp4, IcmpError, Ip4, Nothing, Tcp, Udp};
-        use Printed::{Decimal, Hexadecimal, Ip4Address, MacAddress, PortName};
-        match self {
-            Field::Inport => Facts::new(32, "inport", PortName, Nothing),
-            Field::Outport => Facts::new(32, "outport", PortName, Nothing),
-            Field::FlagsLoopback => Facts::new(1, "flags.loopback", Decimal, Nothing),
-            Field::EthSrc => Facts::new(48, "eth.src", MacAddress, Nothing),
-            Field::EthDst => Facts::new(48, "eth.dst", MacAddress, Nothing),
-            Field::EthType => Facts::new(16, "eth.type", Hexadecimal, Nothing),
-            Field::IpProto => Facts::new(8, "ip.proto", Decimal, Ip4),
-            Field::IpTtl => Facts::new(8, "ip.ttl", Decimal, Ip4),
-            Field::Ip4Src => Facts::new(32, "ip4.src", Ip4Address, Ip4),
-            Field::Ip4Dst => Facts::new(32, "ip4.dst", Ip4Address, Ip4),
-            Field::ArpOp => Facts::new(16, "arp.op", Decimal, Arp),
-            Field::ArpSpa => Facts::new(32, "arp.spa", Ip4Address, Arp),
-            Field::ArpSha => Facts::new(48, "arp.sha", MacAddress, Arp),
-            Field::ArpTpa => Facts::new(32, "arp.tpa", Ip4Address, Arp),
-            Field::ArpTha => Facts::new(48, "arp.tha", MacAddress, Arp),
-            Field::TcpSrc => Facts::new(16, "tcp.src", Decimal, Tcp),
-            Field::TcpDst => Facts::new(16, "tcp.dst", Decimal, Tcp),
-            Field::TcpFlags => Facts::new(12, "tcp.flags", Hexadecimal, Tcp),
-            Field::UdpSrc => Facts::new(16, "udp.src", Decimal, Udp),
-            Field::UdpDst => Facts::new(16, "udp.dst", Decimal, Udp),
-            Field::Icmp4Type => Facts::new(8, "icmp4.type", Decimal, Icmp4),
-            Field::Icmp4Code => Facts::new(8, "icmp4.code", Decimal, Icmp4),
-            Field::QuoteProto => Facts::new(8, "quote.proto", Decimal, IcmpError),
-            Field::QuoteSrc => Facts::new(32, "quote.src", Ip4Address, IcmpError),
-            Field::QuoteSport => Facts::new(16, "quote.sport", Decimal, IcmpError),
-            Field::QuoteDst => Facts::new(32, "quote.dst", Ip4Address, IcmpError),
-            Field::QuoteDport => Facts::new(16, "quote.dport", Decimal, IcmpError),
-            Field::CtState => Facts::new(6, "ct_state", Decimal, Nothing),
-            Field::CtMarkBlocked => Facts::new(1, "ct_mark.blocked", Decimal, Nothing),
-            Field::Reg0 => Facts::new(32, "reg0", Decimal, Nothing),
-            Field::Reg1 => Facts::new(32, "reg1", Decimal, Nothing),
-            Field::Reg2 => Facts::new(32, "reg2", Decimal, Nothing),
-            Field::Reg3 => Facts::new(32, "reg3", Decimal, Nothing),
-            Field::Reg4 => Facts::new(32, "reg4", Decimal, Nothing),
-            Field::Reg5 => Facts::new(32, "reg5", Decimal, Nothing),
-            Field::Reg6 => Facts::new(48, "reg6", MacAddress, Nothing),
+        let row = FACTS[self as usize];
+        let (width, name, printed, prerequisite) = row;
+        Facts {
+            width,
+            name,
+            printed,
+            prerequisite,
         }
     }
 

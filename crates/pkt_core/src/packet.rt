@@ -1,6 +1,6 @@
 ghost use Rattle.std.specs.Prelude.{◌≡◌, ◌≢◌, ◌<◌, ◌^◌};
 ghost use Rattle.nv_base.specs.Field.{field_width};
-ghost use Rattle.pkt_core.specs.Packet.{place, value, with_value, exchanged, zero_packet, IsPacket};
+ghost use Rattle.pkt_core.specs.Packet.{field_count, place, value, with_value, exchanged, zero_packet, IsPacket};
 ghost use Rattle.nv_base.specs.declared.field.Field.{Field};
 
 use nv_base::Field;
@@ -46,7 +46,7 @@ impl Packet {
         ensures fits { result < 2 ^ field_width field }
         ensures packet { IsPacket self.now }
     {
-        u128::from(self.numbers[field as usize])
+        u128::from(self.numbers[place(field)])
     }
 
     /// Gives a field a number, which fits its width. The other fields stay.
@@ -57,7 +57,7 @@ impl Packet {
         ensures others { (other : Field) → place other ≢ place field
             → value self.new other ≡ value self.old other }
     {
-        self.numbers[field as usize] = number as u64;
+        self.numbers[place(field)] = number as u64;
     }
 
     /// Exchanges the numbers of two fields of one width. The other fields stay.
@@ -73,4 +73,12 @@ impl Packet {
         self.set(one, self.get(other));
         self.set(other, number);
     }
+}
+
+// The place of a field's number.
+fn place(field: Field) -> usize
+    ensures value { result ≡ place field }
+    ensures within { result < field_count }
+{
+    field as usize
 }

@@ -1,6 +1,9 @@
 use Rattle.std.proofs.Common.{◌++◌, ◌∙◌, ap, sym}
 use Rattle.std.proofs.lemmas.Result.{err_from_is_err_and}
-use Rattle.nv_base.proofs.Growth.{appended_twice, grows_on}
+use Rattle.std.proofs.lemmas.List.{at_drop_all}
+use Rattle.nv_base.specs.Growth.{GrowsAtEnd}
+use Rattle.nv_base.proofs.Growth.{appended_twice, grows_on, on_err}
+use Rattle.pkt_core.specs.Text.{conditions}
 use Rattle.pkt_core.proofs.Conditions.{passed, appended}
 use Rattle.pkt_core.proofs.text.put_conditions.Goals as goal
 use Rattle.pkt_core.proofs.text.put_conditions.Goals.{then-is_said+in_ok-extend_from_slice+in_ok-put_condition, else-is_said}
@@ -31,3 +34,22 @@ loop-field-preserved c = elim c.if-is_said.branch [
         whole = ap (λ text. l.out.items ++ text) nothing ∙ l.invariant.whole;
       })
 ]
+
+pub returns-in_err-extend_from_slice-clause-err : goal.returns-in_err-extend_from_slice-clause-err
+returns-in_err-extend_from_slice-clause-err c =
+    let grown = c.loop-field.invariant.grown in
+    let same : GrowsAtEnd c.args.out.now.items c.extend_from_slice.new.self.items = (grown.0, c.in_err-extend_from_slice.ensures.items ∙ grown.1) in
+    on_err _ _ same
+
+pub returns-in_err-extend_from_slice-2-clause-err : goal.returns-in_err-extend_from_slice-2-clause-err
+returns-in_err-extend_from_slice-2-clause-err c =
+    let grown = c.loop-field.invariant.grown in
+    let same : GrowsAtEnd c.args.out.now.items c.extend_from_slice-2.new.self.items = (grown.0, c.in_err-extend_from_slice-2.ensures.items ∙ grown.1) in
+    on_err _ _ same
+
+pub returns-clause-ok : goal.returns-clause-ok
+returns-clause-ok c =
+    let l = c.loop-field in
+    let end = c.as_bytes-2.ensures.value ∙ c.ending.ensures in
+    let none = at_drop_all (λ fields. l.out.items ++ conditions c.args.packet.now fields l.before) c.args.fields.now _ c.loop-field-test.false in
+    c.in_ok-extend_from_slice-2.ensures.items ∙ ap (λ text. l.out.items ++ text) end ∙ sym none ∙ l.invariant.whole

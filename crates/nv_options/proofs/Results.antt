@@ -1,7 +1,9 @@
 -- What is known of a result, and of the kinds of `clap`'s errors.
-use Rattle.std.proofs.Common.{◌≡◌, ◌∙◌, [], ◌∷◌, sym, subst, inl, inr, Ok, Err, IfOk}
+use Rattle.std.proofs.Common.{◌≡◌, ◌∙◌, false, [], ◌∷◌, length, sym, subst, arith, inl, inr, Ok, Err, IfOk}
 use Rattle.std.specs.Prelude.{Result}
+use Rattle.std.proofs.lemmas.Bool.{ne_eqb}
 use Rattle.nv_options.specs.Options.{AskOnlyForText}
+use Rattle.clap.specs.Walk.{is_empty}
 use Rattle.clap.specs.Words.{HasKind, IsAmong, Kinds, kind_of}
 use Rattle.clap.specs.declared.error.Error.{Error}
 use Rattle.clap.specs.declared.error.kind.ErrorKind.{ErrorKind}
@@ -38,3 +40,13 @@ no_kinds k kinds none one = clash (sym none ∙ one)
 pub none_asked : (kinds : Kinds) → kinds ≡ [] → AskOnlyForText kinds → ⊥
 none_asked kinds none (inl is) = no_kinds _ kinds none is
 none_asked kinds none (inr is) = no_kinds _ kinds none is
+
+-- an error that memory did not make shows a fault
+pub some_fault : (kinds : Kinds) (error : Error) → HasKind kinds error → (kind_of error ≡ OutOfMemory → ⊥) → is_empty kinds ≡ false
+some_fault kinds error (inl memory) there = absurd (there memory)
+some_fault [] error (inr none) there = absurd none
+some_fault (k ∷ ks) error (inr some) there = ne_eqb (length (k ∷ ks)) 0 (λ (e : length (k ∷ ks) ≡ 0). absurd (omega (arith, e)))
+
+-- the faults of two results that are equal
+pub same_fault : {T E : Type 0} {a b : E} → ◌≡◌ {A = Result T E} (Err a) (Err b) → a ≡ b
+same_fault e = cc

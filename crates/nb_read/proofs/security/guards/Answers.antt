@@ -1,0 +1,31 @@
+use Rattle.std.proofs.Common.{refl, sym, ap, ◌∙◌, subst, arith}
+use Rattle.std.proofs.lemmas.List.{at_drop_all}
+use Rattle.std.proofs.lemmas.Result.{err_from_is_err_and}
+use Rattle.nb_words.specs.Fault.{IsFaultOf}
+use Rattle.nb_read.specs.Lists.{guards, next_guard}
+use Rattle.nb_read.proofs.Loops.{goes_on, stops}
+use Rattle.nb_read.proofs.security.guards.Goals as goal
+
+pub loop-word-preserved : goal.loop-word-preserved
+loop-word-preserved c =
+    let l = c.loop-word in
+    let same = ap (λ before. next_guard l.at before c.as_slice-in-loop-word.result.now) c.as_slice.ensures ∙ ap (next_guard l.at l.found) c.as_slice-in-loop-word.ensures in
+    let read = sym same ∙ c.in_ok-next_guard.ensures.read in
+    record {
+      number = omega (arith, l.invariant.number);
+      same = goes_on guards next_guard (λ before number word words. refl) c.args.words.now l.word-index c.word-item.result l.found _ l.at _ c.loop-word-test.true c.word-item.is read c.in_ok-push.ensures.ok ∙ l.invariant.same;
+    }
+
+pub returns-clause-read : goal.returns-clause-read
+returns-clause-read c =
+    let l = c.loop-word in
+    sym l.invariant.same ∙ at_drop_all (guards l.found l.at) c.args.words.now _ c.loop-word-test.false
+
+pub returns-in_err-next_guard-clause-refused : goal.returns-in_err-next_guard-clause-refused
+returns-in_err-next_guard-clause-refused c =
+    let l = c.loop-word in
+    let same = ap (λ before. next_guard l.at before c.as_slice-in-loop-word.result.now) c.as_slice.ensures ∙ ap (next_guard l.at l.found) c.as_slice-in-loop-word.ensures in
+    let refused = subst (λ reading. IsFaultOf reading c.in_err-next_guard.field-0.0) same c.in_err-next_guard.ensures.refused in
+    let p = err_from_is_err_and c.from_residual.result c.from_residual.ensures.1 in
+    rw (p.1, p.2)
+    (stops guards next_guard (λ before number word words. refl) c.args.words.now l.word-index c.word-item.result l.found l.at _ _ c.loop-word-test.true c.word-item.is l.invariant.same refused)

@@ -1,3 +1,4 @@
 mod Loops
+mod Nets
 mod Numbers
 mod Typed

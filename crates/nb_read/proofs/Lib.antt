@@ -1,4 +1,5 @@
 mod Loops
 mod Nets
 mod Numbers
+mod PortOptions
 mod Typed

@@ -1,3 +1,4 @@
+mod Decimals
 mod Loops
 mod Nets
 mod Numbers

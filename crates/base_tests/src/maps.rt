@@ -128,14 +128,15 @@ fn is_after(names: &Map<Name, ObjId>, name: Option<&Name>, bytes: &[u8], number:
     }
 }
 
-// The entry of the name was there, is not once it is taken out, and is put in again.
-fn is_taken_and_put(names: &mut Map<Name, ObjId>, name: &Name) -> bool {
+// The entry of the name was there, is not once it is taken out, and is put in again. Its number, if so.
+fn taken_and_put(names: &mut Map<Name, ObjId>, name: &Name) -> Option<ObjId> {
     match names.take(name) {
         Some(entry) if names.get(name).is_none() && names.get(entry.key()).is_none() => {
+            let number = *entry.value();
             names.put(entry);
-            true
+            Some(number)
         }
-        _ => false,
+        _ => None,
     }
 }
 
@@ -148,7 +149,7 @@ fn entries_are_put_taken_and_exchanged(rt: HostRuntime) -> Result<(), Fail> {
     assert!(rt; names.get(&key) == Some(&ObjId(11)));
     assert!(rt; is_after(&names, Some(&key), b"lp2", ObjId(2)));
     assert!(rt; is_after(&names, None, b"lp1", ObjId(1)));
-    assert!(rt; is_taken_and_put(&mut names, &key));
+    assert!(rt; taken_and_put(&mut names, &key) == Some(ObjId(11)));
     assert!(rt; names.get(&key) == Some(&ObjId(11)));
     Ok(())
 }
@@ -159,7 +160,7 @@ fn the_only_entry_is_taken(rt: HostRuntime) -> Result<(), Fail> {
     assert!(rt; pairs.is_empty() && pairs.levels() == 0);
     let pair = (ObjId(1), ObjId(2));
     let entry = Entry::new(rt.alloc(), pair, ())?;
-    assert!(rt; *entry.key() == pair && *entry.value() == ());
+    assert!(rt; *entry.key() == pair);
     if pairs.get(&pair).is_none() {
         pairs.put(entry);
     }

@@ -2,7 +2,7 @@ use crate::Step;
 use nv_base::Items;
 
 /// An action (ovn-sb(5), 'Logical_Flow TABLE', actions). A block has no block in it.
-#[derive(Debug, PartialEq, Eq, Drop)]
+#[derive(PartialEq, Eq, Drop)]
 pub enum Action {
     /// An action without a block.
     Step(Step),

@@ -2,7 +2,7 @@ use expr_core::{Bits, Const};
 use nv_base::{Field, Ip4, Items, Name};
 
 /// Where a load balancer sends packets.
-#[derive(Clone, Copy, Debug, PartialEq, Eq)]
+#[derive(Clone, Copy, PartialEq, Eq)]
 pub struct Target {
     /// The address.
     pub addr: Ip4,
@@ -11,7 +11,7 @@ pub struct Target {
 }
 
 /// An action without a block (ovn-sb(5), 'Logical_Flow TABLE', actions).
-#[derive(Debug, PartialEq, Eq, Drop)]
+#[derive(PartialEq, Eq, Drop)]
 pub enum Step {
     /// `next;`
     Next,

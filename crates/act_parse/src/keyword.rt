@@ -6,7 +6,7 @@ use act_core::{Action, Step};
 use nv_base::Items;
 
 /// A word that begins an action without a block.
-#[derive(Clone, Copy, Debug)]
+#[derive(Clone, Copy)]
 pub enum Keyword {
     /// `next`.
     Next,
@@ -80,7 +80,7 @@ pub(crate) fn keyword_of(word: &[u8]) -> Option<Keyword>
 }
 
 /// The kinds of blocks.
-#[derive(Clone, Copy, Debug)]
+#[derive(Clone, Copy)]
 pub enum Block {
     /// `arp`.
     Arp,

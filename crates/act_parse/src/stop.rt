@@ -4,7 +4,7 @@ ghost use Rattle.act_parse.specs.declared.stop.Stop.TheVariants.{Stuck};
 use nv_base::OutOfMemory;
 
 /// Why a reading does not go on.
-#[derive(Clone, Copy, Debug)]
+#[derive(Clone, Copy)]
 pub(crate) enum Stop {
     /// It is stuck at a token, so many bytes before the end of the text.
     Stuck(usize),

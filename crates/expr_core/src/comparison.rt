@@ -5,7 +5,7 @@ use crate::Const;
 use nv_base::{Items, Name};
 
 /// How a part is compared (ovn-sb(5), 'Logical_Flow TABLE', relational operators).
-#[derive(Clone, Copy, Debug, PartialEq, Eq)]
+#[derive(Clone, Copy, PartialEq, Eq)]
 pub enum Rel {
     /// `==`
     Eq,
@@ -38,7 +38,7 @@ impl Rel {
 }
 
 /// What a part is compared with.
-#[derive(Debug, PartialEq, Eq, Drop)]
+#[derive(PartialEq, Eq, Drop)]
 pub enum Item {
     /// One number.
     One(Const),
@@ -53,7 +53,7 @@ pub enum Item {
 }
 
 /// The right side of a comparison.
-#[derive(Debug, PartialEq, Eq, Drop)]
+#[derive(PartialEq, Eq, Drop)]
 pub enum Right {
     /// One item.
     Item(Item),

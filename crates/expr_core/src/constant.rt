@@ -1,5 +1,5 @@
 /// How a constant is spelled.
-#[derive(Clone, Copy, Debug, PartialEq, Eq)]
+#[derive(Clone, Copy, PartialEq, Eq)]
 pub enum Form {
     /// In decimal.
     Dec,
@@ -12,7 +12,7 @@ pub enum Form {
 }
 
 /// A number, and how a match spells it.
-#[derive(Clone, Copy, Debug, PartialEq, Eq)]
+#[derive(Clone, Copy, PartialEq, Eq)]
 pub struct Const {
     /// How it is spelled.
     pub form: Form,

@@ -6,7 +6,7 @@ use nv_base::{Kept, OutOfMemory};
 use std::alloc::Global;
 
 /// A match without operators, as it was read.
-#[derive(Debug, PartialEq, Eq, Drop)]
+#[derive(PartialEq, Eq, Drop)]
 pub enum Atom {
     /// `0` or `1`.
     Truth(bool),

@@ -4,7 +4,7 @@ use nv_base::{Kept, Name, OutOfMemory};
 use std::alloc::Global;
 
 /// Which bits of a field a part is, numbered from 0, the lowest.
-#[derive(Clone, Copy, Debug, PartialEq, Eq)]
+#[derive(Clone, Copy, PartialEq, Eq)]
 pub enum Bits {
     /// All of them.
     Whole,
@@ -15,7 +15,7 @@ pub enum Bits {
 }
 
 /// A part of a packet as a match names it. Two parts are equal by `==` whatever their offsets.
-#[derive(Debug, Drop)]
+#[derive(Drop)]
 pub struct Part {
     /// The name of a field or of a predicate.
     pub name: Name,

@@ -2,7 +2,7 @@ ghost use Rattle.std.specs.Prelude.{◌≡◌};
 ghost use Rattle.expr_core.specs.Predicate.{pred_name, pred_of};
 
 /// A predicate: a name for a comparison that is often made (ovn-sb(5), 'Logical_Flow TABLE', predicates).
-#[derive(Clone, Copy, Debug, PartialEq, Eq)]
+#[derive(Clone, Copy, PartialEq, Eq)]
 pub enum Pred {
     /// `eth.mcast`
     EthMcast,

@@ -5,7 +5,7 @@ use crate::{Pred, pred_of};
 use nv_base::{Field, field_of};
 
 /// What a part's name means.
-#[derive(Clone, Copy, Debug, PartialEq, Eq)]
+#[derive(Clone, Copy, PartialEq, Eq)]
 pub enum Subject {
     /// A field.
     Field(Field),

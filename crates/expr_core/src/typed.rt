@@ -6,7 +6,7 @@ use nv_base::{Field, Kept, OutOfMemory};
 use std::alloc::Global;
 
 /// A match without operators, whose part is known.
-#[derive(Debug, PartialEq, Eq, Drop)]
+#[derive(PartialEq, Eq, Drop)]
 pub enum TypedAtom {
     /// `0` or `1`.
     Truth(bool),

@@ -3,7 +3,7 @@ ghost use Rattle.expr_parse.specs.Class.{begins_name};
 ghost use Rattle.expr_parse.specs.inner.Class.{class_of};
 
 /// What the first byte of a token says of its kind.
-#[derive(Clone, Copy, Debug)]
+#[derive(Clone, Copy)]
 pub(crate) enum Class {
     /// A letter or `_`: a name, or a MAC.
     Letter,

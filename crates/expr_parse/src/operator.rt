@@ -1,5 +1,5 @@
 /// What joins units.
-#[derive(Clone, Copy, Debug)]
+#[derive(Clone, Copy)]
 pub(crate) enum Operator {
     /// `&&`
     And,

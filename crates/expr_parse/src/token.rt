@@ -1,7 +1,7 @@
 use expr_core::{Const, Rel};
 
 /// A token of a text, from which it borrows the bytes of a name.
-#[derive(Clone, Copy, Debug)]
+#[derive(Clone, Copy)]
 pub(crate) enum Token<'a> {
     /// A name.
     Name(&'a [u8]),
@@ -42,7 +42,7 @@ pub(crate) enum Token<'a> {
 }
 
 /// A token, and where it begins.
-#[derive(Clone, Copy, Debug)]
+#[derive(Clone, Copy)]
 pub(crate) struct TokenAt<'a> {
     /// Where it begins, in bytes from the beginning of the text.
     pub(crate) offset: u32,
@@ -51,7 +51,7 @@ pub(crate) struct TokenAt<'a> {
 }
 
 /// The token that a text begins with.
-#[derive(Clone, Copy, Debug)]
+#[derive(Clone, Copy)]
 pub(crate) struct FrontToken<'a> {
     /// The token.
     pub(crate) token: Token<'a>,

@@ -20,7 +20,7 @@ use std::marker::Model;
 /// Makes the rows of a switch port in the stages of ARP replies and of the lookup: a host is answered for, and a packet for
 /// a MAC of the port goes out by it (ovn-northd(8), 'Ingress Table: ARP/ND responder' and 'Ingress Table: Destination
 /// Lookup'). A clause sees how many outputs it made.
-#[derive(Debug, Drop)]
+#[derive(Drop)]
 pub struct PortL2 {
     made: u64,
 }

@@ -16,7 +16,7 @@ use std::marker::Model;
 /// Makes the rows that each switch has in the stages of ARP replies and of the lookup: what is for many goes out by each
 /// port, and what no port has by those for unknown addresses (ovn-northd(8), 'Ingress Table: ARP/ND responder' and
 /// 'Ingress Table: Destination Lookup'). A clause sees how many outputs it made.
-#[derive(Debug, Drop)]
+#[derive(Drop)]
 pub struct SwitchL2 {
     made: u64,
 }

@@ -13,7 +13,7 @@ use std::marker::Model;
 
 /// Makes the row of load balancing that each switch has: what no virtual address takes goes on (ovn-northd(8), 'Ingress
 /// Table: LB'). A clause sees how many outputs it made.
-#[derive(Debug, Drop)]
+#[derive(Drop)]
 pub struct SwitchLb {
     made: u64,
 }

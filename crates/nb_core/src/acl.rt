@@ -3,7 +3,7 @@ use expr_core::Typed;
 use nv_base::ObjId;
 
 /// The packets that an ACL looks at (ovn-nb(5), 'ACL TABLE', direction).
-#[derive(Clone, Copy, Debug, PartialEq, Eq, PartialOrd, Ord)]
+#[derive(Clone, Copy, PartialEq, Eq, PartialOrd, Ord)]
 pub enum Way {
     /// `from-lport`: those that come from a port.
     From,
@@ -12,7 +12,7 @@ pub enum Way {
 }
 
 /// What an ACL does to the packets that it takes (ovn-nb(5), 'ACL TABLE', action).
-#[derive(Clone, Copy, Debug, PartialEq, Eq)]
+#[derive(Clone, Copy, PartialEq, Eq)]
 pub enum Verdict {
     /// `allow`
     Allow,

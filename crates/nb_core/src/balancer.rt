@@ -2,7 +2,7 @@
 use nv_base::{Ip4, Items, Name, ObjId};
 
 /// What a load balancer takes (ovn-nb(5), 'Load_Balancer TABLE', protocol).
-#[derive(Clone, Copy, Debug, PartialEq, Eq)]
+#[derive(Clone, Copy, PartialEq, Eq)]
 pub enum Proto {
     /// `tcp`
     Tcp,
@@ -11,14 +11,14 @@ pub enum Proto {
 }
 
 /// The address of a VIP, and its port where it has one.
-#[derive(Clone, Copy, Debug, PartialEq, Eq, PartialOrd, Ord)]
+#[derive(Clone, Copy, PartialEq, Eq, PartialOrd, Ord)]
 pub struct Frontend {
     pub addr: Ip4,
     pub port: Option<u16>,
 }
 
 /// An address to which connections are balanced, and its port where the VIP has one.
-#[derive(Clone, Copy, Debug, PartialEq, Eq)]
+#[derive(Clone, Copy, PartialEq, Eq)]
 pub struct Backend {
     pub addr: Ip4,
     pub port: Option<u16>,

@@ -24,7 +24,7 @@ pub struct RouterPort {
 }
 
 /// Which address of a packet a route looks at (ovn-nb(5), 'Logical_Router_Static_Route TABLE', policy).
-#[derive(Clone, Copy, Debug, PartialEq, Eq, PartialOrd, Ord)]
+#[derive(Clone, Copy, PartialEq, Eq, PartialOrd, Ord)]
 pub enum RouteBy {
     /// `dst-ip`: the destination.
     Dst,
@@ -47,7 +47,7 @@ pub struct Route {
 }
 
 /// How a NAT rule changes addresses (ovn-nb(5), 'NAT TABLE', type).
-#[derive(Clone, Copy, Debug, PartialEq, Eq, PartialOrd, Ord)]
+#[derive(Clone, Copy, PartialEq, Eq, PartialOrd, Ord)]
 pub enum NatKind {
     /// `snat`: the source, of packets that leave.
     Snat,

@@ -2,7 +2,7 @@
 use nv_base::{Items, Mac, Name, ObjId, Prefix};
 
 /// A member of an address set.
-#[derive(Clone, Copy, Debug, PartialEq, Eq)]
+#[derive(Clone, Copy, PartialEq, Eq)]
 pub enum Member {
     /// A MAC.
     Mac(Mac),

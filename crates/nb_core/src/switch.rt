@@ -11,7 +11,7 @@ pub struct Switch {
 }
 
 /// What is at the other side of a switch port (ovn-nb(5), 'Logical_Switch_Port TABLE', type).
-#[derive(Clone, Copy, Debug, PartialEq, Eq)]
+#[derive(Clone, Copy, PartialEq, Eq)]
 pub enum PortKind {
     /// A host.
     Host,

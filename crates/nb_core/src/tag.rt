@@ -3,7 +3,7 @@ use crate::{RouteBy, Way};
 use nv_base::{Ip4, Name, ObjId};
 
 /// What only one record of an owner may say.
-#[derive(Clone, Copy, Debug, PartialEq, Eq, PartialOrd, Ord)]
+#[derive(Clone, Copy, PartialEq, Eq, PartialOrd, Ord)]
 pub enum Rule {
     /// A route of this policy, for the addresses of this prefix.
     Route { by: RouteBy, base: Ip4, len: u8 },

@@ -3,7 +3,7 @@ use nv_base::ObjId;
 use pkt_core::Packet;
 
 /// What becomes of a packet.
-#[derive(Clone, Copy, Debug, PartialEq, Eq)]
+#[derive(Clone, Copy, PartialEq, Eq)]
 pub enum PlainEvent {
     /// It goes out by the port of this number.
     Output(ObjId, Packet),

@@ -14,7 +14,7 @@ pub struct PortSecInput {
 }
 
 /// The stages of ACLs of a switch. The key is the switch.
-#[derive(Clone, Copy, Debug, PartialEq, Eq)]
+#[derive(Clone, Copy, PartialEq, Eq)]
 pub struct SwitchAclInput {
     /// Whether the switch tracks connections.
     pub tracks: bool,
@@ -34,7 +34,7 @@ pub struct AclOnInput {
 }
 
 /// The lookup of a switch. The key is the switch.
-#[derive(Clone, Copy, Debug, PartialEq, Eq)]
+#[derive(Clone, Copy, PartialEq, Eq)]
 pub struct SwitchL2Input {
     /// Whether an enabled port of it has the address `unknown`.
     pub unknown: bool,

@@ -8,7 +8,7 @@ use Printed::{Decimal, Hexadecimal, Ip4Address, MacAddress, PortName};
 
 /// A field of a packet. The header fields have ovn-sb(5)'s names, but for the quotes. The quotes, and the working
 /// fields, which a datapath keeps while a packet is in it, are not from OVN.
-#[derive(Clone, Copy, Debug, PartialEq, Eq, PartialOrd, Ord, Hash)]
+#[derive(Clone, Copy, Debug, PartialEq, Eq)]
 pub enum Field {
     /// The number of the port that the packet came in by. 0 is none.
     Inport,
@@ -85,7 +85,7 @@ pub enum Field {
 }
 
 /// How the numbers of a field are written.
-#[derive(Clone, Copy, Debug, PartialEq, Eq, PartialOrd, Ord, Hash)]
+#[derive(Clone, Copy, PartialEq, Eq)]
 pub enum Printed {
     /// As the quoted name of the port of this number.
     PortName,
@@ -100,7 +100,7 @@ pub enum Printed {
 }
 
 /// What a packet must be for a field to be there.
-#[derive(Clone, Copy, Debug, PartialEq, Eq, PartialOrd, Ord, Hash)]
+#[derive(Clone, Copy, PartialEq, Eq)]
 pub enum Prerequisite {
     /// Anything.
     Nothing,

@@ -8,7 +8,7 @@ use crate::{BadText, OutOfMemory};
 use itoa::write_digits;
 
 /// An IPv4 address, its first byte the highest of the number.
-#[derive(Clone, Copy, Debug, PartialEq, Eq, PartialOrd, Ord, Hash)]
+#[derive(Clone, Copy, PartialEq, Eq, PartialOrd, Ord)]
 pub struct Ip4(pub u32);
 
 /// Reads an IPv4 address (RFC 791): four decimals 0 to 255 without leading zeros, joined by `.`. `BadText` exactly where

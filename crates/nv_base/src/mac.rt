@@ -10,7 +10,7 @@ use crate::{BadText, OutOfMemory};
 use std::marker::Model;
 
 /// A MAC address, its first byte the highest of the number. A clause sees the number.
-#[derive(Clone, Copy, Debug, PartialEq, Eq, PartialOrd, Ord, Hash)]
+#[derive(Clone, Copy, PartialEq, Eq)]
 pub struct Mac(pub u64);
 
 impl Model for Mac {

@@ -8,7 +8,7 @@ use std::cmp::Ordering;
 use std::marker::Model;
 
 /// The name of an object. A clause sees its bytes.
-#[derive(Debug, Drop)]
+#[derive(Drop)]
 pub struct Name(Vec<u8>);
 
 impl Model for Name {

@@ -11,7 +11,7 @@ use crate::{BadText, Ip4, OutOfMemory};
 use std::marker::Model;
 
 /// A prefix: the addresses that agree with the base in the first `len` bits, at most 32. The base keeps its host part.
-#[derive(Clone, Copy, Debug, PartialEq, Eq)]
+#[derive(Clone, Copy, PartialEq, Eq)]
 pub struct Prefix {
     pub base: Ip4,
     pub len: u8,

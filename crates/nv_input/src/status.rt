@@ -5,7 +5,7 @@ ghost use Rattle.nv_input.specs.inner.Stops.{status_of};
 use nv_reply::Stop;
 
 /// How a run ended.
-#[derive(Clone, Copy, Debug, PartialEq, Eq)]
+#[derive(Clone, Copy, PartialEq, Eq)]
 pub enum Status {
     /// The input was read to its end, and no line was refused.
     Done,

@@ -11,7 +11,7 @@ use std::marker::Model;
 /// Memory that takes bytes in pieces of at most `piece` bytes, and no more than `room` in all.
 /// A put fails where its number, from 1, is in `fail`, or `room` bytes are kept already, and
 /// nowhere else.
-#[derive(Debug, Drop)]
+#[derive(Drop)]
 pub struct MemSink {
     kept: Vec<u8>,
     room: usize,
@@ -159,7 +159,7 @@ impl Sink for MemSink {
 }
 
 /// Takes every byte, keeps none, and counts them. No put fails.
-#[derive(Debug, Drop)]
+#[derive(Drop)]
 pub struct NullSink {
     total: u64,
     puts: u64,

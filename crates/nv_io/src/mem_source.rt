@@ -8,7 +8,7 @@ use std::marker::Model;
 
 /// Bytes in memory, given in pieces of at most `piece` bytes. The takes whose numbers, from 1,
 /// are in `fail` fail, and no others.
-#[derive(Debug, Drop)]
+#[derive(Drop)]
 pub struct MemSource {
     bytes: Vec<u8>,
     position: usize,
@@ -133,7 +133,7 @@ impl Source for MemSource {
 }
 
 /// Bytes in memory, given in pieces of at most `piece` bytes. No take fails.
-#[derive(Debug, Drop)]
+#[derive(Drop)]
 pub struct CleanSource {
     bytes: Vec<u8>,
     position: usize,

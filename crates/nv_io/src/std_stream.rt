@@ -11,7 +11,7 @@ use std::marker::Model;
 
 /// A standard reader as a source. Each `Err` of the reader is a fault. It tells how many bytes it gave
 /// and not which, and gives what the reader gave.
-#[derive(Debug, Drop)]
+#[derive(Drop)]
 pub struct StdSource<R> {
     inner: R,
     given: u64,
@@ -114,7 +114,7 @@ impl<R: Read + Drop> Source for StdSource<R> {
 
 /// A standard writer as a sink. Each `Err` of the writer is a fault, and so is a write that takes
 /// nothing. It tells how many bytes it took and not which, and takes what the writer took.
-#[derive(Debug, Drop)]
+#[derive(Drop)]
 pub struct StdSink<W> {
     inner: W,
     amount: u64,

@@ -11,7 +11,7 @@ const FIELD_COUNT: usize = 36;
 
 /// A packet: a number for each field, which fits the field's width. A clause sees the list of the numbers, in the
 /// order of the fields. Packets are ordered by their numbers, in that order.
-#[derive(Clone, Copy, Debug, PartialEq, Eq, PartialOrd, Ord)]
+#[derive(Clone, Copy, PartialEq, Eq, PartialOrd, Ord)]
 pub struct Packet {
     pub(crate) numbers: [u64; FIELD_COUNT],
 }

@@ -6,7 +6,7 @@ use crate::Packet;
 use nv_base::{Field, Ip4, Prerequisite};
 
 /// Protocol, source and destination. Where the protocol has no ports they are 0.
-#[derive(Clone, Copy, Debug, PartialEq, Eq, PartialOrd, Ord, Hash)]
+#[derive(Clone, Copy, PartialEq, Eq)]
 pub struct Tuple {
     /// The protocol.
     pub proto: u8,

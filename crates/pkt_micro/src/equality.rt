@@ -4,7 +4,7 @@ ghost use Rattle.pkt_micro.specs.Microflow.{is_of, same_value, number_of};
 use nv_base::{Field, Name};
 
 /// What a field is equal to.
-#[derive(Debug, Drop)]
+#[derive(Drop)]
 pub(crate) enum Value {
     /// A number.
     Number(u128),
@@ -13,7 +13,7 @@ pub(crate) enum Value {
 }
 
 /// A field and its value, as a microflow says it.
-#[derive(Debug, Drop)]
+#[derive(Drop)]
 pub(crate) struct Equality {
     /// The field.
     pub(crate) field: Field,

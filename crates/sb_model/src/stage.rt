@@ -5,7 +5,7 @@ ghost use Rattle.sb_model.specs.inner.Beside.{is_beside, if_beside};
 ghost use Rattle.sb_model.specs.inner.Facts.{facts_of};
 
 /// What a datapath is.
-#[derive(Clone, Copy, Debug, PartialEq, Eq, PartialOrd, Ord, Hash)]
+#[derive(Clone, Copy, PartialEq, Eq)]
 pub enum DatapathKind {
     /// A logical switch.
     Switch,
@@ -15,7 +15,7 @@ pub enum DatapathKind {
 
 /// The two passes of a packet through a datapath: from the port that it came in by, and to the port
 /// that it goes out by.
-#[derive(Clone, Copy, Debug, PartialEq, Eq, PartialOrd, Ord, Hash)]
+#[derive(Clone, Copy, PartialEq, Eq)]
 pub enum Pipeline {
     Ingress,
     Egress,
@@ -23,7 +23,7 @@ pub enum Pipeline {
 
 /// The tables of the pipelines, in the order in which rows of one datapath are listed.
 /// `Ls` is a logical switch, `Lr` a logical router.
-#[derive(Clone, Copy, Debug, PartialEq, Eq, PartialOrd, Ord, Hash)]
+#[derive(Clone, Copy, PartialEq, Eq, PartialOrd, Ord)]
 pub enum Stage {
     LsInCheckPortSec,
     LsInPreAcl,

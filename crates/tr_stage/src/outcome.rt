@@ -4,7 +4,7 @@ use pkt_core::Packet;
 use sb_model::Stage;
 
 /// That a row acted on a packet: the table of the row, its priority and its hint.
-#[derive(Clone, Copy, Debug, PartialEq, Eq)]
+#[derive(Clone, Copy, PartialEq, Eq)]
 pub struct Hit {
     /// The datapath's number.
     pub dp: ObjId,
@@ -15,7 +15,7 @@ pub struct Hit {
 }
 
 /// What becomes of a packet at the end of a pipeline.
-#[derive(Clone, Copy, Debug, PartialEq, Eq)]
+#[derive(Clone, Copy, PartialEq, Eq)]
 pub enum Outcome {
     /// It leaves ingress for a table of egress, the one of this number.
     Leave(Packet, u8),

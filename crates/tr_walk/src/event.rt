@@ -8,7 +8,7 @@ use std::alloc::Global;
 use tr_stage::Hit;
 
 /// What is told of a packet's walk.
-#[derive(Clone, Copy, Debug, PartialEq, Eq)]
+#[derive(Clone, Copy, PartialEq, Eq)]
 pub enum Event {
     /// A row acted on it.
     Hit(Hit),

@@ -1,7 +1,7 @@
 use thiserror::Error;
 
 /// Why a text is no action list. An offset is counted in bytes from the beginning of the text.
-#[derive(Clone, Copy, Debug, PartialEq, Eq, Error)]
+#[derive(Clone, Copy, Debug, Error)]
 pub enum ActionFault {
     /// No reading goes on with the token at this offset, or no token begins there.
     #[error("syntax error at byte {0}")]

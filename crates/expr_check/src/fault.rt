@@ -6,7 +6,7 @@ use thiserror::Error;
 
 /// Why a match is not allowed in its role. The offset is that of the part's name, in bytes from the beginning of the
 /// text.
-#[derive(Clone, Copy, Debug, PartialEq, Eq, Error)]
+#[derive(Clone, Copy, Debug, Error)]
 pub enum TypeFault {
     /// The name is no field's and no predicate's.
     #[error("unknown field at byte {0}")]

@@ -1,5 +1,5 @@
 /// Where a match is used.
-#[derive(Clone, Copy, PartialEq, Eq)]
+#[derive(Clone, Copy)]
 pub enum Role {
     /// In a row of flows.
     Row,

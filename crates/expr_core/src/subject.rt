@@ -5,7 +5,7 @@ use crate::{Pred, pred_of};
 use nv_base::{Field, field_of};
 
 /// What a part's name means.
-#[derive(Clone, Copy, PartialEq, Eq)]
+#[derive(Clone, Copy)]
 pub enum Subject {
     /// A field.
     Field(Field),

@@ -5,7 +5,7 @@ use crate::{Bits, Pred};
 use nv_base::{Field, Prerequisite};
 
 /// A part of a field, and the number that it is tested for.
-#[derive(Clone, Copy, PartialEq, Eq)]
+#[derive(Clone, Copy)]
 pub struct Test {
     /// The field.
     pub field: Field,

@@ -5,7 +5,7 @@ ghost use Rattle.nb_cmds.specs.Tasks.{tasks, task_name, is_named, task_of};
 use nb_edit::Verb;
 
 /// What a query is about.
-#[derive(Clone, Copy, PartialEq, Eq)]
+#[derive(Clone, Copy)]
 pub enum Question {
     /// `lflow-list`, of ovn-sbctl(8).
     FlowList,
@@ -16,7 +16,7 @@ pub enum Question {
 }
 
 /// What a name asks for.
-#[derive(Clone, Copy, PartialEq, Eq)]
+#[derive(Clone, Copy)]
 pub enum Task {
     /// A command that edits.
     Edit(Verb),

@@ -6,7 +6,7 @@ use expr_core::Typed;
 use nv_base::{Ip4, Items, Mac, Name, Prefix};
 
 /// Whose ACLs a command is about (ovn-nbctl(8), `--type`).
-#[derive(Clone, Copy, PartialEq, Eq)]
+#[derive(Clone, Copy)]
 pub enum OwnerKind {
     /// `switch`
     Switch,

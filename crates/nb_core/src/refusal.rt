@@ -13,7 +13,7 @@ ghost use Rattle.nb_core.specs.Refusal.{
 use nv_base::{Field, Name, ObjId, OutOfMemory, put_dec, put_field};
 
 /// What is bounded, in the order in which bounds are tested.
-#[derive(Clone, Copy, PartialEq, Eq)]
+#[derive(Clone, Copy)]
 pub enum Kind {
     /// Switches.
     Switch,
@@ -58,7 +58,7 @@ pub enum Kind {
 }
 
 /// The rule that a match breaks for its role.
-#[derive(Clone, Copy, PartialEq, Eq)]
+#[derive(Clone, Copy)]
 pub enum MatchRule {
     UnknownField,
     NotAllowedHere,
@@ -67,7 +67,7 @@ pub enum MatchRule {
 }
 
 /// Why a match is no microflow.
-#[derive(Clone, Copy, PartialEq, Eq)]
+#[derive(Clone, Copy)]
 pub enum MicroRule {
     NotConjunction,
     /// The first field that is given two values.

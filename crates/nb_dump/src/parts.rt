@@ -14,7 +14,7 @@ use nb_table::Table;
 use nv_base::{ObjId, OutOfMemory};
 
 /// A part of a dump.
-#[derive(Clone, Copy, PartialEq, Eq)]
+#[derive(Clone, Copy)]
 pub(crate) enum Part {
     /// What makes the objects.
     Objects,

@@ -1,7 +1,7 @@
 //! What a command is made of: options, and words in their places.
 
 /// An option.
-#[derive(Clone, Copy, PartialEq, Eq)]
+#[derive(Clone, Copy)]
 pub enum Flag {
     /// `--may-exist`
     MayExist,
@@ -14,7 +14,7 @@ pub enum Flag {
 }
 
 /// What stands at a place of a command.
-#[derive(Clone, Copy, PartialEq, Eq)]
+#[derive(Clone, Copy)]
 pub enum Place {
     /// The name of a switch.
     Switch,
@@ -75,7 +75,7 @@ pub enum Place {
 }
 
 /// What may follow the words that a command needs.
-#[derive(Clone, Copy, PartialEq, Eq)]
+#[derive(Clone, Copy)]
 pub enum Tail {
     /// Nothing.
     Ends,

@@ -3,9 +3,16 @@ ghost use Rattle.std.specs.Prelude.{◌≡◌};
 ghost use Rattle.nb_edit.specs.Forms.{form, verbs, is_named, verb_of};
 
 use crate::form::{Flag, Place, Tail};
+use Flag::{IfExists, MayExist, OwnerType, Policy};
+use Place::{
+    Address, Backends, Direction, Distributed, Group, Guard, Ip, Lb, Logical, Mac, Match, Member,
+    NatType, Network, Nexthop, Owner, Port, PortOption, PortType, Prefix, Priority, Protocol,
+    Router, Set, State, Switch, Verdict, Vip,
+};
+use Tail::{Ends, May, MayThen, MayThenBoth, Repeats};
 
 /// A command that edits the network, by its name.
-#[derive(Clone, Copy, Debug, PartialEq, Eq)]
+#[derive(Clone, Copy)]
 pub enum Verb {
     /// `ls-add`
     LsAdd,
@@ -90,23 +97,6 @@ pub struct Form {
     pub tail: Tail,
 }
 
-impl Form {
-    // A line of the table.
-    fn new(name: &'static str, flags: &'static [Flag], places: &'static [Place], tail: Tail) -> Self
-        ensures name { result.name.now ≡ name.now }
-        ensures flags { result.flags.now ≡ flags.now }
-        ensures places { result.places.now ≡ places.now }
-        ensures tail { result.tail ≡ tail }
-    {
-        Form {
-            name,
-            flags,
-            places,
-            tail,
-        }
-    }
-}
-
 // All the commands.
 static VERBS: [Verb; 34] = [
     Verb::LsAdd,
@@ -145,6 +135,75 @@ static VERBS: [Verb; 34] = [
     Verb::SmbDel,
 ];
 
+// The table of the forms, in the order of the commands: the name of each, the options that it takes, the words that it needs,
+// and those that may follow.
+static FORMS: [(&str, &[Flag], &[Place], Tail); 34] = [
+    ("ls-add", &[MayExist], &[Switch], Ends),
+    ("lr-add", &[MayExist], &[Router], Ends),
+    ("ls-del", &[IfExists], &[Switch], Ends),
+    ("lr-del", &[IfExists], &[Router], Ends),
+    ("lsp-add", &[MayExist], &[Switch, Port], Ends),
+    ("lsp-del", &[IfExists], &[Port], Ends),
+    ("lsp-set-addresses", &[], &[Port], Repeats(Address)),
+    ("lsp-set-port-security", &[], &[Port], Repeats(Guard)),
+    ("lsp-set-type", &[], &[Port, PortType], Ends),
+    ("lsp-set-options", &[], &[Port], Repeats(PortOption)),
+    ("lsp-set-enabled", &[], &[Port, State], Ends),
+    ("lrp-set-enabled", &[], &[Port, State], Ends),
+    (
+        "lrp-add",
+        &[MayExist],
+        &[Router, Port, Mac, Network],
+        Repeats(Network),
+    ),
+    ("lrp-del", &[IfExists], &[Port], Ends),
+    (
+        "lr-route-add",
+        &[Policy],
+        &[Router, Prefix, Nexthop],
+        May(Port),
+    ),
+    ("lr-route-del", &[IfExists, Policy], &[Router], May(Prefix)),
+    (
+        "lr-nat-add",
+        &[],
+        &[Router, NatType, Ip, Logical],
+        MayThen(Distributed, Distributed),
+    ),
+    (
+        "lr-nat-del",
+        &[IfExists],
+        &[Router],
+        MayThen(NatType, Logical),
+    ),
+    ("lb-add", &[], &[Lb, Vip, Backends], May(Protocol)),
+    ("lb-del", &[IfExists], &[Lb], May(Vip)),
+    ("ls-lb-add", &[MayExist], &[Switch, Lb], Ends),
+    ("lr-lb-add", &[MayExist], &[Router, Lb], Ends),
+    ("ls-lb-del", &[IfExists], &[Switch], May(Lb)),
+    ("lr-lb-del", &[IfExists], &[Router], May(Lb)),
+    (
+        "acl-add",
+        &[MayExist, OwnerType],
+        &[Owner, Direction, Priority, Match, Verdict],
+        Ends,
+    ),
+    (
+        "acl-del",
+        &[OwnerType],
+        &[Owner],
+        MayThenBoth(Direction, Priority, Match),
+    ),
+    ("pg-add", &[], &[Group], Repeats(Port)),
+    ("pg-set-ports", &[], &[Group], Repeats(Port)),
+    ("pg-del", &[IfExists], &[Group], Ends),
+    ("as-add", &[], &[Set], Repeats(Member)),
+    ("as-set", &[], &[Set], Repeats(Member)),
+    ("as-del", &[IfExists], &[Set], Ends),
+    ("smb-add", &[], &[Port, Ip, Mac], Ends),
+    ("smb-del", &[IfExists], &[Port, Ip], Ends),
+];
+
 impl Verb {
     /// All the commands.
     #[tactic(auto, unfolding(crate::specs::Forms::verbs))]
@@ -154,95 +213,20 @@ impl Verb {
         &VERBS
     }
 
-    /// The table of the forms.
+    /// The form of the command.
     pub fn form(self) -> Form
         ensures name { result.name.now ≡ (form self).name }
         ensures flags { result.flags.now ≡ (form self).flags }
         ensures places { result.places.now ≡ (form self).places }
         ensures tail { result.tail ≡ (form self).tail }
     {
-        use Flag::{MayExist, IfExists, Policy, OwnerType};
-        use Place::{
-            Switch, Router, Port, Lb, Group, Set, Owner, Address, Guard, PortType, PortOption,
-            State, Mac, Ip, Network, Prefix, Nexthop, NatType, Logical, Distributed, Vip, Backends,
-            Protocol, Direction, Priority, Match, Verdict, Member,
-        };
-        use Tail::{Ends, May, MayThen, MayThenBoth, Repeats};
-        match self {
-            Verb::LsAdd => Form::new("ls-add", &[MayExist], &[Switch], Ends),
-            Verb::LrAdd => Form::new("lr-add", &[MayExist], &[Router], Ends),
-            Verb::LsDel => Form::new("ls-del", &[IfExists], &[Switch], Ends),
-            Verb::LrDel => Form::new("lr-del", &[IfExists], &[Router], Ends),
-            Verb::LspAdd => Form::new("lsp-add", &[MayExist], &[Switch, Port], Ends),
-            Verb::LspDel => Form::new("lsp-del", &[IfExists], &[Port], Ends),
-            Verb::LspSetAddresses => Form::new("lsp-set-addresses", &[], &[Port], Repeats(Address)),
-            Verb::LspSetPortSecurity => Form::new(
-                "lsp-set-port-security",
-                &[],
-                &[Port],
-                Repeats(Guard),
-            ),
-            Verb::LspSetType => Form::new("lsp-set-type", &[], &[Port, PortType], Ends),
-            Verb::LspSetOptions => Form::new("lsp-set-options", &[], &[Port], Repeats(PortOption)),
-            Verb::LspSetEnabled => Form::new("lsp-set-enabled", &[], &[Port, State], Ends),
-            Verb::LrpSetEnabled => Form::new("lrp-set-enabled", &[], &[Port, State], Ends),
-            Verb::LrpAdd => Form::new(
-                "lrp-add",
-                &[MayExist],
-                &[Router, Port, Mac, Network],
-                Repeats(Network),
-            ),
-            Verb::LrpDel => Form::new("lrp-del", &[IfExists], &[Port], Ends),
-            Verb::LrRouteAdd => Form::new(
-                "lr-route-add",
-                &[Policy],
-                &[Router, Prefix, Nexthop],
-                May(Port),
-            ),
-            Verb::LrRouteDel => Form::new(
-                "lr-route-del",
-                &[IfExists, Policy],
-                &[Router],
-                May(Prefix),
-            ),
-            Verb::LrNatAdd => Form::new(
-                "lr-nat-add",
-                &[],
-                &[Router, NatType, Ip, Logical],
-                MayThen(Distributed, Distributed),
-            ),
-            Verb::LrNatDel => Form::new(
-                "lr-nat-del",
-                &[IfExists],
-                &[Router],
-                MayThen(NatType, Logical),
-            ),
-            Verb::LbAdd => Form::new("lb-add", &[], &[Lb, Vip, Backends], May(Protocol)),
-            Verb::LbDel => Form::new("lb-del", &[IfExists], &[Lb], May(Vip)),
-            Verb::LsLbAdd => Form::new("ls-lb-add", &[MayExist], &[Switch, Lb], Ends),
-            Verb::LrLbAdd => Form::new("lr-lb-add", &[MayExist], &[Router, Lb], Ends),
-            Verb::LsLbDel => Form::new("ls-lb-del", &[IfExists], &[Switch], May(Lb)),
-            Verb::LrLbDel => Form::new("lr-lb-del", &[IfExists], &[Router], May(Lb)),
-            Verb::AclAdd => Form::new(
-                "acl-add",
-                &[MayExist, OwnerType],
-                &[Owner, Direction, Priority, Match, Verdict],
-                Ends,
-            ),
-            Verb::AclDel => Form::new(
-                "acl-del",
-                &[OwnerType],
-                &[Owner],
-                MayThenBoth(Direction, Priority, Match),
-            ),
-            Verb::PgAdd => Form::new("pg-add", &[], &[Group], Repeats(Port)),
-            Verb::PgSetPorts => Form::new("pg-set-ports", &[], &[Group], Repeats(Port)),
-            Verb::PgDel => Form::new("pg-del", &[IfExists], &[Group], Ends),
-            Verb::AsAdd => Form::new("as-add", &[], &[Set], Repeats(Member)),
-            Verb::AsSet => Form::new("as-set", &[], &[Set], Repeats(Member)),
-            Verb::AsDel => Form::new("as-del", &[IfExists], &[Set], Ends),
-            Verb::SmbAdd => Form::new("smb-add", &[], &[Port, Ip, Mac], Ends),
-            Verb::SmbDel => Form::new("smb-del", &[IfExists], &[Port, Ip], Ends),
+        let row = FORMS[self as usize];
+        let (name, flags, places, tail) = row;
+        Form {
+            name,
+            flags,
+            places,
+            tail,
         }
     }
 

@@ -23,7 +23,7 @@ pub(crate) enum Object {
 }
 
 /// The number of an object, by its kind.
-#[derive(Clone, Copy, PartialEq, Eq)]
+#[derive(Clone, Copy)]
 pub enum Place {
     /// Of a switch.
     Switch(ObjId),

@@ -8,7 +8,7 @@ use sb_model::{Row, Stage};
 use sb_rows::NewRows;
 
 /// What the rows of a unit have in common.
-#[derive(Clone, Copy, PartialEq, Eq)]
+#[derive(Clone, Copy)]
 pub struct Unit {
     /// The number of the datapath.
     pub dp: ObjId,

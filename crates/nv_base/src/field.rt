@@ -85,7 +85,7 @@ pub enum Field {
 }
 
 /// How the numbers of a field are written.
-#[derive(Clone, Copy, PartialEq, Eq)]
+#[derive(Clone, Copy)]
 pub enum Printed {
     /// As the quoted name of the port of this number.
     PortName,
@@ -100,7 +100,7 @@ pub enum Printed {
 }
 
 /// What a packet must be for a field to be there.
-#[derive(Clone, Copy, PartialEq, Eq)]
+#[derive(Clone, Copy)]
 pub enum Prerequisite {
     /// Anything.
     Nothing,

@@ -7,7 +7,7 @@ ghost use Rattle.nv_io.specs.declared.sink.SinkFailed.{SinkFailed};
 use thiserror::Error;
 
 /// A sink failed to take bytes.
-#[derive(Clone, Copy, Debug, PartialEq, Eq, Error)]
+#[derive(Clone, Copy, Debug, Error)]
 #[error("the output could not be written")]
 pub struct SinkFailed;
 

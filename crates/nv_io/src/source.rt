@@ -7,7 +7,7 @@ ghost use Rattle.nv_io.specs.declared.source.SourceFailed.{SourceFailed};
 use thiserror::Error;
 
 /// A source failed to give bytes.
-#[derive(Clone, Copy, Debug, PartialEq, Eq, Error)]
+#[derive(Clone, Copy, Debug, Error)]
 #[error("the input could not be read")]
 pub struct SourceFailed;
 

@@ -13,7 +13,7 @@ use std::alloc::{AllocError, Global};
 const DEFAULT_HOPS: u8 = 16;
 
 /// Why arguments are not accepted.
-#[derive(Clone, Copy, PartialEq, Eq)]
+#[derive(Clone, Copy)]
 pub enum ArgumentFault {
     /// They are not of the form, or ask for help or the version.
     Refused,

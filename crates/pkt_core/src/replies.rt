@@ -7,7 +7,7 @@ use crate::{Packet, Tuple};
 use nv_base::{Field, Ip4, Mac, ObjId, Prerequisite};
 
 /// Why a packet is answered by an ICMP error.
-#[derive(Clone, Copy, PartialEq, Eq)]
+#[derive(Clone, Copy)]
 pub enum IcmpReason {
     /// Nothing listens at the port.
     PortUnreachable,

@@ -5,7 +5,7 @@ use nv_base::{Field, OutOfMemory};
 use thiserror::Error;
 
 /// Why a match is no microflow.
-#[derive(Clone, Copy, Debug, PartialEq, Eq, Error)]
+#[derive(Clone, Copy, Debug, Error)]
 pub enum MicroFault {
     /// It is no conjunction of equalities with one number each, of the predicates `ip4`, `arp`, `tcp`, `udp`, `icmp4`,
     /// and of `1`.

@@ -12,7 +12,7 @@ use pkt_core::Packet;
 use std::alloc::Global;
 
 /// A packet, and the port that it comes in by.
-#[derive(PartialEq, Eq, Drop)]
+#[derive(Drop)]
 pub struct Micro {
     /// The name of the port.
     pub inport: Name,

@@ -9,7 +9,7 @@ use Rattle.nb_words.specs.declared.command.Command.{Command}
 use Rattle.nb_edit.specs.Commands.{read_command}
 use Rattle.nb_edit.specs.declared.verb.Verb.{Verb}
 use Rattle.nb_net.specs.Readable.{IsReadable}
-use Rattle.nb_net.proofs.CommandReadings.{command_readable}
+use Rattle.nb_readable.proofs.CommandReadings.{command_readable}
 use Rattle.nb_net.proofs.Reading.{goes_on_anyway}
 use Rattle.nb_cmds.specs.Built.{unbuilt_word, built, refused_option, optioned}
 use Rattle.nb_cmds.specs.Lines.{task, read_line}

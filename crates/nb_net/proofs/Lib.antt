@@ -4,7 +4,6 @@ pub mod AnyOf
 pub mod Apart
 pub mod ApartEdits
 pub mod Cases
-pub mod CommandReadings
 pub mod Copies
 pub mod Covering
 pub mod Drawn

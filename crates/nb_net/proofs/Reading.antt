@@ -3,8 +3,6 @@ use Rattle.std.proofs.Common.{◌≡◌, ℕ, Bool, true, false, List, Option, S
 use Rattle.std.specs.Bool.{IsTrue}
 use Rattle.nb_core.specs.declared.refusal.Refusal.{Refusal}
 use Rattle.nb_read.specs.Then.{and_then}
-use Rattle.nb_edit.specs.Call.{Call, at, maybe, is_there}
-use Rattle.nb_net.specs.Readable.{may_be}
 
 -- after what was read
 pub goes_on : {X Y : Type 0} (P : X → Type 0) (Q : Y → Type 0) (r : Result X Refusal) (go_on : X → Result Y Refusal) → IfOk r P → ((x : X) → P x → IfOk (go_on x) Q) → IfOk (and_then r go_on) Q
@@ -50,12 +48,3 @@ there_changed P change (Some x) is = is
 pub there_after : {X Y : Type 0} (P : X → Type 0) (Q : Y → Type 0) (go_on : X → Option Y) (o : Option X) → IfSome o P → ((x : X) → P x → IfSome (go_on x) Q) → IfSome (option_and_then go_on o) Q
 there_after P Q go_on None is more = tt
 there_after P Q go_on (Some x) is more = more x is
-
--- a word that may be there
-pub maybe_given : {X : Type 0} (passes : X → Bool) (call : Call) (place : ℕ) (reading : ℕ → List ℕ → Result X Refusal) → IfOk (at call place reading) (λ x. IsTrue (passes x))
-    → IfOk (maybe call place reading) (λ o. IsTrue (may_be passes o))
-maybe_given {X} passes call place reading is = by (is_there call place)
-  where
-    by : (held : Bool) → IfOk (if held then and_then (at call place reading) (λ x. Ok (Some x)) else Ok None) (λ o. IsTrue (may_be passes o))
-    by true = goes_on (λ x. IsTrue (passes x)) (λ o. IsTrue (may_be passes o)) (at call place reading) (λ x. Ok (Some x)) is (λ x passes. passes)
-    by false = refl

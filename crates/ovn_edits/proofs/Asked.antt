@@ -4,7 +4,7 @@ use Rattle.std.specs.List.{AllByRecursion, list_all}
 use Rattle.nb_core.specs.declared.edit.Edit.{Edit}
 use Rattle.nb_edit.specs.Commands.{read_command}
 use Rattle.nb_net.specs.Readable.{IsReadable}
-use Rattle.nb_net.proofs.CommandReadings.{command_readable}
+use Rattle.nb_readable.proofs.CommandReadings.{command_readable}
 use Rattle.nb_words.specs.Commands.{is_small}
 use Rattle.nb_words.specs.declared.command.Command.{Command}
 

@@ -1,5 +1,5 @@
 -- What a command asks for is readable.
-use Rattle.std.proofs.Common.{◌≡◌, ◌≤◌, ◌<◌, ◌+◌, ◌&&◌, ℕ, Bool, true, false, nat_lt, List, [], ◌∷◌, length, drop, take, Option, Some, None, Result, Ok, IfOk, is_some, length-drop, refl, arith, if◌then◌else◌}
+use Rattle.std.proofs.Common.{◌≡◌, ◌≤◌, ◌<◌, ◌+◌, ◌&&◌, ℕ, Bool, true, false, nat_lt, List, [], ◌∷◌, length, drop, take, Option, Some, None, Result, Ok, IfOk, Err, is_some, length-drop, refl, arith, if◌then◌else◌}
 use Rattle.std.specs.Bool.{IsTrue}
 use Rattle.std.specs.List.{list_all}
 use Rattle.std.proofs.lemmas.Bool.{and_parts, and_from}
@@ -28,8 +28,17 @@ use Rattle.nb_net.proofs.AddressReadings.{addresses_given, guards_given}
 use Rattle.nb_net.proofs.ListReadings.{names_given, members_given, port_options_given, networks_given, backends_given}
 use Rattle.nb_net.proofs.MatchReadings.{acl_match_given}
 use Rattle.nb_net.proofs.Reading
-use Rattle.nb_net.proofs.Reading.{goes_on, goes_on_anyway, maybe_given}
+use Rattle.nb_net.proofs.Reading.{goes_on, goes_on_anyway}
 use Rattle.nb_net.proofs.WordReadings.{object_name_given, set_name_given, owner_name_given, priority_given, mac_given, ip_given, network_given, nexthop_given, logical_given, vip_given}
+
+-- a word that may be there
+maybe_given : {X : Type 0} (passes : X → Bool) (call : Call) (place : ℕ) (reading : ℕ → List ℕ → Result X Refusal) → IfOk (at call place reading) (λ x. IsTrue (passes x))
+    → IfOk (maybe call place reading) (λ o. IsTrue (may_be passes o))
+maybe_given {X} passes call place reading is = by (is_there call place)
+  where
+    by : (held : Bool) → IfOk (if held then and_then (at call place reading) (λ x. Ok (Some x)) else Ok None) (λ o. IsTrue (may_be passes o))
+    by true = goes_on (λ x. IsTrue (passes x)) (λ o. IsTrue (may_be passes o)) (at call place reading) (λ x. Ok (Some x)) is (λ x passes. passes)
+    by false = refl
 
 both : {a b : Bool} → IsTrue a → IsTrue b → IsTrue (a && b)
 both {a} {b} one other = and_from a b one other

@@ -7,9 +7,9 @@ ghost use Rattle.nb_limits.specs.inner.Within.{up_to};
 ghost use Rattle.nb_core.specs.declared.refusal.Kind.TheVariants as kind;
 ghost use Rattle.nb_net.specs.Amounts.{amount, bound};
 
-use crate::bounds::bound;
 use crate::within::{add, add_times};
 use expr_core::put_tree;
+use nb_bounds::bound;
 use nb_core::{Acl, Group, Kind};
 use nb_tables::{Records, add_number};
 use nv_base::{Items, OutOfMemory};

@@ -8,9 +8,9 @@ ghost use Rattle.nb_net.specs.Sound.{IsSound};
 
 use crate::acl_limits::{acl_switches, match_text};
 use crate::balancer_limits::{backend_count, vip_count, vip_datapaths};
-use crate::bounds::bound;
 use crate::neighbour_limits::neighbours;
 use crate::within::{add, count_within, weight_within};
+use nb_bounds::bound;
 use nb_core::Kind;
 use nb_tables::Records;
 use nv_base::OutOfMemory;

@@ -12,9 +12,9 @@ ghost use Rattle.nb_limits.specs.Limitless.{IsSoundButLimits};
 
 use crate::acl_limits::{acl_switches, match_text, switch_count};
 use crate::balancer_limits::{backend_count, vip_count};
-use crate::bounds::bound;
 use crate::within::add_times;
 use expr_core::{Typed, put_tree};
+use nb_bounds::bound;
 use nb_core::{Backend, Edit, Kind, Lb};
 use nb_tables::Records;
 use nv_base::{ObjId, OutOfMemory};

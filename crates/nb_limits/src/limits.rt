@@ -6,8 +6,8 @@ ghost use Rattle.nb_net.specs.Amounts.{amount, bound, first_over};
 ghost use Rattle.nb_net.specs.Rises.{may_rise};
 
 use crate::amounts::amount_within;
-use crate::bounds::bound;
 use crate::ceilings::Ceilings;
+use nb_bounds::bound;
 use nb_core::{Edit, Kind, Refusal};
 use nb_tables::Records;
 use nv_base::OutOfMemory;

@@ -3,7 +3,7 @@ ghost use Rattle.std.specs.Prelude.{◌≡◌, ◌+◌, ◌*◌};
 ghost use Rattle.nb_limits.specs.inner.Within.{up_to};
 ghost use Rattle.nb_net.specs.Amounts.{bound};
 
-use crate::bounds::bound;
+use nb_bounds::bound;
 use nb_core::Kind;
 
 /// So many of a kind, where they are within its bound.

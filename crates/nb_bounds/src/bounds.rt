@@ -5,7 +5,7 @@ ghost use Rattle.nb_net.specs.Amounts.{bound};
 use nb_core::Kind;
 
 /// How much of a kind there may be.
-pub(crate) fn bound(kind: Kind) -> u32
+pub fn bound(kind: Kind) -> u32
     ensures { result ≡ bound kind }
 {
     match kind {

@@ -1,0 +1,6 @@
+//! How much of each kind of record a network may have.
+#![tactic(auto)]
+
+mod bounds;
+
+pub use bounds::bound;

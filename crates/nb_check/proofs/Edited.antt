@@ -23,7 +23,7 @@ use Rattle.nb_words.specs.Fault.{IsFaultOf}
 use Rattle.nb_words.specs.declared.fault.LineFault.{LineFault}
 use Rattle.nb_words.specs.declared.fault.LineFault.TheVariants.{Refused, Memory}
 use Rattle.nb_limits.specs.Limitless.{IsSoundButLimits}
-use Rattle.nb_valid.specs.Tested.{tested}
+use Rattle.nb_members.specs.Tested.{tested}
 
 -- where the earlier tests pass, the last one decides
 last_decides : (earlier : List (Option Refusal)) (last : Option Refusal) → first_refusal earlier ≡ None → first_refusal (earlier ++ last ∷ []) ≡ last

@@ -4,8 +4,7 @@ ghost use Rattle.expr_check.specs.Printed.{IsPrintable};
 ghost use Rattle.nb_core.specs.declared.edit.Edit.TheVariants as edit;
 ghost use Rattle.nb_read.specs.Readings.{role_of};
 ghost use Rattle.nb_net.specs.Sound.{IsSound};
-ghost use Rattle.nb_valid.specs.Tested.{Passes};
-ghost use Rattle.nb_valid.specs.inner.Refused.{Refuses};
+ghost use Rattle.nb_members.specs.Tested.{Passes, Refuses};
 
 use expr_core::Typed;
 use nb_core::{Edit, OwnerKind, Refusal, Verdict, Way};

@@ -1,8 +1,7 @@
 //! The tests of the edits of switches and routers.
 ghost use Rattle.std.specs.Prelude.{IfOk, IfErr};
 ghost use Rattle.nb_core.specs.declared.edit.Edit.TheVariants as edit;
-ghost use Rattle.nb_valid.specs.Tested.{Passes};
-ghost use Rattle.nb_valid.specs.inner.Refused.{Refuses};
+ghost use Rattle.nb_members.specs.Tested.{Passes, Refuses};
 
 use nb_core::{Edit, Refusal};
 use nb_lookup::{free, is_datapath, is_router, is_switch, may_want_router, may_want_switch};

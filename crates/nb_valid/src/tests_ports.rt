@@ -1,8 +1,7 @@
 //! The tests of the edits of the ports of switches.
 ghost use Rattle.std.specs.Prelude.{IfOk, IfErr};
 ghost use Rattle.nb_core.specs.declared.edit.Edit.TheVariants as edit;
-ghost use Rattle.nb_valid.specs.Tested.{Passes};
-ghost use Rattle.nb_valid.specs.inner.Refused.{Refuses};
+ghost use Rattle.nb_members.specs.Tested.{Passes, Refuses};
 
 use nb_core::{Addr, Edit, Guard, PortKind, Refusal};
 use nb_lookup::{

@@ -2,8 +2,7 @@
 ghost use Rattle.std.specs.Prelude.{IfOk, IfErr, None, Some};
 ghost use Rattle.nb_core.specs.declared.edit.Edit.TheVariants as edit;
 ghost use Rattle.nb_net.specs.Sound.{IsSound};
-ghost use Rattle.nb_valid.specs.Tested.{Passes};
-ghost use Rattle.nb_valid.specs.inner.Refused.{Refuses};
+ghost use Rattle.nb_members.specs.Tested.{Passes, Refuses};
 
 use nb_core::{Edit, NatKind, Refusal, RouteBy};
 use nb_lookup::{

@@ -1,9 +1,9 @@
 use Rattle.std.proofs.Common.{map, sym, ap, ◌∙◌, subst}
 use Rattle.std.proofs.lemmas.Result.{on_ok_weaker, IfErr-weaker}
 use Rattle.nb_net.specs.Tests.{first_refusal, wants_port}
-use Rattle.nb_valid.specs.inner.Refused.{IsFaultFor}
-use Rattle.nb_valid.proofs.Members.{first_wanted, refusal_of}
-use Rattle.nb_valid.proofs.tests_sets.want_ports.Goals as goal
+use Rattle.nb_members.specs.inner.Refused.{IsFaultFor}
+use Rattle.nb_members.proofs.Members.{first_wanted, refusal_of}
+use Rattle.nb_members.proofs.tests_sets.want_ports.Goals as goal
 
 pub returns-in-None-clause-ok : goal.returns-in-None-clause-ok
 returns-in-None-clause-ok c = first_wanted c.args.records.now c.args.names.now ∙ sym (ap (refusal_of c.args.records.now) c.in-None.ensures)

@@ -1,15 +1,8 @@
--- What the tests of an edit refuse.
+-- What the test of a name refuses.
 use Rattle.std.specs.Prelude.{◌≡◌, Option, Some}
-use Rattle.nb_core.specs.declared.edit.Edit.{Edit}
 use Rattle.nb_core.specs.declared.refusal.Refusal.{Refusal}
-use Rattle.nb_net.specs.Network.{Network}
-use Rattle.nb_net.specs.Tests.{tests, first_refusal}
 use Rattle.nb_words.specs.declared.fault.LineFault.{LineFault}
 use Rattle.nb_words.specs.declared.fault.LineFault.TheVariants.{Refused, Memory}
-
--- the refusal of the first test that fails
-abbrev pub Refuses : Network → Edit → Refusal → Type 0
-Refuses net edit refusal = first_refusal (tests net edit) ≡ Some refusal
 
 -- a fault is the refusal of a test, or memory ran out
 abbrev pub IsFaultFor : Option Refusal → LineFault → Type 0

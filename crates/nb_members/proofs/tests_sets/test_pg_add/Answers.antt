@@ -1,6 +1,6 @@
 use Rattle.std.proofs.Common.{rules}
-use Rattle.nb_valid.proofs.Members.{port_fails, name_fails, name_passes}
-use Rattle.nb_valid.proofs.tests_sets.test_pg_add.Goals as goal
+use Rattle.nb_members.proofs.Members.{port_fails, name_fails, name_passes}
+use Rattle.nb_members.proofs.tests_sets.test_pg_add.Goals as goal
 
 pub returns-in_err-want_ports-clause-refused : goal.returns-in_err-want_ports-clause-refused
 returns-in_err-want_ports-clause-refused c = search (rules, port_fails)

@@ -5,8 +5,8 @@ ghost use Rattle.nb_core.specs.declared.edit.Edit.TheVariants as edit;
 ghost use Rattle.nb_net.specs.Network.{port_named};
 ghost use Rattle.nb_net.specs.Tests.{first_refusal, wants_port};
 ghost use Rattle.nb_words.specs.Fault.{IsFaultOf};
-ghost use Rattle.nb_valid.specs.Tested.{tested, Passes};
-ghost use Rattle.nb_valid.specs.inner.Refused.{IsFaultFor, Refuses};
+ghost use Rattle.nb_members.specs.Tested.{tested, Passes, Refuses};
+ghost use Rattle.nb_members.specs.inner.Refused.{IsFaultFor};
 
 use nb_core::{Edit, Member, Refusal};
 use nb_lookup::{
@@ -48,7 +48,7 @@ fn want_ports(alloc: Global, records: &Records, names: &[Name]) -> Result<(), Li
 }
 
 /// `pg-add`: ports of switches have these names, and the group's is free.
-pub(crate) fn test_pg_add(
+pub fn test_pg_add(
     alloc: Global,
     records: &Records,
     name: Name,
@@ -64,7 +64,7 @@ pub(crate) fn test_pg_add(
 }
 
 /// `pg-set-ports`: a port group has the name, and ports of switches have theirs.
-pub(crate) fn test_pg_set_ports(
+pub fn test_pg_set_ports(
     alloc: Global,
     records: &Records,
     name: Name,
@@ -79,7 +79,7 @@ pub(crate) fn test_pg_set_ports(
 }
 
 /// `pg-del`: a port group has the name.
-pub(crate) fn test_pg_del(records: &Records, name: Name, if_exists: bool) -> Result<Edit, Refusal>
+pub fn test_pg_del(records: &Records, name: Name, if_exists: bool) -> Result<Edit, Refusal>
     ensures ok { IfOk result (Passes records.now (edit.PgDel name if_exists)) }
     ensures refused { IfErr result (Refuses records.now (edit.PgDel name if_exists)) }
 {
@@ -88,11 +88,7 @@ pub(crate) fn test_pg_del(records: &Records, name: Name, if_exists: bool) -> Res
 }
 
 /// `as-add`: the name is free.
-pub(crate) fn test_as_add(
-    records: &Records,
-    name: Name,
-    members: Items<Member>,
-) -> Result<Edit, Refusal>
+pub fn test_as_add(records: &Records, name: Name, members: Items<Member>) -> Result<Edit, Refusal>
     ensures ok { IfOk result (Passes records.now (edit.AsAdd name members)) }
     ensures refused { IfErr result (Refuses records.now (edit.AsAdd name members)) }
 {
@@ -102,11 +98,7 @@ pub(crate) fn test_as_add(
 }
 
 /// `as-set`: an address set has the name.
-pub(crate) fn test_as_set(
-    records: &Records,
-    name: Name,
-    members: Items<Member>,
-) -> Result<Edit, Refusal>
+pub fn test_as_set(records: &Records, name: Name, members: Items<Member>) -> Result<Edit, Refusal>
     ensures ok { IfOk result (Passes records.now (edit.AsSet name members)) }
     ensures refused { IfErr result (Refuses records.now (edit.AsSet name members)) }
 {
@@ -115,7 +107,7 @@ pub(crate) fn test_as_set(
 }
 
 /// `as-del`: an address set has the name.
-pub(crate) fn test_as_del(records: &Records, name: Name, if_exists: bool) -> Result<Edit, Refusal>
+pub fn test_as_del(records: &Records, name: Name, if_exists: bool) -> Result<Edit, Refusal>
     ensures ok { IfOk result (Passes records.now (edit.AsDel name if_exists)) }
     ensures refused { IfErr result (Refuses records.now (edit.AsDel name if_exists)) }
 {

@@ -1,8 +1,7 @@
 //! The tests of the edits of load balancers.
 ghost use Rattle.std.specs.Prelude.{IfOk, IfErr, None, Some};
 ghost use Rattle.nb_core.specs.declared.edit.Edit.TheVariants as edit;
-ghost use Rattle.nb_valid.specs.Tested.{Passes};
-ghost use Rattle.nb_valid.specs.inner.Refused.{Refuses};
+ghost use Rattle.nb_members.specs.Tested.{Passes, Refuses};
 
 use nb_core::{Backend, Edit, Frontend, Proto, Refusal};
 use nb_lookup::{
@@ -13,7 +12,7 @@ use nb_tables::Records;
 use nv_base::{Items, Name};
 
 /// `lb-add`: a load balancer of the name takes the protocol, and has no such VIP.
-pub(crate) fn test_lb_add(
+pub fn test_lb_add(
     records: &Records,
     lb: Name,
     at: Frontend,
@@ -34,7 +33,7 @@ pub(crate) fn test_lb_add(
 }
 
 /// `lb-del`
-pub(crate) fn test_lb_del(
+pub fn test_lb_del(
     records: &Records,
     lb: Name,
     at: Option<Frontend>,
@@ -78,7 +77,7 @@ fn test_vip_del(records: &Records, lb: Name, at: Frontend, if_exists: bool) -> R
 }
 
 /// `ls-lb-add`: both are there, and the load balancer is not attached, or may be.
-pub(crate) fn test_ls_lb_add(
+pub fn test_ls_lb_add(
     records: &Records,
     switch: Name,
     lb: Name,
@@ -99,7 +98,7 @@ pub(crate) fn test_ls_lb_add(
 }
 
 /// `lr-lb-add`: both are there, and the load balancer is not attached, or may be.
-pub(crate) fn test_lr_lb_add(
+pub fn test_lr_lb_add(
     records: &Records,
     router: Name,
     lb: Name,
@@ -120,7 +119,7 @@ pub(crate) fn test_lr_lb_add(
 }
 
 /// `ls-lb-del`: the switch is there, and a load balancer that is named is attached.
-pub(crate) fn test_ls_lb_del(
+pub fn test_ls_lb_del(
     records: &Records,
     switch: Name,
     lb: Option<Name>,
@@ -139,7 +138,7 @@ pub(crate) fn test_ls_lb_del(
 }
 
 /// `lr-lb-del`: the router is there, and a load balancer that is named is attached.
-pub(crate) fn test_lr_lb_del(
+pub fn test_lr_lb_del(
     records: &Records,
     router: Name,
     lb: Option<Name>,

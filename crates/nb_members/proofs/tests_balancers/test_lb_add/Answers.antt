@@ -1,5 +1,5 @@
-use Rattle.nb_valid.proofs.Vips.{vip_passes}
-use Rattle.nb_valid.proofs.tests_balancers.test_lb_add.Goals as goal
+use Rattle.nb_members.proofs.Vips.{vip_passes}
+use Rattle.nb_members.proofs.tests_balancers.test_lb_add.Goals as goal
 
 pub returns-clause-ok : goal.returns-clause-ok
 returns-clause-ok c =

@@ -9,8 +9,8 @@ use Rattle.nb_net.specs.Transactions.{unless}
 use Rattle.nb_words.specs.Fault.{IsFaultOf}
 use Rattle.nb_words.specs.declared.fault.LineFault.{LineFault}
 use Rattle.nb_words.specs.declared.fault.LineFault.TheVariants.{Refused, Memory}
-use Rattle.nb_valid.specs.Tested.{tested}
-use Rattle.nb_valid.specs.inner.Refused.{IsFaultFor}
+use Rattle.nb_members.specs.Tested.{tested}
+use Rattle.nb_members.specs.inner.Refused.{IsFaultFor}
 
 module _ (net : Network) where
   abbrev pub is_other : List ℕ → Bool

@@ -16,9 +16,9 @@ use Rattle.expr_core.specs.declared.constant.Form.TheVariants.{Dec, Ip4 as Addre
 use Rattle.expr_core.specs.Text.{const_text}
 use Rattle.expr_core.specs.Width.{limit}
 use Rattle.expr_const.specs.Constant.{constant_in, constant_of, number_after_0x, longest}
-use Rattle.act_parse.specs.Token.{as_written, constant}
-use Rattle.act_parse.specs.Reading.{decimal, ip4}
-use Rattle.act_parse.specs.Reading.Reading.{Read}
+use Rattle.act_steps.specs.Token.{as_written, constant}
+use Rattle.act_steps.specs.Reading.{decimal, ip4}
+use Rattle.act_steps.specs.Reading.Reading.{Read}
 use Rattle.expr_const.specs.inner.Bytes.{is_in_constant}
 use Rattle.expr_const.proofs.Choices.{none_from}
 use Rattle.expr_const.proofs.ConstantFronts.{constant_spelt}

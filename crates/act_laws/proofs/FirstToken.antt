@@ -12,7 +12,7 @@ use Rattle.nv_base.specs.Mac.{mac_of}
 use Rattle.nv_base.specs.Number.{decimal_of}
 use Rattle.expr_core.specs.declared.constant.Const.{Const}
 use Rattle.expr_const.specs.Constant.{or_else, number_after_0x, constant_of, longest}
-use Rattle.act_parse.specs.Token.{begins_word, word, after_word, is_word, is_at, quoted}
+use Rattle.act_steps.specs.Token.{begins_word, word, after_word, is_word, is_at, quoted}
 use Rattle.act_laws.specs.Tokens.{Token, signs, word_token, sign_token, first_token}
 use Rattle.act_laws.specs.Tokens.Token.{Constant, Name, Word, Sign}
 use Rattle.expr_const.proofs.Choices.{none_from}

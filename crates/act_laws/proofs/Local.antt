@@ -1,10 +1,10 @@
 -- Readings of two texts that begin with the same tokens are the same, as far as these tokens reach.
 use Rattle.std.proofs.Common.{◌≡◌, ℕ, suc, ◌+◌, ◌<◌, ◌≤◌, Bool, true, false, cond, List, [], ◌∷◌, length, drop, Some, refl, ap, sym, subst, ◌∙◌, arith}
 use Rattle.std.proofs.lemmas.List.{length-drop}
-use Rattle.act_parse.specs.Token.{is_at}
+use Rattle.act_steps.specs.Token.{is_at}
 use Rattle.act_laws.specs.Tokens.{Token, first_token, BeginsWith}
-use Rattle.act_parse.specs.Reading.{Reading, and_then, stuck, token}
-use Rattle.act_parse.specs.Reading.Reading.{Read, Stuck}
+use Rattle.act_steps.specs.Reading.{Reading, and_then, stuck, token}
+use Rattle.act_steps.specs.Reading.Reading.{Read, Stuck}
 use Rattle.act_laws.proofs.TakesTokens.{and_then_read}
 use Rattle.act_laws.proofs.Viable.{sequel}
 use Rattle.act_laws.proofs.FirstToken.{bytes, has_bytes, Stands}

@@ -5,14 +5,14 @@ use Rattle.act_core.specs.Text.{step_text, spaced_text, action_text}
 use Rattle.act_core.specs.declared.step.Step.{Step}
 use Rattle.act_core.specs.declared.action.Action.{Action}
 use Rattle.act_core.specs.declared.action.Action.TheVariants as action_of
-use Rattle.act_parse.specs.declared.fault.ActionFault.TheVariants.{Syntax}
-use Rattle.act_parse.specs.declared.keyword.Block.{Block}
-use Rattle.act_parse.specs.Token.{word, after_word, is_at}
+use Rattle.act_steps.specs.declared.fault.ActionFault.TheVariants.{Syntax}
+use Rattle.act_steps.specs.declared.keyword.Block.{Block}
+use Rattle.act_steps.specs.Token.{word, after_word, is_at}
 use Rattle.act_laws.specs.Tokens.{Token, BeginsWith}
-use Rattle.act_parse.specs.Keyword.{block_name, block_of, blocks, is_block_name, block_action}
-use Rattle.act_parse.specs.Reading as reading
-use Rattle.act_parse.specs.Reading.{Reading, and_then, token, tokens, ended, answer, answer_of}
-use Rattle.act_parse.specs.Reading.Reading.{Read, Stuck}
+use Rattle.act_steps.specs.Keyword.{block_name, block_of, blocks, is_block_name, block_action}
+use Rattle.act_steps.specs.Reading as reading
+use Rattle.act_steps.specs.Reading.{Reading, and_then, token, tokens, ended, answer, answer_of}
+use Rattle.act_steps.specs.Reading.Reading.{Read, Stuck}
 use Rattle.act_laws.proofs.TakesTokens.{same_bytes, find_passes}
 use Rattle.act_laws.proofs.TakesActions.{spaced_takes}
 use Rattle.act_laws.proofs.ViableActions.{another_takes, reading_stops}

@@ -12,12 +12,12 @@ use Rattle.expr_core.specs.declared.part.Bits.TheVariants.{Whole, Bit, Range}
 use Rattle.act_core.specs.WellFormed.{fits}
 use Rattle.act_core.specs.declared.step.Step.{Step}
 use Rattle.act_core.specs.declared.step.Step.TheVariants.{Set, Copy, SetOutport, Exchange, DecTtl}
-use Rattle.act_parse.specs.declared.keyword.Keyword.{Keyword}
-use Rattle.act_parse.specs.Token.{word, after_word, constant, name_before_quote, quoted}
-use Rattle.act_parse.specs.Keyword.{keyword_name, keyword_of, keywords, is_keyword}
-use Rattle.act_parse.specs.Reading as reading
-use Rattle.act_parse.specs.Reading.{Reading, and_then, stuck, token, tokens, ended, decimal}
-use Rattle.act_parse.specs.Reading.Reading.{Read}
+use Rattle.act_steps.specs.declared.keyword.Keyword.{Keyword}
+use Rattle.act_steps.specs.Token.{word, after_word, constant, name_before_quote, quoted}
+use Rattle.act_steps.specs.Keyword.{keyword_name, keyword_of, keywords, is_keyword}
+use Rattle.act_steps.specs.Reading as reading
+use Rattle.act_steps.specs.Reading.{Reading, and_then, stuck, token, tokens, ended, decimal}
+use Rattle.act_steps.specs.Reading.Reading.{Read}
 use Rattle.act_laws.proofs.TakesTokens.{same_bytes, find_passes}
 use Rattle.act_laws.proofs.Local.{Local, pure_local, stuck_local, then_local, like, choice_local, token_local}
 use Rattle.act_laws.proofs.LocalTokens.{Seen, keyword_named, space, semicolon, open_bracket, close_bracket, equals, two_dots, two_minus, arrow, tokens_local, ended_local, looked, looked_local, constant_seen, quoted_seen, word_seen, one_of, decimal_local, field_seen, field_local}

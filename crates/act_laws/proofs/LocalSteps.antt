@@ -5,12 +5,12 @@ use Rattle.nv_base.specs.declared.ip4.Ip4.{Ip4}
 use Rattle.act_core.specs.declared.step.Target.{Target}
 use Rattle.act_core.specs.declared.step.Step.{Step}
 use Rattle.act_core.specs.declared.step.Step.TheVariants.{Next, Jump, Output, Drop, CtNext, CtLb, CtLbTo, CtCommit, PutArp, GetArp}
-use Rattle.act_parse.specs.declared.keyword.Keyword.{Keyword}
-use Rattle.act_parse.specs.declared.keyword.Keyword.TheVariants as keyword
-use Rattle.act_parse.specs.Token.{is_at}
-use Rattle.act_parse.specs.Reading as reading
-use Rattle.act_parse.specs.Reading.{Reading, and_then, stuck, token, tokens, ended, decimal, ip4, finished}
-use Rattle.act_parse.specs.Reading.Reading.{Read}
+use Rattle.act_steps.specs.declared.keyword.Keyword.{Keyword}
+use Rattle.act_steps.specs.declared.keyword.Keyword.TheVariants as keyword
+use Rattle.act_steps.specs.Token.{is_at}
+use Rattle.act_steps.specs.Reading as reading
+use Rattle.act_steps.specs.Reading.{Reading, and_then, stuck, token, tokens, ended, decimal, ip4, finished}
+use Rattle.act_steps.specs.Reading.Reading.{Read}
 use Rattle.act_laws.proofs.Local.{Both, turned, some_byte, agree_pure, Sized, Agree, Local, pure_local, sized_pure, then_local, sized_then, agree_then, sized_choice, agree_choice, like, choice_local, token_local}
 use Rattle.act_laws.proofs.LocalTokens.{a_word, space, semicolon, open_parenthesis, close_parenthesis, open_brace, close_brace, comma, equals, colon, tokens_local, ended_local, decimal_local, ip4_local}
 

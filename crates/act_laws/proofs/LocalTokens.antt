@@ -11,18 +11,18 @@ use Rattle.nv_base.specs.declared.field.Field.TheVariants as field
 use Rattle.expr_core.specs.Text.{const_text}
 use Rattle.expr_core.specs.Width.{is_decimal, is_address}
 use Rattle.expr_core.specs.declared.constant.Const.{Const}
-use Rattle.act_parse.specs.declared.keyword.Keyword.{Keyword}
-use Rattle.act_parse.specs.declared.keyword.Keyword.TheVariants as keyword
-use Rattle.act_parse.specs.declared.keyword.Block.{Block}
-use Rattle.act_parse.specs.declared.keyword.Block.TheVariants as block
+use Rattle.act_steps.specs.declared.keyword.Keyword.{Keyword}
+use Rattle.act_steps.specs.declared.keyword.Keyword.TheVariants as keyword
+use Rattle.act_steps.specs.declared.keyword.Block.{Block}
+use Rattle.act_steps.specs.declared.keyword.Block.TheVariants as block
 use Rattle.expr_const.specs.Constant.{constant_of, longest}
-use Rattle.act_parse.specs.Token.{begins_word, word, after_word, as_written, constant, quoted}
-use Rattle.act_parse.specs.Keyword.{keyword_name, block_name}
+use Rattle.act_steps.specs.Token.{begins_word, word, after_word, as_written, constant, quoted}
+use Rattle.act_steps.specs.Keyword.{keyword_name, block_name}
 use Rattle.act_laws.specs.Tokens.{Token, first_token}
 use Rattle.act_laws.specs.Tokens.Token.{Constant, Name, Word}
-use Rattle.act_parse.specs.Reading as reading
-use Rattle.act_parse.specs.Reading.{Reading, stuck, token, tokens, ended, decimal_within, decimal, address_within, ip4}
-use Rattle.act_parse.specs.Reading.Reading.{Read}
+use Rattle.act_steps.specs.Reading as reading
+use Rattle.act_steps.specs.Reading.{Reading, stuck, token, tokens, ended, decimal_within, decimal, address_within, ip4}
+use Rattle.act_steps.specs.Reading.Reading.{Read}
 use Rattle.expr_const.proofs.Choices.{none_from}
 use Rattle.act_laws.proofs.Constants.{same_pointwise}
 use Rattle.act_laws.proofs.Longest.{spelled}

@@ -8,13 +8,13 @@ use Rattle.act_core.specs.WellFormed.{is_step, is_block, is_action, is_well_form
 use Rattle.act_core.specs.declared.step.Step.{Step}
 use Rattle.act_core.specs.declared.action.Action.{Action}
 use Rattle.act_core.specs.declared.action.Action.TheVariants as action_of
-use Rattle.act_parse.specs.declared.keyword.Block.{Block}
-use Rattle.act_parse.specs.declared.keyword.Block.TheVariants.{Arp, Icmp4, TcpReset, Reject}
-use Rattle.act_parse.specs.Token.{word, after_word, is_at}
-use Rattle.act_parse.specs.Keyword.{block_name, block_of, blocks, is_block_name, block_action}
-use Rattle.act_parse.specs.Reading as reading
-use Rattle.act_parse.specs.Reading.{Reading, and_then, token, tokens, ended, answer, answer_of}
-use Rattle.act_parse.specs.Reading.Reading.{Read, Stuck}
+use Rattle.act_steps.specs.declared.keyword.Block.{Block}
+use Rattle.act_steps.specs.declared.keyword.Block.TheVariants.{Arp, Icmp4, TcpReset, Reject}
+use Rattle.act_steps.specs.Token.{word, after_word, is_at}
+use Rattle.act_steps.specs.Keyword.{block_name, block_of, blocks, is_block_name, block_action}
+use Rattle.act_steps.specs.Reading as reading
+use Rattle.act_steps.specs.Reading.{Reading, and_then, token, tokens, ended, answer, answer_of}
+use Rattle.act_steps.specs.Reading.Reading.{Read, Stuck}
 use Rattle.act_laws.proofs.TakesTokens.{same_bytes, and_then_read, read_same, token_takes, tokens_take, ended_is, word_takes, find_passes}
 use Rattle.act_laws.proofs.TakesFields.{step_takes}
 

@@ -14,12 +14,12 @@ use Rattle.act_core.specs.Text.{part_text, step_text}
 use Rattle.act_core.specs.WellFormed.{fits, are_bits_of, is_step}
 use Rattle.act_core.specs.declared.step.Step.{Step}
 use Rattle.act_core.specs.declared.step.Step.TheVariants.{Set, Copy, SetOutport, Exchange, DecTtl}
-use Rattle.act_parse.specs.declared.keyword.Keyword.{Keyword}
-use Rattle.act_parse.specs.Token.{word, after_word, is_at, constant, quoted}
-use Rattle.act_parse.specs.Keyword.{keyword_name, keyword_of, keywords, is_keyword}
-use Rattle.act_parse.specs.Reading as reading
-use Rattle.act_parse.specs.Reading.{Reading, and_then, stuck, token, tokens, ended, decimal, finished}
-use Rattle.act_parse.specs.Reading.Reading.{Read, Stuck}
+use Rattle.act_steps.specs.declared.keyword.Keyword.{Keyword}
+use Rattle.act_steps.specs.Token.{word, after_word, is_at, constant, quoted}
+use Rattle.act_steps.specs.Keyword.{keyword_name, keyword_of, keywords, is_keyword}
+use Rattle.act_steps.specs.Reading as reading
+use Rattle.act_steps.specs.Reading.{Reading, and_then, stuck, token, tokens, ended, decimal, finished}
+use Rattle.act_steps.specs.Reading.Reading.{Read, Stuck}
 use Rattle.act_laws.proofs.TakesTokens.{same_bytes, and_then_read, tested_read, read_same, at_takes, token_takes, tokens_take, ended_is, constant_takes, decimal_takes, word_takes, find_passes, quoted_takes}
 use Rattle.act_laws.proofs.TakesSteps.{Takes, keyword_takes}
 

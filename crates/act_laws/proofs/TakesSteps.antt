@@ -11,13 +11,13 @@ use Rattle.act_core.specs.WellFormed.{is_address, is_target, has_one, have_ports
 use Rattle.act_core.specs.declared.step.Target.{Target}
 use Rattle.act_core.specs.declared.step.Step.{Step}
 use Rattle.act_core.specs.declared.step.Step.TheVariants.{Next, Jump, Output, Drop, CtNext, CtLb, CtLbTo, CtCommit, PutArp, GetArp}
-use Rattle.act_parse.specs.declared.keyword.Keyword.{Keyword}
-use Rattle.act_parse.specs.declared.keyword.Keyword.TheVariants as keyword
-use Rattle.act_parse.specs.Token.{is_at}
-use Rattle.act_parse.specs.Keyword.{keyword_name}
-use Rattle.act_parse.specs.Reading as reading
-use Rattle.act_parse.specs.Reading.{Reading, and_then, stuck, token, tokens, ended, decimal, ip4, finished}
-use Rattle.act_parse.specs.Reading.Reading.{Read, Stuck}
+use Rattle.act_steps.specs.declared.keyword.Keyword.{Keyword}
+use Rattle.act_steps.specs.declared.keyword.Keyword.TheVariants as keyword
+use Rattle.act_steps.specs.Token.{is_at}
+use Rattle.act_steps.specs.Keyword.{keyword_name}
+use Rattle.act_steps.specs.Reading as reading
+use Rattle.act_steps.specs.Reading.{Reading, and_then, stuck, token, tokens, ended, decimal, ip4, finished}
+use Rattle.act_steps.specs.Reading.Reading.{Read, Stuck}
 use Rattle.act_laws.proofs.TakesTokens.{and_then_read, read_same, at_takes, token_takes, tokens_take, ended_is, decimal_takes, ip4_takes}
 
 -- what is before the text, and the text, are the action and the rest

@@ -18,9 +18,9 @@ use Rattle.expr_core.specs.declared.constant.Form.TheVariants as form
 use Rattle.nv_base.specs.Name.{is_quotable}
 use Rattle.act_core.specs.WellFormed as formed
 use Rattle.expr_const.specs.Constant.{longest}
-use Rattle.act_parse.specs.Token.{word, after_word, is_at, as_written, constant, before_quote, name_before_quote, quoted}
-use Rattle.act_parse.specs.Reading.{Reading, and_then, stuck, token, tokens, ended, decimal_within, decimal, address_within, ip4}
-use Rattle.act_parse.specs.Reading.Reading.{Read, Stuck}
+use Rattle.act_steps.specs.Token.{word, after_word, is_at, as_written, constant, before_quote, name_before_quote, quoted}
+use Rattle.act_steps.specs.Reading.{Reading, and_then, stuck, token, tokens, ended, decimal_within, decimal, address_within, ip4}
+use Rattle.act_steps.specs.Reading.Reading.{Read, Stuck}
 use Rattle.expr_const.proofs.Choices.{guarded}
 
 -- equal byte by byte

@@ -7,10 +7,10 @@ use Rattle.nv_base.specs.declared.ip4.Ip4.{Ip4}
 use Rattle.expr_core.specs.Width.{is_decimal, is_address}
 use Rattle.expr_core.specs.declared.constant.Const.{Const}
 use Rattle.act_core.specs.WellFormed as formed
-use Rattle.act_parse.specs.Token.{word, after_word, is_at, constant}
-use Rattle.act_parse.specs.Reading as reading
-use Rattle.act_parse.specs.Reading.{Reading, and_then, stuck, token, tokens, ended, decimal_within, decimal, address_within, ip4}
-use Rattle.act_parse.specs.Reading.Reading.{Read, Stuck}
+use Rattle.act_steps.specs.Token.{word, after_word, is_at, constant}
+use Rattle.act_steps.specs.Reading as reading
+use Rattle.act_steps.specs.Reading.{Reading, and_then, stuck, token, tokens, ended, decimal_within, decimal, address_within, ip4}
+use Rattle.act_steps.specs.Reading.Reading.{Read, Stuck}
 use Rattle.act_laws.proofs.TakesTokens.{token_takes, tokens_text, tokens_take, decimal_takes, ip4_takes}
 
 -- The text has so many bytes after some front, and the front goes on to a text of this kind.

@@ -10,14 +10,14 @@ use Rattle.act_core.specs.declared.step.Step.{Step}
 use Rattle.act_core.specs.declared.step.Step.TheVariants.{Drop}
 use Rattle.act_core.specs.declared.action.Action.{Action}
 use Rattle.act_core.specs.declared.action.Action.TheVariants as action_of
-use Rattle.act_parse.specs.declared.fault.ActionFault.TheVariants.{Syntax}
-use Rattle.act_parse.specs.declared.keyword.Block.{Block}
+use Rattle.act_steps.specs.declared.fault.ActionFault.TheVariants.{Syntax}
+use Rattle.act_steps.specs.declared.keyword.Block.{Block}
 use Rattle.act_laws.specs.Fronts.{IsFront}
-use Rattle.act_parse.specs.Token.{word, after_word, is_at}
-use Rattle.act_parse.specs.Keyword.{block_name, block_of, blocks, is_block_name, block_action}
-use Rattle.act_parse.specs.Reading as reading
-use Rattle.act_parse.specs.Reading.{Reading, and_then, token, ended, answer, answer_of}
-use Rattle.act_parse.specs.Reading.Reading.{Read, Stuck}
+use Rattle.act_steps.specs.Token.{word, after_word, is_at}
+use Rattle.act_steps.specs.Keyword.{block_name, block_of, blocks, is_block_name, block_action}
+use Rattle.act_steps.specs.Reading as reading
+use Rattle.act_steps.specs.Reading.{Reading, and_then, token, ended, answer, answer_of}
+use Rattle.act_steps.specs.Reading.Reading.{Read, Stuck}
 use Rattle.act_laws.proofs.TakesTokens.{same_bytes, and_then_read, token_takes, word_takes, find_passes}
 use Rattle.act_laws.proofs.TakesFields.{step_takes}
 use Rattle.act_laws.proofs.TakesActions.{spaced_takes, all_steps_take, block_written, block_good, action_takes}

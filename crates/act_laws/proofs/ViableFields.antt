@@ -13,13 +13,13 @@ use Rattle.expr_core.specs.declared.part.Bits.{Bits}
 use Rattle.expr_core.specs.declared.part.Bits.TheVariants.{Whole, Bit, Range}
 use Rattle.act_core.specs.WellFormed.{fits, are_bits_of}
 use Rattle.act_core.specs.declared.step.Step.TheVariants.{Drop, Set, Copy, SetOutport, Exchange, DecTtl}
-use Rattle.act_parse.specs.declared.keyword.Keyword.{Keyword}
+use Rattle.act_steps.specs.declared.keyword.Keyword.{Keyword}
 use Rattle.expr_const.specs.Constant.{constant_in}
-use Rattle.act_parse.specs.Token.{word, after_word, is_at, constant, quoted}
-use Rattle.act_parse.specs.Keyword.{keyword_name, keyword_of, keywords, is_keyword}
-use Rattle.act_parse.specs.Reading as reading
-use Rattle.act_parse.specs.Reading.{and_then, stuck, token, ended, decimal}
-use Rattle.act_parse.specs.Reading.Reading.{Read, Stuck}
+use Rattle.act_steps.specs.Token.{word, after_word, is_at, constant, quoted}
+use Rattle.act_steps.specs.Keyword.{keyword_name, keyword_of, keywords, is_keyword}
+use Rattle.act_steps.specs.Reading as reading
+use Rattle.act_steps.specs.Reading.{and_then, stuck, token, ended, decimal}
+use Rattle.act_steps.specs.Reading.Reading.{Read, Stuck}
 use Rattle.act_laws.proofs.TakesTokens.{same_bytes, at_takes, constant_takes, word_takes, find_passes, quoted_takes}
 use Rattle.act_laws.proofs.TakesFields.{bits_taken, field_found, field_takes, same_number, same_width}
 use Rattle.act_laws.proofs.Viable.{Viable, here, past, among, sequel, field_begins, tokens_stop, ended_stops, token_stops, decimal_stops}

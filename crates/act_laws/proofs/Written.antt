@@ -22,10 +22,10 @@ use Rattle.act_core.specs.WellFormed.{fits, are_bits_of}
 use Rattle.act_core.specs.declared.step.Step.TheVariants.{Set, Copy}
 use Rattle.expr_core.specs.declared.constant.Const.{Const}
 use Rattle.expr_const.specs.Constant.{constant_of, number_after_0x}
-use Rattle.act_parse.specs.Token.{is_in_word, word, after_word, is_at, constant, as_written}
-use Rattle.act_parse.specs.Keyword.{keyword_of, keywords, block_of, blocks}
-use Rattle.act_parse.specs.Reading as reading
-use Rattle.act_parse.specs.Reading.Reading.{Read}
+use Rattle.act_steps.specs.Token.{is_in_word, word, after_word, is_at, constant, as_written}
+use Rattle.act_steps.specs.Keyword.{keyword_of, keywords, block_of, blocks}
+use Rattle.act_steps.specs.Reading as reading
+use Rattle.act_steps.specs.Reading.Reading.{Read}
 use Rattle.expr_const.proofs.Choices.{none_from}
 use Rattle.act_laws.proofs.Longest.{nowhere}
 use Rattle.expr_const.proofs.Shapes.{hexadecimal_parts, mac_digits, mac_length}

@@ -15,11 +15,11 @@ use Rattle.act_core.specs.declared.step.Step.{Step}
 use Rattle.act_core.specs.declared.step.Step.TheVariants.{Next, Jump, Output, Drop, Set, Copy, SetOutport, Exchange, DecTtl, CtNext, CtLb, CtLbTo, CtCommit, CtSnat, CtSnatTo, CtDnat, CtDnatTo, PutArp, GetArp}
 use Rattle.act_core.specs.declared.action.Action.{Action}
 use Rattle.act_core.specs.declared.action.Action.TheVariants as action_of
-use Rattle.act_parse.specs.Token.{is_in_word, word, is_at}
-use Rattle.act_parse.specs.Keyword.{block_of, blocks, keywords}
-use Rattle.act_parse.specs.Reading as reading
-use Rattle.act_parse.specs.Reading.{answer, answer_of}
-use Rattle.act_parse.specs.Reading.Reading.{Read, Stuck}
+use Rattle.act_steps.specs.Token.{is_in_word, word, is_at}
+use Rattle.act_steps.specs.Keyword.{block_of, blocks, keywords}
+use Rattle.act_steps.specs.Reading as reading
+use Rattle.act_steps.specs.Reading.{answer, answer_of}
+use Rattle.act_steps.specs.Reading.Reading.{Read, Stuck}
 use Rattle.act_laws.proofs.Written.{word_is, name_is_word, no_block}
 use Rattle.act_laws.proofs.WrittenSteps.{step_read}
 

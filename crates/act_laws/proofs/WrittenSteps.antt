@@ -21,10 +21,10 @@ use Rattle.act_core.specs.declared.step.Target.{Target}
 use Rattle.act_core.specs.declared.step.Step.{Step}
 use Rattle.act_core.specs.declared.step.Step.TheVariants.{Next, Jump, Output, Drop, Set, Copy, SetOutport, Exchange, DecTtl, CtNext, CtLb, CtLbTo, CtCommit, CtSnat, CtSnatTo, CtDnat, CtDnatTo, PutArp, GetArp}
 use Rattle.expr_const.specs.Constant.{constant_of}
-use Rattle.act_parse.specs.Token.{constant, quoted, before_quote, is_at}
-use Rattle.act_parse.specs.Keyword.{keywords}
-use Rattle.act_parse.specs.Reading as reading
-use Rattle.act_parse.specs.Reading.Reading.{Read}
+use Rattle.act_steps.specs.Token.{constant, quoted, before_quote, is_at}
+use Rattle.act_steps.specs.Keyword.{keywords}
+use Rattle.act_steps.specs.Reading as reading
+use Rattle.act_steps.specs.Reading.Reading.{Read}
 use Rattle.expr_const.specs.inner.Bytes.{is_in_constant}
 use Rattle.expr_const.proofs.Choices.{none_from}
 use Rattle.expr_const.proofs.ConstantFronts.{constant_spelt}

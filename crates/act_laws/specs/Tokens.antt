@@ -3,7 +3,7 @@ use Rattle.std.specs.Prelude.{◌≡◌, ℕ, List, [], ◌∷◌, length, take,
 use Rattle.std.specs.List.{find}
 use Rattle.std.specs.Option.{option_map}
 use Rattle.expr_const.specs.Constant.{or_else, longest}
-use Rattle.act_parse.specs.Token.{word, after_word, is_word, is_at, quoted}
+use Rattle.act_steps.specs.Token.{word, after_word, is_word, is_at, quoted}
 
 -- a token: the bytes of a constant, a word or a sign, or a name without its quotes
 pub data Token : Type 0 where

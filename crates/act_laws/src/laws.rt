@@ -3,8 +3,8 @@ ghost use Rattle.std.specs.Prelude.{◌≡◌, ◌+◌, ◌<◌, true, ℕ, List
 ghost use Rattle.act_core.specs.Text.{actions_text};
 ghost use Rattle.act_core.specs.WellFormed.{is_well_formed};
 ghost use Rattle.act_core.specs.declared.action.Action.{Action};
-ghost use Rattle.act_parse.specs.Reading.{answer};
-ghost use Rattle.act_parse.specs.declared.fault.ActionFault.TheVariants.{Syntax};
+ghost use Rattle.act_steps.specs.Reading.{answer};
+ghost use Rattle.act_steps.specs.declared.fault.ActionFault.TheVariants.{Syntax};
 ghost use Rattle.act_laws.specs.Fronts.{IsFront};
 ghost use Rattle.act_laws.specs.Tokens.{Token, BeginsWith};
 

@@ -1,13 +1,10 @@
 //! Actions, with blocks.
 ghost use Rattle.std.specs.Prelude.{◌≡◌, ◌≤◌, ◌<◌, length, IfOk};
-ghost use Rattle.act_parse.specs.Reading as reading;
-ghost use Rattle.act_parse.specs.inner.Gives.{Reads};
+ghost use Rattle.act_steps.specs.Reading as reading;
+ghost use Rattle.act_steps.specs.Gives.{Reads};
 
-use crate::keyword::block_of;
-use crate::step::step;
-use crate::stop::Read;
-use crate::token::{after_word, is_at, token, tokens, word};
 use act_core::{Action, Step};
+use act_steps::{Read, after_word, block_of, is_at, step, token, tokens, word};
 use nv_base::Items;
 use std::alloc::Global;
 

@@ -1,18 +1,8 @@
-//! The reader of the action language: tokens, and the reading of a text from left to right.
+//! The reader of the action language: a text is read from left to right, as actions whose blocks have steps.
 #![tactic(auto)]
 
 mod action;
-mod assignment;
-mod constant;
-mod fault;
-mod keyword;
-mod number;
 mod reader;
-mod step;
-mod stop;
-mod targets;
-mod token;
 
-pub use fault::ActionFault;
-pub use keyword::{Block, Keyword};
+pub use act_steps::ActionFault;
 pub use reader::parse_actions;

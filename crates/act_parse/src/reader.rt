@@ -1,10 +1,9 @@
 ghost use Rattle.std.specs.Prelude.{◌≡◌, ◌<◌, ◌^◌, false, length, Ok, Err, IfOk, IfErr};
-ghost use Rattle.act_parse.specs.Reading.{answer, is_memory};
+ghost use Rattle.act_steps.specs.Reading.{answer, is_memory};
 
-use crate::ActionFault;
 use crate::action::actions;
-use crate::stop::Stop;
 use act_core::Action;
+use act_steps::{ActionFault, Stop};
 use nv_base::Items;
 use std::alloc::Global;
 

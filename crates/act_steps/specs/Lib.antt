@@ -1,0 +1,4 @@
+pub mod Gives
+pub mod Token
+pub mod Keyword
+pub mod Reading

@@ -59,57 +59,105 @@ fn took_third(map: &mut Map<u32, u32>, key: u32) -> bool {
     }
 }
 
+// Puts each key below 100,000 in, with a third of it, and tells whether each was new.
+fn put_thirds(map: &mut Map<u32, u32>, alloc: Global, order: Order) -> Result<bool, OutOfMemory> {
+    for place in 0..COUNT {
+        let key = key_at(order, place);
+        if !put(map, alloc, key, key / 3)? {
+            return Ok(false);
+        }
+    }
+    Ok(true)
+}
+
+// Takes each key out, and tells whether each was there, and the tree was flat all the while.
+fn stays_flat_to_its_end(map: &mut Map<u32, u32>) -> bool {
+    for place in 0..COUNT {
+        if !took_third(map, place * 3_331 % COUNT) {
+            return false;
+        }
+        if place % 10_000 == 0 && map.levels() > MOST_LEVELS {
+            return false;
+        }
+    }
+    map.is_empty()
+}
+
+fn stays_flat(map: &mut Map<u32, u32>, alloc: Global, order: Order) -> Result<bool, OutOfMemory> {
+    Ok(
+        put_thirds(map, alloc, order)?
+            && map.levels() <= MOST_LEVELS
+            && has_thirds(map, COUNT)
+            && stays_flat_to_its_end(map),
+    )
+}
+
+fn keys_stay_flat(alloc: Global, order: Order) -> Result<bool, OutOfMemory> {
+    let mut map = Map::new();
+    stays_flat(&mut map, alloc, order)
+}
+
 #[test]
 fn trees_stay_flat(rt: HostRuntime) -> Result<(), Fail> {
-    for order in [Order::Rising, Order::Falling, Order::Mixed] {
-        let mut map = Map::new();
-        for place in 0..COUNT {
-            let key = key_at(order, place);
-            assert!(rt; put(&mut map, rt.alloc(), key, key / 3)?);
-        }
-        assert!(rt; map.levels() <= MOST_LEVELS);
-        assert!(rt; has_thirds(&map, COUNT));
-        for place in 0..COUNT {
-            assert!(rt; took_third(&mut map, place * 3_331 % COUNT));
-            if place % 10_000 == 0 {
-                assert!(rt; map.levels() <= MOST_LEVELS);
-            }
-        }
-        assert!(rt; map.is_empty());
-    }
+    assert!(rt; keys_stay_flat(rt.alloc(), Order::Rising)?);
+    assert!(rt; keys_stay_flat(rt.alloc(), Order::Falling)?);
+    assert!(rt; keys_stay_flat(rt.alloc(), Order::Mixed)?);
     Ok(())
+}
+
+// Takes all keys from 1,000 on out, the last one first, and tells whether each was there.
+fn took_one_side(map: &mut Map<u32, u32>) -> bool {
+    for key in 0..COUNT - 1_000 {
+        if !took_third(map, COUNT - 1 - key) {
+            return false;
+        }
+    }
+    true
+}
+
+// Whether the first 1,000 keys have their thirds, also after one of them is put in again.
+fn keeps_the_other_side(map: &mut Map<u32, u32>, alloc: Global) -> Result<bool, OutOfMemory> {
+    Ok(
+        map.levels() <= 14
+            && has_thirds(map, 1_000)
+            && !put(map, alloc, 7, 8)?
+            && has_thirds(map, 1_000),
+    )
+}
+
+fn leaves_the_other_flat(map: &mut Map<u32, u32>, alloc: Global) -> Result<bool, OutOfMemory> {
+    Ok(
+        put_thirds(map, alloc, Order::Rising)?
+            && took_one_side(map)
+            && keeps_the_other_side(map, alloc)?,
+    )
 }
 
 #[test]
 fn one_side_taken_leaves_the_other_flat(rt: HostRuntime) -> Result<(), Fail> {
     let mut map = Map::new();
-    for key in 0..COUNT {
-        assert!(rt; put(&mut map, rt.alloc(), key, key / 3)?);
+    assert!(rt; leaves_the_other_flat(&mut map, rt.alloc())?);
+    Ok(())
+}
+
+fn put_name(
+    names: &mut Map<Name, ObjId>,
+    alloc: Global,
+    name: &[u8],
+    number: ObjId,
+) -> Result<(), OutOfMemory> {
+    let entry = Entry::new(alloc, Name::from_slice(alloc, name)?, number)?;
+    if names.get(entry.key()).is_none() {
+        names.put(entry);
     }
-    for key in 0..COUNT - 1_000 {
-        assert!(rt; took_third(&mut map, COUNT - 1 - key));
-    }
-    assert!(rt; map.levels() <= 14);
-    assert!(rt; has_thirds(&map, 1_000));
-    assert!(rt; !put(&mut map, rt.alloc(), 7, 8)?);
-    assert!(rt; has_thirds(&map, 1_000));
     Ok(())
 }
 
 // The names `lp1`, `lp2` and `lp10`, each with its number.
-fn three_names(alloc: Global) -> Result<Map<Name, ObjId>, OutOfMemory> {
-    let mut names = Map::new();
-    for (name, number) in [("lp2", 2), ("lp10", 10), ("lp1", 1)] {
-        let entry = Entry::new(
-            alloc,
-            Name::from_slice(alloc, name.as_bytes())?,
-            ObjId(number),
-        )?;
-        if names.get(entry.key()).is_none() {
-            names.put(entry);
-        }
-    }
-    Ok(names)
+fn put_three_names(names: &mut Map<Name, ObjId>, alloc: Global) -> Result<(), OutOfMemory> {
+    put_name(names, alloc, b"lp2", ObjId(2))?;
+    put_name(names, alloc, b"lp10", ObjId(10))?;
+    put_name(names, alloc, b"lp1", ObjId(1))
 }
 
 // The number of the name becomes another one; what it was.
@@ -140,32 +188,81 @@ fn taken_and_put(names: &mut Map<Name, ObjId>, name: &Name) -> Option<ObjId> {
     }
 }
 
+// Whether the number of the name is 10, and then 11.
+fn is_exchanged(names: &mut Map<Name, ObjId>, name: &Name) -> bool {
+    names.get(name) == Some(&ObjId(10))
+        && exchanged(names, name, ObjId(11)) == Some(ObjId(10))
+        && names.get(name) == Some(&ObjId(11))
+}
+
+// Whether `lp1` is the first name, and `lp2` the one after this.
+fn is_between(names: &Map<Name, ObjId>, name: &Name) -> bool {
+    is_after(names, Some(name), b"lp2", ObjId(2)) && is_after(names, None, b"lp1", ObjId(1))
+}
+
+// Whether the number of the name is 11, also once it was taken out and put in again.
+fn is_put_again(names: &mut Map<Name, ObjId>, name: &Name) -> bool {
+    taken_and_put(names, name) == Some(ObjId(11)) && names.get(name) == Some(&ObjId(11))
+}
+
+// Whether each call on the names answers as it should for `lp10`, which is this name.
+fn answers_for_name(
+    names: &mut Map<Name, ObjId>,
+    name: &Name,
+    alloc: Global,
+) -> Result<bool, OutOfMemory> {
+    put_three_names(names, alloc)?;
+    Ok(is_exchanged(names, name) && is_between(names, name) && is_put_again(names, name))
+}
+
 #[test]
 fn entries_are_put_taken_and_exchanged(rt: HostRuntime) -> Result<(), Fail> {
-    let mut names = three_names(rt.alloc())?;
-    let key = Name::from_slice(rt.alloc(), b"lp10")?;
-    assert!(rt; names.get(&key) == Some(&ObjId(10)));
-    assert!(rt; exchanged(&mut names, &key, ObjId(11)) == Some(ObjId(10)));
-    assert!(rt; names.get(&key) == Some(&ObjId(11)));
-    assert!(rt; is_after(&names, Some(&key), b"lp2", ObjId(2)));
-    assert!(rt; is_after(&names, None, b"lp1", ObjId(1)));
-    assert!(rt; taken_and_put(&mut names, &key) == Some(ObjId(11)));
-    assert!(rt; names.get(&key) == Some(&ObjId(11)));
+    let name = Name::from_slice(rt.alloc(), b"lp10")?;
+    let mut names = Map::new();
+    assert!(rt; answers_for_name(&mut names, &name, rt.alloc())?);
     Ok(())
+}
+
+// Puts the pair in, if it is not there, and tells whether it was its entry's key.
+fn put_pair(
+    pairs: &mut Map<(ObjId, ObjId), ()>,
+    alloc: Global,
+    pair: (ObjId, ObjId),
+) -> Result<bool, OutOfMemory> {
+    let entry = Entry::new(alloc, pair, ())?;
+    let is_key = *entry.key() == pair;
+    if pairs.get(&pair).is_none() {
+        pairs.put(entry);
+    }
+    Ok(is_key)
+}
+
+// Whether there is one entry, and none of this pair.
+fn has_one_other(pairs: &Map<(ObjId, ObjId), ()>, pair: (ObjId, ObjId)) -> bool {
+    !pairs.is_empty() && pairs.levels() == 1 && pairs.get(&pair).is_none()
+}
+
+// Whether the pair was there, and none is left once it is taken out.
+fn is_last(pairs: &mut Map<(ObjId, ObjId), ()>, pair: (ObjId, ObjId)) -> bool {
+    pairs.take(&pair).is_some() && pairs.is_empty()
+}
+
+fn has_one_and_then_none(
+    pairs: &mut Map<(ObjId, ObjId), ()>,
+    alloc: Global,
+) -> Result<bool, OutOfMemory> {
+    let pair = (ObjId(1), ObjId(2));
+    Ok(
+        put_pair(pairs, alloc, pair)?
+            && has_one_other(pairs, (ObjId(1), ObjId(3)))
+            && is_last(pairs, pair),
+    )
 }
 
 #[test]
 fn the_only_entry_is_taken(rt: HostRuntime) -> Result<(), Fail> {
     let mut pairs = Map::new();
     assert!(rt; pairs.is_empty() && pairs.levels() == 0);
-    let pair = (ObjId(1), ObjId(2));
-    let entry = Entry::new(rt.alloc(), pair, ())?;
-    assert!(rt; *entry.key() == pair);
-    if pairs.get(&pair).is_none() {
-        pairs.put(entry);
-    }
-    assert!(rt; !pairs.is_empty() && pairs.levels() == 1);
-    assert!(rt; pairs.get(&(ObjId(1), ObjId(3))).is_none());
-    assert!(rt; pairs.take(&pair).is_some() && pairs.is_empty());
+    assert!(rt; has_one_and_then_none(&mut pairs, rt.alloc())?);
     Ok(())
 }

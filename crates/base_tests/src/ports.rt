@@ -78,11 +78,10 @@ impl Record for Port {
     }
 
     fn tags(&self, alloc: Global) -> Result<Items<PortTag>, OutOfMemory> {
-        let mut tags = Items::with_capacity(alloc, 3)?;
-        tags.push(PortTag::Named(self.name.copy(alloc)?))?;
-        tags.push(PortTag::On(self.switch))?;
-        tags.push(PortTag::Named(self.name.copy(alloc)?))?;
-        Ok(tags)
+        let first = PortTag::Named(self.name.copy(alloc)?);
+        let last = PortTag::Named(self.name.copy(alloc)?);
+        let tags = vec![in alloc; first, PortTag::On(self.switch), last]?;
+        Ok(Items::from_items(tags))
     }
 
     fn tag_count(&self) -> usize {

@@ -159,6 +159,24 @@ fn next(seed: &mut u32) -> u32 {
     *seed >> 16
 }
 
+fn next_row(seed: &mut u32) -> Row {
+    Row {
+        name: (next(seed) % 3) as u8,
+        switch: next(seed) % 3,
+        size: next(seed) as u64,
+    }
+}
+
+// Takes a record out and puts it in again, and tells whether it is this old row.
+fn is_taken_and_put(table: &mut Table<Port>, number: ObjId, old: Option<Row>) -> bool {
+    let taken = table.take(number);
+    let same = is_loose_at(&taken, number, old);
+    match taken {
+        Some(loose) => put_new(table, loose) && same,
+        None => same,
+    }
+}
+
 // One edit of the table and of the rows: whether the table answered as the rows say.
 fn edit(
     table: &mut Table<Port>,
@@ -168,68 +186,88 @@ fn edit(
 ) -> Result<bool, OutOfMemory> {
     let id = (next(seed) % 12) as usize;
     let number = ObjId(id as u32);
-    let row = Row {
-        name: (next(seed) % 3) as u8,
-        switch: next(seed) % 3,
-        size: next(seed) as u64,
-    };
+    let row = next_row(seed);
     let old = rows[id];
     match next(seed) % 4 {
         0 => {
-            let put = put_new(table, loose_of(alloc, number, row)?);
-            if put {
+            if old.is_none() {
                 rows[id] = Some(row);
             }
-            Ok(put == old.is_none())
+            Ok(put_new(table, loose_of(alloc, number, row)?) == old.is_none())
         }
         1 => {
             rows[id] = None;
             Ok(table.remove(number) == old.is_some())
         }
-        2 => {
-            let taken = table.take(number);
-            let same = is_loose_at(&taken, number, old);
-            match taken {
-                Some(loose) => Ok(put_new(table, loose) && same),
-                None => Ok(same),
-            }
-        }
+        2 => Ok(is_taken_and_put(table, number, old)),
         _ => {
-            let was = table.exchange(loose_of(alloc, number, row)?);
             rows[id] = Some(row);
+            let was = table.exchange(loose_of(alloc, number, row)?);
             Ok(is_loose_at(&was, number, old))
         }
     }
 }
 
-#[test]
-fn tables_answer_as_rows_do(rt: HostRuntime) -> Result<(), Fail> {
-    let mut table = Table::new();
-    let mut rows: Rows = [None; 12];
-    let mut names = Vec::new(rt.alloc());
+fn three_names(alloc: Global) -> Result<Vec<Name>, OutOfMemory> {
+    let mut names = Vec::new(alloc);
     for name in 0..3 {
-        names.push(name_of(rt.alloc(), name)?)?;
+        names.push(name_of(alloc, name)?)?;
     }
+    Ok(names)
+}
+
+// Whether the table answers each edit, and each lookup after it, as the rows say.
+fn agrees_at_each_step(
+    table: &mut Table<Port>,
+    rows: &mut Rows,
+    names: &[Name],
+    alloc: Global,
+) -> Result<bool, OutOfMemory> {
     let mut seed = 7;
     for _ in 0..STEPS {
-        assert!(rt; edit(&mut table, &mut rows, rt.alloc(), &mut seed)?);
-        assert!(rt; agrees(&table, &rows, names.as_slice()));
+        if !edit(table, rows, alloc, &mut seed)? || !agrees(table, rows, names) {
+            return Ok(false);
+        }
     }
+    Ok(true)
+}
+
+// Whether a record that the table does not have is put in and taken out again.
+fn is_put_and_undone(table: &mut Table<Port>, alloc: Global) -> Result<bool, OutOfMemory> {
     let row = Row {
         name: 1,
         switch: 2,
         size: 3,
     };
-    let row = Row {
-        name: 1,
-        switch: 2,
-        size: 3,
-    };
-    let loose = loose_of(rt.alloc(), ObjId(99), row)?;
-    if table.get(loose.record().id).is_none() {
-        let undone = put_and_undo(&mut table, loose);
-        assert!(rt; is_loose_at(&undone, ObjId(99), Some(row)));
+    let loose = loose_of(alloc, ObjId(99), row)?;
+    if table.get(loose.record().number()).is_some() {
+        return Ok(false);
     }
-    assert!(rt; agrees(&table, &rows, names.as_slice()));
+    let undone = put_and_undo(table, loose);
+    Ok(is_loose_at(&undone, ObjId(99), Some(row)))
+}
+
+// Whether the table answers as rows do at each step, and after a record that is put in and taken out again.
+fn answers_as_rows_do(
+    table: &mut Table<Port>,
+    names: &[Name],
+    alloc: Global,
+) -> Result<bool, OutOfMemory> {
+    let mut rows: Rows = [None; 12];
+    Ok(
+        agrees_at_each_step(table, &mut rows, names, alloc)?
+            && is_put_and_undone(table, alloc)?
+            && agrees(table, &rows, names),
+    )
+}
+
+#[test]
+fn tables_answer_as_rows_do(rt: HostRuntime) -> Result<(), Fail> {
+    let names = three_names(rt.alloc())?;
+    let mut table = Table::new();
+    let answers = answers_as_rows_do(&mut table, names.as_slice(), rt.alloc());
+    drop(table);
+    drop(names);
+    assert!(rt; answers?);
     Ok(())
 }

@@ -1,7 +1,6 @@
 -- A list's text, one item on.
-use Rattle.std.proofs.Common.{◌≡◌, ◌==◌, ◌<◌, ◌+◌, ℕ, Bool, true, List, ◌++◌, sym, ◌∙◌, length, drop, codes, slice_index_or, append_assoc, arith}
-use Rattle.std.proofs.lemmas.Bool.Decides.{nat_tests}
-use Rattle.std.proofs.lemmas.List.{at_drop_more, append-nil, nil_from_length}
+use Rattle.std.proofs.Common.{◌≡◌, ◌<◌, ◌+◌, ℕ, Bool, List, ◌++◌, ◌∙◌, length, drop, codes, slice_index_or, append_assoc}
+use Rattle.std.proofs.lemmas.List.{at_drop_more}
 use Rattle.nv_base.specs.Growth.{GrowsAtEnd}
 use Rattle.expr_core.specs.Formula.{Formula, formulas}
 use Rattle.expr_core.specs.Text.{item_text, items_text, Writing, is_joined, enclosed, formula_text, operands_text}
@@ -29,9 +28,3 @@ operand_appended w fs i f joined front operator there end all within is same gro
 -- what was appended to, and then kept, grew at its end
 pub grown_kept : (there middle end more : List ℕ) → middle ≡ there ++ more → end ≡ middle → GrowsAtEnd there end
 grown_kept there middle end more one same = (more, same ∙ one)
-
--- an empty text after a text adds nothing
-pub nothing_appended : (there front : List ℕ) → true ≡ (length front == 0) → there ≡ there ++ front
-nothing_appended there front e =
-    let none : length front ≡ 0 = grind (arith, nat_tests) in
-    rw (nil_from_length front none) (sym (append-nil there))

@@ -35,9 +35,7 @@ fn put_enclosed<A: TreeAtom>(
     ensures ok { OnOk result (out.new.items ≡ out.old.items ++ front.now ++ enclosed parentheses (formula_text A.writing operand.now)) }
     ensures err { OnErr result (GrowsAtEnd out.old.items out.new.items) }
 {
-    if !front.is_empty() {
-        out.extend_from_slice(front)?;
-    }
+    out.extend_from_slice(front)?;
     if parentheses {
         out.push(b'(')?;
         put_tree(out, operand)?;

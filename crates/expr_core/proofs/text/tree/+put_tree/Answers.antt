@@ -1,17 +1,27 @@
-use Rattle.std.proofs.Common.{◌≡◌, ◌++◌, append_assoc, arith}
-use Rattle.nv_base.proofs.Growth.{grows_on, grows_more, on_err}
-use Rattle.expr_core.proofs.Lists.{operand_appended, grown_kept, nothing_appended}
+use Rattle.std.proofs.Common.{append_assoc, arith}
+use Rattle.std.proofs.lemmas.List.{append-nil}
+use Rattle.nv_base.proofs.Growth.{grows_on, grows_more, grown_more, on_err}
+use Rattle.expr_core.proofs.Lists.{operand_appended, grown_kept}
 use Rattle.expr_core.proofs.Pairs.{one_falls}
 use Rattle.expr_core.proofs.text.tree.+put_tree.Goals as goal
-use Rattle.expr_core.proofs.text.tree.+put_tree.Goals.{put_enclosed-then-not-is_empty+in_ok-extend_from_slice, put_enclosed-else-not-is_empty}
 
 pub put_enclosed-returns-in_err-push-clause-err : goal.put_enclosed-returns-in_err-push-clause-err
-put_enclosed-returns-in_err-push-clause-err g t c =
-    let front : c.if-not-is_empty.out.items ≡ c.args.out.now.items ++ c.args.front.now = elim c.if-not-is_empty.branch [
-      | put_enclosed-then-not-is_empty+in_ok-extend_from_slice w ↦ rw (w.out-is) w.in_ok-extend_from_slice.ensures.items
-      | put_enclosed-else-not-is_empty w ↦ rw (w.out-is) (nothing_appended _ _ w.if-not-is_empty.ensures)
-    ] in
-    on_err _ _ (grown_kept _ _ _ _ front c.in_err-push.ensures.items)
+put_enclosed-returns-in_err-push-clause-err g t c = on_err _ _ (grown_kept _ _ _ _ c.in_ok-extend_from_slice.ensures.items c.in_err-push.ensures.items)
+
+pub put_enclosed-returns-in_err-put_tree-clause-err : goal.put_enclosed-returns-in_err-put_tree-clause-err
+put_enclosed-returns-in_err-put_tree-clause-err g t c = on_err _ _ (grown_more _ _ _ _ c.in_ok-extend_from_slice.ensures.items (grown_more _ _ _ _ c.in_ok-push.ensures.items c.in_err-put_tree.ensures.err))
+
+pub put_enclosed-returns-in_err-push-2-clause-err : goal.put_enclosed-returns-in_err-push-2-clause-err
+put_enclosed-returns-in_err-push-2-clause-err g t c = on_err _ _ (grown_more _ _ _ _ c.in_ok-extend_from_slice.ensures.items (grown_more _ _ _ _ c.in_ok-push.ensures.items (grown_kept _ _ _ _ c.in_ok-put_tree.ensures.ok c.in_err-push-2.ensures.items)))
+
+pub put_enclosed-returns-in_err-put_tree-2-clause-err : goal.put_enclosed-returns-in_err-put_tree-2-clause-err
+put_enclosed-returns-in_err-put_tree-2-clause-err g t c = on_err _ _ (grown_more _ _ _ _ c.in_ok-extend_from_slice.ensures.items c.in_err-put_tree-2.ensures.err)
+
+pub put_enclosed-returns-in_ok-push-2-clause-ok : goal.put_enclosed-returns-in_ok-push-2-clause-ok
+put_enclosed-returns-in_ok-push-2-clause-ok g t c = rw (c.if-parentheses.true, c.in_ok-push-2.ensures.items, c.in_ok-put_tree.ensures.ok, c.in_ok-push.ensures.items, c.in_ok-extend_from_slice.ensures.items) (simp append_assoc)
+
+pub put_enclosed-returns-in_ok-put_tree-2-clause-ok : goal.put_enclosed-returns-in_ok-put_tree-2-clause-ok
+put_enclosed-returns-in_ok-put_tree-2-clause-ok g t c = rw (c.if-parentheses.false, c.in_ok-put_tree-2.ensures.ok, c.in_ok-extend_from_slice.ensures.items) (simp (append_assoc, append-nil))
 
 pub put_operands-put_enclosed-requires : goal.put_operands-put_enclosed-requires
 put_operands-put_enclosed-requires g t c = λ κs lives. (omega (arith, one_falls c.args.operands.now _ _ c.loop-operand-test.true c.operand-item.is, c.decreases), lives)
@@ -24,3 +34,12 @@ put_operands-loop-operand-preserved g t c = record {
   grown = grows_on _ _ _ _ c.loop-operand.invariant.grown (rw append_assoc at c.in_ok-put_enclosed.ensures.ok);
   whole = operand_appended g.A.TreeAtom.writing _ _ _ _ _ _ _ _ _ c.loop-operand-test.true c.operand-item.is c.is_joined.ensures c.in_ok-put_enclosed.ensures.ok c.loop-operand.invariant.whole;
 }
+
+pub put_tree-returns-in-Atom-clause-ok : goal.put_tree-returns-in-Atom-clause-ok
+put_tree-returns-in-Atom-clause-ok g t c = rw (← rw (c.in-Atom.is) at c.tree.view_is) c.put.ensures.ok
+
+pub put_tree-returns-in-And-clause-ok : goal.put_tree-returns-in-And-clause-ok
+put_tree-returns-in-And-clause-ok g t c = rw (← rw (c.in-And.is) at c.tree.view_is) (rw c.deref-in-And.ensures.value at c.put_operands.ensures.ok)
+
+pub put_tree-returns-in-Or-clause-ok : goal.put_tree-returns-in-Or-clause-ok
+put_tree-returns-in-Or-clause-ok g t c = rw (← rw (c.in-Or.is) at c.tree.view_is) (rw c.deref-in-Or.ensures.value at c.put_operands-in-Or.ensures.ok)

@@ -23,8 +23,8 @@ fn all_steps<'a>(alloc: Global, text: &'a [u8]) -> Read<'a, Items<Step>>
     ensures reads { Reads result (reading.all_steps text.now) }
     ensures left { IfOk result (λ x. length x.1.now ≤ length text.now) }
 {
-    let mut steps = Items::new(alloc);
     let (first, mut left) = spaced_step(alloc, text)?;
+    let mut steps = Items::new(alloc);
     steps.push(first)?;
     while !is_at("}", left) {
         let (next, rest) = spaced_step(alloc, left)?;
@@ -75,11 +75,11 @@ fn another<'a>(alloc: Global, text: &'a [u8]) -> Read<'a, Action>
 pub(crate) fn actions<'a>(alloc: Global, text: &'a [u8]) -> Read<'a, Items<Action>>
     ensures reads { Reads result (reading.reading text.now) }
 {
-    let mut actions = Items::new(alloc);
     if text.is_empty() {
-        return Ok((actions, text));
+        return Ok((Items::new(alloc), text));
     }
     let (first, mut left) = action(alloc, text)?;
+    let mut actions = Items::new(alloc);
     actions.push(first)?;
     while !left.is_empty() {
         let (next, rest) = another(alloc, left)?;

@@ -5,6 +5,7 @@ ghost use Rattle.act_steps.specs.Reading as reading;
 ghost use Rattle.act_steps.specs.Gives.{Reads};
 
 use crate::constant::constant;
+use crate::ending::ended;
 use crate::lexer::{after, after_word, quoted, token, tokens, word};
 use crate::number::decimal;
 use crate::stop::{Read, stuck};
@@ -70,8 +71,8 @@ fn outport_name<'a>(alloc: Global, text: &'a [u8]) -> Read<'a, Step>
 {
     match quoted(text) {
         Some((name, rest)) => {
-            let ((), rest) = tokens(&[";"], rest)?;
-            Ok((Step::SetOutport(Name::from_slice(alloc, name)?), rest))
+            let name = Name::from_slice(alloc, name)?;
+            ended(Step::SetOutport(name), &[";"], rest)
         }
         None => Err(stuck(text)),
     }
@@ -86,8 +87,7 @@ fn named_value<'a>(alloc: Global, field: Field, bits: Bits, text: &'a [u8]) -> R
         return outport_name(alloc, text);
     }
     let (from, rest) = field_of_width(bits.count(field.width()), text)?;
-    let ((), rest) = tokens(&[";"], rest)?;
-    Ok((Step::Copy(field, bits, from), rest))
+    ended(Step::Copy(field, bits, from), &[";"], rest)
 }
 
 /// Reads what a part becomes: a constant that fits it, or a named value.
@@ -98,8 +98,7 @@ fn value<'a>(alloc: Global, field: Field, bits: Bits, text: &'a [u8]) -> Read<'a
     match constant(alloc, text)? {
         Some((constant, rest)) => {
             if fits(bits.count(field.width()), constant) {
-                let ((), rest) = tokens(&[";"], rest)?;
-                Ok((Step::Set(field, bits, constant), rest))
+                ended(Step::Set(field, bits, constant), &[";"], rest)
             } else {
                 Err(stuck(text))
             }
@@ -115,8 +114,7 @@ fn exchange<'a>(field: Field, text: &'a [u8]) -> Read<'a, Step>
 {
     let ((), rest) = token(" ", text)?;
     let (other, rest) = field_of_width(u32::from(field.width()), rest)?;
-    let ((), rest) = tokens(&[";"], rest)?;
-    Ok((Step::Exchange(field, other), rest))
+    ended(Step::Exchange(field, other), &[";"], rest)
 }
 
 /// Reads `= ` and a value.
@@ -169,10 +167,7 @@ pub(crate) fn field_step<'a>(alloc: Global, field: Field, text: &'a [u8]) -> Rea
     ensures left { IfOk result (λ x. length x.1.now ≤ length text.now) }
 {
     match after("--", text) {
-        Some(rest) if is_ttl(field) => {
-            let ((), rest) = tokens(&[";"], rest)?;
-            Ok((Step::DecTtl, rest))
-        }
+        Some(rest) if is_ttl(field) => ended(Step::DecTtl, &[";"], rest),
         _ => part(alloc, field, text),
     }
 }

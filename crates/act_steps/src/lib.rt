@@ -3,6 +3,7 @@
 
 mod assignment;
 mod constant;
+mod ending;
 mod fault;
 mod keyword;
 mod lexer;

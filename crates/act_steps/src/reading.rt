@@ -4,6 +4,7 @@ ghost use Rattle.act_steps.specs.Reading as reading;
 ghost use Rattle.act_steps.specs.Gives.{Reads};
 
 use crate::assignment::field_step;
+use crate::ending::ended;
 use crate::keyword::{Keyword, keyword_of};
 use crate::lexer::{after, after_word, token, tokens, word};
 use crate::number::{decimal, ip4};
@@ -12,15 +13,6 @@ use crate::targets::all_targets;
 use act_core::Step;
 use nv_base::{Ip4, field_of};
 use std::alloc::Global;
-
-/// Reads `;` after an action.
-fn ended<'a>(step: Step, text: &'a [u8]) -> Read<'a, Step>
-    ensures reads { Reads result (reading.finished step text.now) }
-    ensures left { IfOk result (λ x. length x.1.now ≤ length text.now) }
-{
-    let ((), rest) = tokens(&[";"], text)?;
-    Ok((step, rest))
-}
 
 /// Reads the name of a pipeline, and whether it is egress.
 fn pipeline<'a>(text: &'a [u8]) -> Read<'a, bool>
@@ -41,9 +33,8 @@ fn table<'a>(alloc: Global, egress: bool, text: &'a [u8]) -> Read<'a, Step>
 {
     let ((), rest) = tokens(&[",", " ", "table", "="], text)?;
     let (table, rest) = decimal(alloc, 0, 256, rest)?;
-    let ((), rest) = tokens(&[")", ";"], rest)?;
     let table = table as u8;
-    Ok((Step::Jump { egress, table }, rest))
+    ended(Step::Jump { egress, table }, &[")", ";"], rest)
 }
 
 /// Reads a jump, after `next(`.
@@ -63,7 +54,7 @@ fn next<'a>(alloc: Global, text: &'a [u8]) -> Read<'a, Step>
 {
     match after("(", text) {
         Some(rest) => jump(alloc, rest),
-        None => ended(Step::Next, text),
+        None => ended(Step::Next, &[";"], text),
     }
 }
 
@@ -74,8 +65,7 @@ fn backends<'a>(alloc: Global, text: &'a [u8]) -> Read<'a, Step>
 {
     let ((), rest) = tokens(&["backends", "="], text)?;
     let (targets, rest) = all_targets(alloc, rest)?;
-    let ((), rest) = tokens(&[")", ";"], rest)?;
-    Ok((Step::CtLbTo(targets), rest))
+    ended(Step::CtLbTo(targets), &[")", ";"], rest)
 }
 
 /// Reads what follows `ct_lb`.
@@ -85,7 +75,7 @@ fn balance<'a>(alloc: Global, text: &'a [u8]) -> Read<'a, Step>
 {
     match after("(", text) {
         Some(rest) => backends(alloc, rest),
-        None => ended(Step::CtLb, text),
+        None => ended(Step::CtLb, &[";"], text),
     }
 }
 
@@ -96,9 +86,8 @@ fn commit<'a>(alloc: Global, text: &'a [u8]) -> Read<'a, Step>
 {
     let ((), rest) = tokens(&[" ", "{", " ", "ct_mark.blocked", " ", "=", " "], text)?;
     let (number, rest) = decimal(alloc, 0, 2, rest)?;
-    let ((), rest) = tokens(&[";", " ", "}", ";"], rest)?;
     let blocked = number == 1;
-    Ok((Step::CtCommit { blocked }, rest))
+    ended(Step::CtCommit { blocked }, &[";", " ", "}", ";"], rest)
 }
 
 /// Reads an address in parentheses, if it is there, and `;`.
@@ -159,21 +148,24 @@ fn put_arp<'a>(text: &'a [u8]) -> Read<'a, Step>
     ensures reads { Reads result (reading.put_arp text.now) }
     ensures left { IfOk result (λ x. length x.1.now ≤ length text.now) }
 {
-    let ((), rest) = tokens(
+    ended(
+        Step::PutArp,
         &[
             "(", "inport", ",", " ", "arp.spa", ",", " ", "arp.sha", ")", ";",
         ],
         text,
-    )?;
-    Ok((Step::PutArp, rest))
+    )
 }
 
 fn get_arp<'a>(text: &'a [u8]) -> Read<'a, Step>
     ensures reads { Reads result (reading.get_arp text.now) }
     ensures left { IfOk result (λ x. length x.1.now ≤ length text.now) }
 {
-    let ((), rest) = tokens(&["(", "outport", ",", " ", "reg0", ")", ";"], text)?;
-    Ok((Step::GetArp, rest))
+    ended(
+        Step::GetArp,
+        &["(", "outport", ",", " ", "reg0", ")", ";"],
+        text,
+    )
 }
 
 /// Reads what follows a keyword.
@@ -183,9 +175,9 @@ fn keyword_step<'a>(alloc: Global, keyword: Keyword, text: &'a [u8]) -> Read<'a,
 {
     match keyword {
         Keyword::Next => next(alloc, text),
-        Keyword::Output => ended(Step::Output, text),
-        Keyword::Drop => ended(Step::Drop, text),
-        Keyword::CtNext => ended(Step::CtNext, text),
+        Keyword::Output => ended(Step::Output, &[";"], text),
+        Keyword::Drop => ended(Step::Drop, &[";"], text),
+        Keyword::CtNext => ended(Step::CtNext, &[";"], text),
         Keyword::CtLb => balance(alloc, text),
         Keyword::CtCommit => commit(alloc, text),
         Keyword::CtSnat => snat(alloc, text),

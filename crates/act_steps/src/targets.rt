@@ -48,9 +48,9 @@ pub(crate) fn all_targets<'a>(alloc: Global, text: &'a [u8]) -> Read<'a, Items<T
     ensures reads { Reads result (reading.all_targets text.now) }
     ensures left { IfOk result (λ x. length x.1.now ≤ length text.now) }
 {
-    let mut targets = Items::new(alloc);
     let (first, mut left) = first_target(alloc, text)?;
     let has_port = first.port.is_some();
+    let mut targets = Items::new(alloc);
     targets.push(first)?;
     while let Some(rest) = after(",", left) {
         let (next, rest) = target(alloc, has_port, rest)?;

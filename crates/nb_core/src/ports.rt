@@ -1,13 +1,25 @@
 //! Ports as a table keeps them.
-ghost use Rattle.std.specs.Prelude.{◌≡◌, length, IfOk};
+ghost use Rattle.std.specs.Prelude.{◌≡◌, ◌∷◌, [], length, IfOk};
+ghost use Rattle.nb_core.specs.declared.tag.Tag.TheVariants as tag;
 
 use crate::weights::{address_weight, security_weight};
 use crate::{Named, Names, Port, PortKind, RouterPort, Tag};
 use nb_table::Record;
-use nv_base::{Items, Kept, ObjId, OutOfMemory};
+use nv_base::{Items, Kept, Name, ObjId, OutOfMemory};
 use nv_map::Probe;
 use std::alloc::Global;
 use std::cmp::Ordering;
+
+// A name, and the switch or the router of a port.
+fn place_tags(alloc: Global, name: &Name, owner: ObjId) -> Result<Items<Tag>, OutOfMemory>
+    ensures { IfOk result (λ tags. tags ≡ tag.Named name.now ∷ tag.Of owner ∷ []) }
+{
+    let named = Tag::Named(name.copy(alloc)?);
+    let mut tags = Items::new(alloc);
+    tags.push(named)?;
+    tags.push(Tag::Of(owner))?;
+    Ok(tags)
+}
 
 impl Record for Port {
     ghost use Rattle.nb_core.specs.Tags.{port_tags, port_weight};
@@ -25,9 +37,7 @@ impl Record for Port {
     }
 
     fn tags(&self, alloc: Global) -> Result<Items<Tag>, OutOfMemory> {
-        let mut tags = Items::new(alloc);
-        tags.push(Tag::Named(self.name.copy(alloc)?))?;
-        tags.push(Tag::Of(self.switch))?;
+        let mut tags = place_tags(alloc, &self.name, self.switch)?;
         if let (PortKind::Router, Some(name)) = (self.kind, &self.router_port) {
             tags.push(Tag::Names(name.copy(alloc)?))?;
         }
@@ -76,10 +86,7 @@ impl Record for RouterPort {
     }
 
     fn tags(&self, alloc: Global) -> Result<Items<Tag>, OutOfMemory> {
-        let mut tags = Items::new(alloc);
-        tags.push(Tag::Named(self.name.copy(alloc)?))?;
-        tags.push(Tag::Of(self.router))?;
-        Ok(tags)
+        place_tags(alloc, &self.name, self.router)
     }
 
     fn tag_count(&self) -> usize {

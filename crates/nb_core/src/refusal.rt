@@ -10,7 +10,7 @@ ghost use Rattle.nb_core.specs.Refusal.{
   spaced,
 };
 
-use nv_base::{Field, Name, ObjId, OutOfMemory, put_dec, put_field};
+use nv_base::{Field, Name, ObjId, OutOfMemory, put_dec};
 
 /// What is bounded, in the order in which bounds are tested.
 #[derive(Clone, Copy)]
@@ -222,14 +222,8 @@ fn put_subject(out: &mut Vec<u8>, refusal: &Refusal) -> Result<(), OutOfMemory>
         | Refusal::Exists(name)
         | Refusal::WrongKind(name)
         | Refusal::NotOnDatapath(name) => put_word(out, name.as_slice()),
-        Refusal::MatchType(rule, place) => {
-            put_word(out, rule.name().as_bytes())?;
-            put_number(out, *place)
-        }
-        Refusal::Limit(kind, bound) => {
-            put_word(out, kind.name().as_bytes())?;
-            put_number(out, *bound)
-        }
+        Refusal::MatchType(rule, place) => put_word_and_number(out, rule.name(), *place),
+        Refusal::Limit(kind, bound) => put_word_and_number(out, kind.name(), *bound),
         Refusal::BadMicroflow(rule) => put_micro_rule(out, *rule),
     }
 }
@@ -252,6 +246,14 @@ fn put_number(out: &mut Vec<u8>, number: u32) -> Result<(), OutOfMemory>
     Ok(())
 }
 
+fn put_word_and_number(out: &mut Vec<u8>, word: &str, number: u32) -> Result<(), OutOfMemory>
+    ensures ok { OnOk result (out.new.items ≡ out.old.items ++ (spaced word.now ++ spaced (decimal number))) }
+    ensures err { OnErr result (take (vec_len out.old) out.new.items ≡ out.old.items) }
+{
+    put_word(out, word.as_bytes())?;
+    put_number(out, number)
+}
+
 fn put_micro_rule(out: &mut Vec<u8>, rule: MicroRule) -> Result<(), OutOfMemory>
     ensures ok { OnOk result (out.new.items ≡ out.old.items ++ micro_rule_text rule) }
     ensures err { OnErr result (take (vec_len out.old) out.new.items ≡ out.old.items) }
@@ -260,9 +262,7 @@ fn put_micro_rule(out: &mut Vec<u8>, rule: MicroRule) -> Result<(), OutOfMemory>
         MicroRule::NotConjunction => put_word(out, b"NotConjunction"),
         MicroRule::Contradiction(field) => {
             put_word(out, b"Contradiction")?;
-            out.push(b' ')?;
-            put_field(out, field)?;
-            Ok(())
+            put_word(out, field.name().as_bytes())
         }
         MicroRule::NoInport => put_word(out, b"NoInport"),
     }

@@ -1,2 +1,3 @@
 pub mod Appends
+mod Backends
 pub mod Quoted

@@ -56,7 +56,6 @@ fn put_after_space<W: Word>(out: &mut Vec<u8>, word: &W) -> Result<(), OutOfMemo
 }
 
 // A MAC alone or, in quotes, with what goes with it.
-#[tactic(auto, using(crate::proofs::Quoted::mac_alone, crate::proofs::Quoted::mac_with_some))]
 fn put_mac_with<W: Word>(out: &mut Vec<u8>, mac: Mac, words: &[W]) -> Result<(), OutOfMemory>
     ensures ok { OnOk result (out.new.items ≡ out.old.items ++ mac_with W.text mac words.now) }
     ensures err { OnErr result (GrowsAtEnd out.old.items out.new.items) }

@@ -107,7 +107,7 @@ fn not_built(alloc: Global, command: &Command, place: usize) -> Result<Edit, Lin
     ensures read { IfOk result (λ edit. not_built command.now place ≡ Ok edit) }
     ensures refused { IfErr result (λ fault. IsFaultOf (not_built command.now place) fault) }
 {
-    read_words(alloc, command.first, &command.words.as_slice()[..=place])?;
+    drop(read_words(alloc, command.first, &command.words.as_slice()[..=place])?);
     Err(LineFault::Refused(Refusal::NotInProfile(command.first + place as u32)))
 }
 

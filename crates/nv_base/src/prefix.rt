@@ -64,8 +64,7 @@ fn append_prefix(out: &mut Vec<u8>, prefix: Prefix) -> Result<(), OutOfMemory>
 {
     put_ip4(out, prefix.base)?;
     out.push(b'/')?;
-    put_dec(out, u128::from(prefix.len))?;
-    Ok(())
+    put_dec(out, u128::from(prefix.len))
 }
 
 /// Appends the prefix, always with its length. After `OutOfMemory` the bytes are as before.

@@ -1,11 +1,13 @@
 -- The match of a microflow holds of its packet, once the port has its number.
-use Rattle.std.proofs.Common.{◌≡◌, ◌≢◌, ℕ, suc, ◌==◌, ◌^◌, lit<, Bool, true, false, not, ◌&&◌, List, [], ◌∷◌, ◌++◌, length, map, Option, Some, None, Result, Ok, Err, refl, sym, ap, subst, ◌∙◌, arith, nat_lt}
-use Rattle.std.specs.List.{find, list_any, All}
+use Rattle.std.proofs.Common.{◌≡◌, ◌≢◌, ℕ, suc, ◌==◌, ◌^◌, lit<, Bool, true, false, not, ◌&&◌, ◌||◌, List, [], ◌∷◌, ◌++◌, length, get_or, map, Option, Some, None, Result, Ok, Err, refl, sym, ap, subst, ◌∙◌, arith, nat_lt}
+use Rattle.std.specs.List.{find, list_any, list_all, All}
 use Rattle.std.specs.Option.{option_map}
 use Rattle.std.proofs.Math.Bool.{or-false}
-use Rattle.std.proofs.lemmas.Bool.{eq-eqb, and_parts, and_from, not-false, or_parts}
+use Rattle.std.proofs.lemmas.Bool.{eq-eqb, eqb-true, and_parts, and_from, not-false, or_parts}
 use Rattle.std.proofs.lemmas.Option.{same_Some, option_and_then_some}
 use Rattle.std.proofs.lemmas.List.{get_or-set_same, get_or-set_other, length-set}
+use Rattle.std.proofs.lemmas.List.Sums.{AllPass-from_list_all}
+use Rattle.nv_base.proofs.Fields.{counted}
 use Rattle.nv_base.specs.declared.field.Field.{Field}
 use Rattle.nv_base.specs.declared.field.Field.TheVariants.{Inport, EthType, IpProto}
 use Rattle.nv_base.specs.declared.field.Prerequisite.{Prerequisite}
@@ -13,6 +15,7 @@ use Rattle.nv_base.specs.declared.field.Prerequisite.TheVariants as needs
 use Rattle.nv_base.specs.declared.object.ObjId.{ObjId}
 use Rattle.nv_base.specs.inner.Exact as tells
 use Rattle.nv_base.specs.Field.{field_prerequisite, all_fields}
+use Rattle.pkt_core.proofs.Only.{place_within, field_at}
 use Rattle.pkt_core.specs.Packet.{Values, place, value, with_value, with_values, zero_packet}
 use Rattle.pkt_core.specs.Prerequisite.{meets}
 use Rattle.expr_core.specs.Formula.{Formula, Formulas}
@@ -58,17 +61,32 @@ each_back : (Is : Equality → Type 0) (es others : List Equality) → Each Is (
 each_back Is [] others each = each
 each_back Is (e ∷ es) others each = each_back Is es others each.1
 
+-- the port to come in by is the field of the least number
+at_zero : (field : Field) → place field ≡ 0 → field ≡ Inport
+at_zero field same = sym (field_at field field) ∙ ap (λ k. get_or all_fields k field) same ∙ field_at Inport field
+
+-- it alone may have a name
+abbrev is_unnamed : List ℕ → Field → Bool
+is_unnamed name field = not (is_typed_atom role.Micro (Compare field Whole Eq (right_of.Item (Text name)))) || (place field == 0)
+
+others_unnamed : (name : List ℕ) → list_all (is_unnamed name) all_fields ≡ true
+unfolding all_fields
+others_unnamed name = refl
+
 -- a port is named, and a number is of another field
 named_inport : (field : Field) (name : List ℕ) → is_typed_atom role.Micro (Compare field Whole Eq (right_of.Item (Text name))) ≡ true → field ≡ Inport
-named_inport Inport name typed = refl
-named_inport _ name typed = cc
+named_inport field name typed =
+    let unnamed = AllPass-from_list_all (is_unnamed name) all_fields (others_unnamed name) (place field) field (rw counted (place_within field)) in
+    let own : is_unnamed name field ≡ true = subst (λ (f : Field). is_unnamed name f ≡ true) (field_at field field) unnamed in
+    at_zero field (eqb-true (place field) 0 (subst (λ (b : Bool). (not b || (place field == 0)) ≡ true) typed own))
 
 last : (a b c d : Bool) → (a && ((b && c) && d)) ≡ true → d ≡ true
 last a b c d e = (and_parts (b && c) d (and_parts a ((b && c) && d) e).1).1
 
 number_elsewhere : (field : Field) (c : Const) → is_typed_atom role.Micro (Compare field Whole Eq (right_of.Item (One c))) ≡ true → place field ≢ 0
-number_elsewhere Inport c typed = λ same. let never : false ≡ true = last true true (nat_lt c.value (2 ^ 32)) false typed in cc
-number_elsewhere _ c typed = λ same. omega (arith, same)
+number_elsewhere field c typed = λ same.
+    let inport : is_typed_atom role.Micro (Compare Inport Whole Eq (right_of.Item (One c))) ≡ true = subst (λ (f : Field). is_typed_atom role.Micro (Compare f Whole Eq (right_of.Item (One c))) ≡ true) (at_zero field same) typed in
+    let never : false ≡ true = last true true (nat_lt c.value (2 ^ 32)) false inport in cc
 
 -- a name is this one
 abbrev NameIs : List ℕ → Value → Type 0

@@ -38,8 +38,8 @@ impl Kept for Row {
             stage: self.stage,
             priority: self.priority,
             hint: self.hint,
-            matching: self.matching.copy(alloc)?,
             actions: self.actions.copy(alloc)?,
+            matching: self.matching.copy(alloc)?,
         })
     }
 }

@@ -59,8 +59,9 @@ impl NewRows {
         ensures err { OnErr result (self.new ≡ self.old) }
     {
         let stored = Stored::new(*self.stored.allocator(), row, &mut self.room)?;
-        if self.stored.is_empty() {
-            self.stored.reserve(FEW)?;
+        if self.stored.is_empty() && self.stored.reserve(FEW).is_err() {
+            drop(stored);
+            return Err(OutOfMemory);
         }
         self.stored.push(stored)?;
         Ok(())

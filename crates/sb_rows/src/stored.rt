@@ -76,8 +76,13 @@ impl Stored {
     pub(crate) fn new(alloc: Global, row: Row, room: &mut Vec<u8>) -> Result<Self, OutOfMemory>
         ensures { IfOk result (λ stored. stored ≡ row) }
     {
-        let text = text_of(alloc, &row.matching, room)?;
-        Stored::with_text(alloc, row, text)
+        match text_of(alloc, &row.matching, room) {
+            Ok(text) => Stored::with_text(alloc, row, text),
+            Err(failed) => {
+                drop(row);
+                Err(failed)
+            }
+        }
     }
 
     // An equal row, and the text of its match, which is not written again.

@@ -288,10 +288,11 @@ fn is_mac_of(addr: &Addr, mac: Mac) -> bool
 fn lookup_rule(alloc: Global, name: &Name, mac: Mac) -> Result<Rule, OutOfMemory>
     ensures { IfOk result (λ r. r ≡ lookup_rule name.now mac) }
 {
+    let actions = goes_out_by(alloc, name.copy(alloc)?)?;
     Ok(Rule {
         stage: Stage::LsInL2Lkup,
         priority: 50,
         matching: equals(Field::EthDst, as_mac(mac)),
-        actions: goes_out_by(alloc, name.copy(alloc)?)?,
+        actions,
     })
 }

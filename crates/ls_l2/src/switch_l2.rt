@@ -100,11 +100,12 @@ fn add_switch_l2_rows(
 fn last_rule(alloc: Global, stage: Stage, step: Step) -> Result<Rule, OutOfMemory>
     ensures { IfOk result (λ r. r ≡ rule stage 0 takes_each (steps (step ∷ []))) }
 {
+    let actions = one_step(alloc, step)?;
     Ok(Rule {
         stage,
         priority: 0,
         matching: takes_each(),
-        actions: one_step(alloc, step)?,
+        actions,
     })
 }
 
@@ -112,11 +113,12 @@ fn last_rule(alloc: Global, stage: Stage, step: Step) -> Result<Rule, OutOfMemor
 fn flood_rule(alloc: Global) -> Result<Rule, OutOfMemory>
     ensures { IfOk result (λ r. r ≡ rule Stage.LsInL2Lkup 100 (is_predicate Pred.EthMcast) (goes_out_by flood_group)) }
 {
+    let actions = goes_out_by(alloc, Name::from_slice(alloc, b"_MC_flood")?)?;
     Ok(Rule {
         stage: Stage::LsInL2Lkup,
         priority: 100,
         matching: predicate(Pred::EthMcast),
-        actions: goes_out_by(alloc, Name::from_slice(alloc, b"_MC_flood")?)?,
+        actions,
     })
 }
 
@@ -139,10 +141,11 @@ fn add_unknown_rows(
 fn unknown_rule(alloc: Global) -> Result<Rule, OutOfMemory>
     ensures { IfOk result (λ r. r ≡ rule Stage.LsInL2Unknown 50 takes_each (goes_out_by unknown_group)) }
 {
+    let actions = goes_out_by(alloc, Name::from_slice(alloc, b"_MC_unknown")?)?;
     Ok(Rule {
         stage: Stage::LsInL2Unknown,
         priority: 50,
         matching: takes_each(),
-        actions: goes_out_by(alloc, Name::from_slice(alloc, b"_MC_unknown")?)?,
+        actions,
     })
 }

@@ -29,10 +29,10 @@ use Rattle.nb_net.proofs.Reading.{goes_on, goes_on_anyway, there}
 use Rattle.nb_plain.specs.Plain.{tracks_none, IsBuilt}
 use Rattle.nb_cmds.specs.Built.{related_place, unbuilt, unbuilt_word, built, refused_option, optioned}
 use Rattle.nb_cmds.specs.Lines.{task, task_by, read_line}
-use Rattle.nb_cmds.specs.Tasks.{tasks, task_of, is_named}
+use Rattle.nb_tasks.specs.Tasks.{tasks, task_of, is_named}
 use Rattle.nb_cmds.specs.declared.line.Line.TheVariants as line
-use Rattle.nb_cmds.specs.declared.task.Task.{Task}
-use Rattle.nb_cmds.specs.declared.task.Task.TheVariants as task
+use Rattle.nb_tasks.specs.declared.task.Task.{Task}
+use Rattle.nb_tasks.specs.declared.task.Task.TheVariants as task
 use Rattle.nb_cmds.proofs.EachEdit.{HoldsAs, line_given}
 
 both : (a b : Bool) → (a && b) ≡ true → (a ≡ true) × (b ≡ true)

@@ -11,8 +11,8 @@ use Rattle.nb_cmds.specs.Lines.{task, beside, edit_beside, edits, sole, said, re
 use Rattle.nb_cmds.specs.Queries.{no_other_option, asked}
 use Rattle.nb_cmds.specs.declared.line.Line.{Line}
 use Rattle.nb_cmds.specs.declared.line.Line.TheVariants as line
-use Rattle.nb_cmds.specs.declared.task.Task.{Task}
-use Rattle.nb_cmds.specs.declared.task.Task.TheVariants as task
+use Rattle.nb_tasks.specs.declared.task.Task.{Task}
+use Rattle.nb_tasks.specs.declared.task.Task.TheVariants as task
 
 -- it holds of the edit that the command asks for, if it edits
 abbrev pub HoldsAs : (Edit → Type 0) → Command → Task → Type 0

@@ -15,8 +15,8 @@ use Rattle.nb_cmds.specs.Lines.{edits, said}
 use Rattle.nb_cmds.specs.Queries.{minimal_after, query_of, trace, trace_of, traced}
 use Rattle.nb_cmds.specs.declared.line.Line.TheVariants as line
 use Rattle.nb_cmds.specs.declared.query.Query.TheVariants as query
-use Rattle.nb_cmds.specs.declared.task.Question.{Question}
-use Rattle.nb_cmds.specs.declared.task.Question.TheVariants as question
+use Rattle.nb_tasks.specs.declared.task.Question.{Question}
+use Rattle.nb_tasks.specs.declared.task.Question.TheVariants as question
 
 -- ---- lists of a known length
 

@@ -20,10 +20,10 @@ use Rattle.nb_cmds.specs.declared.line.Line.{Line}
 use Rattle.nb_cmds.specs.declared.line.Line.TheVariants as line
 use Rattle.nb_cmds.specs.declared.query.Query.{Query}
 use Rattle.nb_cmds.specs.declared.query.Query.TheVariants as query
-use Rattle.nb_cmds.specs.declared.task.Question.{Question}
-use Rattle.nb_cmds.specs.declared.task.Question.TheVariants as question
-use Rattle.nb_cmds.specs.declared.task.Task.{Task}
-use Rattle.nb_cmds.specs.declared.task.Task.TheVariants as task
+use Rattle.nb_tasks.specs.declared.task.Question.{Question}
+use Rattle.nb_tasks.specs.declared.task.Question.TheVariants as question
+use Rattle.nb_tasks.specs.declared.task.Task.{Task}
+use Rattle.nb_tasks.specs.declared.task.Task.TheVariants as task
 use Rattle.nb_cmds.proofs.Microflows
 use Rattle.nb_cmds.proofs.Microflows.{micro_given}
 

@@ -16,7 +16,7 @@ use Rattle.nb_read.specs.Then.{and_then}
 use Rattle.nb_edit.specs.Forms.{verbs}
 use Rattle.nb_cmds.specs.Lines.{said}
 use Rattle.nb_cmds.specs.Quoted.{quoted_switch, IsRead}
-use Rattle.nb_cmds.specs.Tasks.{tasks}
+use Rattle.nb_tasks.specs.Tasks.{tasks}
 use Rattle.nb_cmds.specs.declared.line.Line.TheVariants.{Edits}
 
 both : (a b : Bool) → (a && b) ≡ true → (a ≡ true) × (b ≡ true)

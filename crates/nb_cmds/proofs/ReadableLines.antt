@@ -14,8 +14,8 @@ use Rattle.nb_net.proofs.Reading.{goes_on_anyway}
 use Rattle.nb_cmds.specs.Built.{unbuilt_word, built, refused_option, optioned}
 use Rattle.nb_cmds.specs.Lines.{task, read_line}
 use Rattle.nb_cmds.specs.declared.line.Line.TheVariants as line
-use Rattle.nb_cmds.specs.declared.task.Task.{Task}
-use Rattle.nb_cmds.specs.declared.task.Task.TheVariants as task
+use Rattle.nb_tasks.specs.declared.task.Task.{Task}
+use Rattle.nb_tasks.specs.declared.task.Task.TheVariants as task
 use Rattle.nb_cmds.proofs.EachEdit.{HoldsAs, line_given}
 
 command_given : (c : Command) → IfOk (read_command c) IsReadable

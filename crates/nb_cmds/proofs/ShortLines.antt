@@ -20,8 +20,8 @@ use Rattle.nb_cmds.specs.Lines.{task, task_by, beside, edit_beside, edits, sole,
 use Rattle.nb_cmds.specs.Queries.{asked}
 use Rattle.nb_cmds.specs.declared.line.Line.{Line}
 use Rattle.nb_cmds.specs.declared.line.Line.TheVariants as line
-use Rattle.nb_cmds.specs.declared.task.Task.{Task}
-use Rattle.nb_cmds.specs.declared.task.Task.TheVariants as task
+use Rattle.nb_tasks.specs.declared.task.Task.{Task}
+use Rattle.nb_tasks.specs.declared.task.Task.TheVariants as task
 
 -- the command has a word
 abbrev pub HasWord : Command → Type 0

@@ -3,5 +3,4 @@ pub mod Lines
 pub mod Microflows
 pub mod Quoted
 pub mod Queries
-pub mod Tasks
 pub mod inner

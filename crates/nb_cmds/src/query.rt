@@ -4,13 +4,14 @@ ghost use Rattle.std.specs.List.{list_all};
 ghost use Rattle.nb_words.specs.Commands.{is_short, is_small};
 ghost use Rattle.nb_words.specs.Fault.{IsFaultOf};
 ghost use Rattle.nb_edit.specs.Commands as command;
-ghost use Rattle.nb_cmds.specs.Queries.{is_minimal, takes, no_other_option, trace_of, traced, minimal_after, trace, query_of, asked};
+ghost use Rattle.nb_tasks.specs.Tasks.{is_minimal, takes};
+ghost use Rattle.nb_cmds.specs.Queries.{no_other_option, trace_of, traced, minimal_after, trace, query_of, asked};
 
 use crate::microflow::micro_of;
-use crate::task::Question;
 use nb_core::Refusal;
 use nb_edit::option_count;
 use nb_read::object_name;
+use nb_tasks::{Question, is_minimal, takes};
 use nb_words::{Command, LineFault, Word};
 use nv_base::Name;
 use pkt_micro::Micro;
@@ -30,23 +31,6 @@ pub enum Query {
     },
     /// `dump`: the network (not from OVN).
     Dump,
-}
-
-// Whether the word is `--minimal`.
-fn is_minimal(word: &Word) -> bool
-    ensures { result ≡ is_minimal word.now }
-{
-    word.text.as_slice() == b"--minimal".as_slice()
-}
-
-// Whether the query takes the option.
-fn takes(question: Question, word: &Word) -> bool
-    ensures { result ≡ takes question word.now }
-{
-    match question {
-        Question::Trace => is_minimal(word),
-        Question::FlowList | Question::Dump => false,
-    }
 }
 
 // The place of the first option that the query does not take.

@@ -1,8 +1,9 @@
-//! The one table of the names that are built.
+//! The one table of the names that are built, and the options that queries take.
 ghost use Rattle.std.specs.Prelude.{◌≡◌};
-ghost use Rattle.nb_cmds.specs.Tasks.{tasks, task_name, is_named, task_of};
+ghost use Rattle.nb_tasks.specs.Tasks.{tasks, task_name, is_named, task_of, is_minimal, takes};
 
 use nb_edit::Verb;
+use nb_words::Word;
 
 /// What a query is about.
 #[derive(Clone, Copy)]
@@ -74,4 +75,21 @@ pub fn task_of(name: &[u8]) -> Option<Task>
     ensures { result ≡ task_of name.now }
 {
     Task::all().iter().find(|task| task.is_named(name)).copied()
+}
+
+/// Whether the word is `--minimal`.
+pub fn is_minimal(word: &Word) -> bool
+    ensures { result ≡ is_minimal word.now }
+{
+    word.text.as_slice() == b"--minimal".as_slice()
+}
+
+/// Whether the query takes the option (ovn-trace(8)).
+pub fn takes(question: Question, word: &Word) -> bool
+    ensures { result ≡ takes question word.now }
+{
+    match question {
+        Question::Trace => is_minimal(word),
+        Question::FlowList | Question::Dump => false,
+    }
 }

@@ -1,8 +1,8 @@
 use Rattle.std.proofs.Common.{rules, ◌∙◌}
 use Rattle.std.proofs.lemmas.Iterator.{YieldsList-from_slice}
 use Rattle.std.proofs.lemmas.Iterator.Search.{find_from_yields_List}
-use Rattle.nb_cmds.specs.Tasks.{is_named, tasks}
-use Rattle.nb_cmds.proofs.task.task_of.Goals as goal
+use Rattle.nb_tasks.specs.Tasks.{is_named, tasks}
+use Rattle.nb_tasks.proofs.task.task_of.Goals as goal
 
 pub returns : goal.returns
 returns c =

@@ -9,7 +9,7 @@ ghost use Rattle.nb_dump.specs.Edits.{port_name, members_edits, switch_lb_edits,
 use crate::Objects;
 use crate::names::{lb_name, port_name};
 use nb_core::{Group, Router, Switch};
-use nb_script::{put_lr_lb_add, put_ls_lb_add};
+use nb_rules::{put_lr_lb_add, put_ls_lb_add};
 use nb_text::put_word;
 use nv_base::{ObjId, OutOfMemory};
 

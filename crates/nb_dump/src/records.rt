@@ -10,11 +10,11 @@ use nb_core::{
     Acl, Addr, AddrSet, Binding, Group, Guard, Lb, Nat, Port, PortKind, Route, Router, RouterPort,
     Switch,
 };
+use nb_rules::{put_as_add, put_group_acl, put_lb_add, put_pg_add, put_switch_acl};
 use nb_script::{
-    put_as_add, put_group_acl, put_lb_add, put_lr_add, put_lr_nat_add, put_lr_route_add,
-    put_lrp_add, put_ls_add, put_lsp_add, put_lsp_set_addresses, put_lsp_set_options,
-    put_lsp_set_port_security, put_pg_add, put_port_disabled, put_router_port_disabled,
-    put_smb_add, put_switch_acl, put_to_router,
+    put_lr_add, put_lr_nat_add, put_lr_route_add, put_lrp_add, put_ls_add, put_lsp_add,
+    put_lsp_set_addresses, put_lsp_set_options, put_lsp_set_port_security, put_port_disabled,
+    put_router_port_disabled, put_smb_add, put_to_router,
 };
 use nb_table::Record;
 use nv_base::{Name, OutOfMemory};

@@ -7,7 +7,7 @@ ghost use Rattle.nb_core.specs.declared.edit.Edit.TheVariants as edit;
 ghost use Rattle.nb_core.specs.declared.edit.OwnerKind.TheVariants as owner;
 ghost use Rattle.nb_text.specs.Words.{in_quotes, service_text, backends_text, way_text, verdict_text};
 ghost use Rattle.nb_script.specs.Commands.{command_line};
-ghost use Rattle.nb_script.specs.inner.Rules.{rule_text};
+ghost use Rattle.nb_rules.specs.inner.Rules.{rule_text};
 
 use expr_core::{Typed, put_tree};
 use nb_core::{Acl, AddrSet, Backend, Frontend, Proto, Vip};

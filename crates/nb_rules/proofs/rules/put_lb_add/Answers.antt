@@ -1,7 +1,7 @@
 use Rattle.nv_base.proofs.Growth.{grown_more, on_err}
 use Rattle.nb_text.proofs.Appends.{grown_by_none}
 use Rattle.nb_script.proofs.Lines.{line_of_five}
-use Rattle.nb_script.proofs.rules.put_lb_add.Goals as goal
+use Rattle.nb_rules.proofs.rules.put_lb_add.Goals as goal
 
 pub returns-clause-ok : goal.returns-clause-ok
 returns-clause-ok c =

@@ -1,53 +1,75 @@
 // That matches can be copied, and that two are equal whatever the offsets of their parts.
-use expr_check::{Role, check};
+use crate::holding::{parsed, typed};
 use expr_core::{Atom, Expr, Node, Tree, TreeAtom};
-use expr_parse::parse_match;
 use std::alloc::Global;
 use std::test::Fail;
-
-// The match that the text is. No text here is as long as a match may not be.
-fn parsed(alloc: Global, text: &str) -> Result<Expr, Fail> {
-    if text.len() > 100 {
-        return Err(Fail::new("too long"));
-    }
-    Ok(parse_match(alloc, text.as_bytes())?)
-}
 
 // Whether the copy of a match is equal to it.
 fn is_copied<A: TreeAtom + PartialEq + Drop>(alloc: Global, tree: &Tree<A>) -> Result<bool, Fail> {
     Ok(tree.copy(alloc)? == *tree)
 }
 
+// Whether the copy of the match that the text is, as it was read, is equal to it.
+fn is_copied_as_read(alloc: Global, text: &str) -> Result<bool, Fail> {
+    is_copied(alloc, &parsed(alloc, text)?)
+}
+
+// Whether the copy of the checked match is equal to it.
+fn is_copied_as_checked(alloc: Global, text: &str) -> Result<bool, Fail> {
+    is_copied(alloc, &typed(alloc, text)?)
+}
+
+const TEXTS: [&str; 3] = [
+    "inport == @g",
+    "tcp.dst != {1, 2} && !(arp || ip4.src == $s)",
+    "eth.dst[40] || ip4.dst[28..31] == 0xe || inport == \"p\" || ip4.src == 10.0.0.0/8",
+];
+
 #[test]
 fn copies_are_equal(rt: HostRuntime) -> Result<(), Fail> {
-    let alloc = rt.alloc();
-    for text in [
-        "inport == @g",
-        "tcp.dst != {1, 2} && !(arp || ip4.src == $s)",
-        "eth.dst[40] || ip4.dst[28..31] == 0xe || inport == \"p\" || ip4.src == 10.0.0.0/8",
-    ] {
-        let expr = parsed(alloc, text)?;
-        assert!(rt; is_copied(alloc, &expr)?, "{text}");
-        let typed = check(alloc, &expr, Role::Row)?;
-        assert!(rt; is_copied(alloc, &typed)?, "{text}");
+    for text in TEXTS {
+        assert!(rt; is_copied_as_read(rt.alloc(), text)?, "{text}");
     }
     Ok(())
+}
+
+#[test]
+fn copies_of_checked_matches_are_equal(rt: HostRuntime) -> Result<(), Fail> {
+    for text in TEXTS {
+        assert!(rt; is_copied_as_checked(rt.alloc(), text)?, "{text}");
+    }
+    Ok(())
+}
+
+// The offset of the copy of a part that is a match.
+fn offset_of_copy(alloc: Global, expr: &Expr) -> Result<u32, Fail> {
+    match &expr.node {
+        Node::Atom(Atom::Bare(part)) => Ok(part.copy(alloc)?.offset),
+        _ => Err(Fail::new("not a part")),
+    }
+}
+
+// The offset of the copy of the part that the text is.
+fn offset_of_text(alloc: Global, text: &str) -> Result<u32, Fail> {
+    let expr = parsed(alloc, text)?;
+    offset_of_copy(alloc, &expr)
 }
 
 #[test]
 fn an_atom_is_copied_at_its_offset(rt: HostRuntime) -> Result<(), Fail> {
-    let expr = parsed(rt.alloc(), "   tcp")?;
-    if let Node::Atom(Atom::Bare(part)) = &expr.node {
-        assert!(rt; part.copy(rt.alloc())?.offset == 3);
-    } else {
-        return Err(Fail::new("not a part"));
-    }
+    assert!(rt; offset_of_text(rt.alloc(), "   tcp")? == 3);
     Ok(())
+}
+
+// Whether the text is this match.
+fn is_text_of(alloc: Global, expr: &Expr, text: &str) -> Result<bool, Fail> {
+    Ok(*expr == parsed(alloc, text)?)
 }
 
 // Whether two texts are one match.
 fn are_one(alloc: Global, first: &str, second: &str) -> Result<bool, Fail> {
-    Ok(parsed(alloc, first)? == parsed(alloc, second)?)
+    let expr = parsed(alloc, first)?;
+    is_text_of(alloc, &expr, second)
 }
 
 #[test]
@@ -60,9 +82,8 @@ fn offsets_do_not_count(rt: HostRuntime) -> Result<(), Fail> {
         ("!ip4", false),
         ("ip4", false),
     ] {
-        assert_eq!(rt;
-            are_one(rt.alloc(), "ip4 && arp", text)?,
-            expected,
+        assert!(rt;
+            are_one(rt.alloc(), "ip4 && arp", text)? == expected,
             "{text}"
         );
     }

@@ -10,15 +10,21 @@ use std::alloc::Global;
 use std::test::Fail;
 
 // The match that the text is. No text here is as long as a match may not be.
-fn parsed(alloc: Global, text: &str) -> Result<Expr, Fail> {
+pub(crate) fn parsed(alloc: Global, text: &str) -> Result<Expr, Fail> {
     if text.len() > 100 {
         return Err(Fail::new("too long"));
     }
     Ok(parse_match(alloc, text.as_bytes())?)
 }
 
-fn typed(alloc: Global, text: &str) -> Result<Typed, Fail> {
-    Ok(check(alloc, &parsed(alloc, text)?, Role::Row)?)
+fn typed_of(alloc: Global, expr: &Expr) -> Result<Typed, Fail> {
+    Ok(check(alloc, expr, Role::Row)?)
+}
+
+// The match that the text is, as a row may have it.
+pub(crate) fn typed(alloc: Global, text: &str) -> Result<Typed, Fail> {
+    let expr = parsed(alloc, text)?;
+    typed_of(alloc, &expr)
 }
 
 // A TCP packet from 10.0.0.1, port 81, to 224.0.0.5, port 80, that came in by port 5.
@@ -47,6 +53,11 @@ fn arp() -> Packet {
     let mut packet = tcp();
     packet.set(Field::EthType, 0x806);
     packet
+}
+
+// Whether the match that the text is holds of the packet.
+fn is_met(alloc: Global, text: &str, packet: &Packet) -> Result<bool, Fail> {
+    Ok(holds(&typed(alloc, text)?, packet, &Few))
 }
 
 #[test]
@@ -78,7 +89,7 @@ fn matches_hold_of_a_tcp_packet(rt: HostRuntime) -> Result<(), Fail> {
         "inport != \"_MC_flood\"",
         "udp || (tcp && !0)",
     ] {
-        assert!(rt; holds(&typed(rt.alloc(), text)?, &tcp(), &Few), "{text}");
+        assert!(rt; is_met(rt.alloc(), text, &tcp())?, "{text}");
     }
     Ok(())
 }
@@ -107,18 +118,21 @@ fn matches_do_not_hold_of_a_tcp_packet(rt: HostRuntime) -> Result<(), Fail> {
         "inport == @none",
         "ct.new",
     ] {
-        assert!(rt; !holds(&typed(rt.alloc(), text)?, &tcp(), &Few), "{text}");
+        assert!(rt; !is_met(rt.alloc(), text, &tcp())?, "{text}");
     }
     Ok(())
 }
 
 #[test]
 fn a_negated_comparison_needs_its_field(rt: HostRuntime) -> Result<(), Fail> {
-    let not_from_80 = typed(rt.alloc(), "!(tcp.src == 80)")?;
-    assert!(rt; holds(&not_from_80, &tcp(), &Few));
-    assert!(rt; !holds(&not_from_80, &udp(), &Few));
-    let not_tcp = typed(rt.alloc(), "!tcp")?;
-    assert!(rt; holds(&not_tcp, &udp(), &Few));
-    assert!(rt; !holds(&not_tcp, &arp(), &Few));
+    assert!(rt; is_met(rt.alloc(), "!(tcp.src == 80)", &tcp())?);
+    assert!(rt; !is_met(rt.alloc(), "!(tcp.src == 80)", &udp())?);
+    Ok(())
+}
+
+#[test]
+fn a_negated_predicate_needs_its_field(rt: HostRuntime) -> Result<(), Fail> {
+    assert!(rt; is_met(rt.alloc(), "!tcp", &udp())?);
+    assert!(rt; !is_met(rt.alloc(), "!tcp", &arp())?);
     Ok(())
 }

@@ -22,6 +22,18 @@ fn repeated(alloc: Global, text: &[u8], count: usize, last: &[u8]) -> Result<Vec
     Ok(out)
 }
 
+// Whether a text of so many times one text, and then another, has this fault.
+fn has_fault(
+    alloc: Global,
+    text: &str,
+    count: usize,
+    last: &str,
+    fault: MatchFault,
+) -> Result<bool, OutOfMemory> {
+    let long = repeated(alloc, text.as_bytes(), count, last.as_bytes())?;
+    Ok(fault_of(alloc, &long) == Some(fault))
+}
+
 #[test]
 fn a_newline_begins_no_token(rt: HostRuntime) {
     for (text, offset) in [("\n", 0), ("a\n", 1), ("(a)\n", 3)] {
@@ -42,8 +54,7 @@ fn long_texts_have_their_faults(rt: HostRuntime) -> Result<(), Fail> {
         ("1&&", 20000, "", MatchFault::Syntax(60000)),
         ("a", 65530, " == \"p", MatchFault::Syntax(65534)),
     ] {
-        let long = repeated(alloc, text.as_bytes(), count, last.as_bytes())?;
-        assert!(rt; fault_of(alloc, &long) == Some(fault), "{text}");
+        assert!(rt; has_fault(alloc, text, count, last, fault)?, "{text}");
     }
     Ok(())
 }

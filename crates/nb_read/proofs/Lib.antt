@@ -1,4 +1,5 @@
 mod Decimals
+mod Ips
 mod Loops
 mod Nets
 mod Numbers

@@ -15,7 +15,7 @@ use Rattle.nb_read.specs.Readings.{prefix}
 use Rattle.nb_read.specs.Lists.{has_net, is_base, new_nets}
 
 -- neither of two tests holds
-neither : {X : Type 0} (a b : Bool) (x y : X) → a ≡ false → b ≡ false → (if a || b then x else y) ≡ y
+pub neither : {X : Type 0} (a b : Bool) (x y : X) → a ≡ false → b ≡ false → (if a || b then x else y) ≡ y
 neither a b x y not_a not_b = rw (not_a, not_b) refl
 
 module _ (number : ℕ) (before : List Guard) (texts : List (Bor (List ℕ))) (i : ℕ) (d : Bor (List ℕ)) (nets : List Block) (within : i < length texts) where

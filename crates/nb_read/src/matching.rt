@@ -1,13 +1,14 @@
 //! Matches, each in its role.
 ghost use Rattle.std.specs.Prelude.{◌≡◌, ◌<◌, ◌^◌, Ok, IfOk, IfErr, length};
 ghost use Rattle.expr_core.specs.WellTyped.{IsTyped};
+ghost use Rattle.expr_check.specs.Check.{checked};
 ghost use Rattle.expr_parse.specs.Grammar.{reading};
 ghost use Rattle.nb_words.specs.Fault.{IsFaultOf};
-ghost use Rattle.nb_read.specs.Readings.{role_of, parsed_match, acl_match};
+ghost use Rattle.nb_read.specs.Readings.{role_of, checked_match, parsed_match, acl_match};
 ghost use Rattle.nb_read.specs.inner.Faults.{syntax_fault, rule_fault};
 
 use expr_check::{Role, TypeFault, check};
-use expr_core::Typed;
+use expr_core::{Expr, Typed};
 use expr_parse::{MatchFault, parse_match};
 use nb_core::{MatchRule, Refusal, Way};
 use nb_words::LineFault;
@@ -49,9 +50,21 @@ fn rule_fault(fault: TypeFault) -> LineFault
     LineFault::Refused(Refusal::MatchType(rule, place))
 }
 
+// The match in this role, well-typed.
+#[tactic(auto, using(crate::proofs::Typed::is_typed))]
+fn checked_match(alloc: Global, role: Role, parsed: &Expr) -> Result<Typed, LineFault>
+    ensures read { IfOk result (λ t. checked_match (checked role parsed.now) ≡ Ok t) }
+    ensures typed { IfOk result (λ t. IsTyped role t) }
+    ensures refused { IfErr result (λ fault. IsFaultOf (checked_match (checked role parsed.now)) fault) }
+{
+    match check(alloc, parsed, role) {
+        Ok(typed) => Ok(typed),
+        Err(fault) => Err(rule_fault(fault)),
+    }
+}
+
 /// The match that the text says in this role, well-typed, or `MatchSyntax` and `MatchType` with the place in the text, as of
 /// `parse_match` and `check`. Where memory runs out the answer is `Memory`.
-#[tactic(auto, using(crate::proofs::Typed::is_typed))]
 pub fn typed_match(alloc: Global, role: Role, text: &[u8]) -> Result<Typed, LineFault>
     requires { length text.now < 2 ^ 32 }
     ensures read { IfOk result (λ t. parsed_match role (reading text.now) ≡ Ok t) }
@@ -59,10 +72,7 @@ pub fn typed_match(alloc: Global, role: Role, text: &[u8]) -> Result<Typed, Line
     ensures refused { IfErr result (λ fault. IsFaultOf (parsed_match role (reading text.now)) fault) }
 {
     match parse_match(alloc, text) {
-        Ok(parsed) => match check(alloc, &parsed, role) {
-            Ok(typed) => Ok(typed),
-            Err(fault) => Err(rule_fault(fault)),
-        },
+        Ok(parsed) => checked_match(alloc, role, &parsed),
         Err(fault) => Err(syntax_fault(fault)),
     }
 }

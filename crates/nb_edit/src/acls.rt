@@ -3,12 +3,13 @@ ghost use Rattle.std.specs.Prelude.{◌≡◌, ◌≤◌, Ok, IfOk, IfErr, lengt
 ghost use Rattle.nb_words.specs.Fault.{IsFaultOf};
 ghost use Rattle.nb_edit.specs.Edits.{edit_of};
 
+use crate::at::{owner_at, priority_at};
 use crate::call::Call;
 use crate::maybe::maybe_way;
 use crate::rules::rule;
 use crate::verb::Verb;
 use nb_core::Edit;
-use nb_read::{acl_match, owner_name, priority, verdict, way};
+use nb_read::{acl_match, verdict, way};
 use nb_words::LineFault;
 use std::alloc::Global;
 
@@ -18,9 +19,9 @@ pub(crate) fn acl_add(alloc: Global, call: &Call) -> Result<Edit, LineFault>
     ensures read { IfOk result (λ edit. edit_of Verb.AclAdd call.now ≡ Ok edit) }
     ensures refused { IfErr result (λ fault. IsFaultOf (edit_of Verb.AclAdd call.now) fault) }
 {
-    let owner = owner_name(alloc, call.owner_kind(), call.number(0), call.text(0))?;
+    let owner = owner_at(alloc, call, 0)?;
     let way = way(call.number(1), call.text(1))?;
-    let priority = priority(call.number(2), call.text(2))?;
+    let priority = priority_at(call, 2)?;
     let matching = acl_match(alloc, way, call.text(3))?;
     let verdict = verdict(call.number(4), call.text(4))?;
     Ok(Edit::AclAdd {
@@ -40,7 +41,7 @@ pub(crate) fn acl_del(alloc: Global, call: &Call) -> Result<Edit, LineFault>
     ensures read { IfOk result (λ edit. edit_of Verb.AclDel call.now ≡ Ok edit) }
     ensures refused { IfErr result (λ fault. IsFaultOf (edit_of Verb.AclDel call.now) fault) }
 {
-    let owner = owner_name(alloc, call.owner_kind(), call.number(0), call.text(0))?;
+    let owner = owner_at(alloc, call, 0)?;
     let way = maybe_way(call, 1)?;
     let rule = rule(alloc, call, way)?;
     Ok(Edit::AclDel {

@@ -3,11 +3,12 @@ ghost use Rattle.std.specs.Prelude.{◌≡◌, ◌≤◌, Ok, IfOk, IfErr, lengt
 ghost use Rattle.nb_words.specs.Fault.{IsFaultOf};
 ghost use Rattle.nb_edit.specs.Edits.{edit_of};
 
+use crate::at::name_at;
 use crate::call::Call;
 use crate::maybe::{maybe_name, maybe_proto, maybe_vip};
 use crate::verb::Verb;
 use nb_core::Edit;
-use nb_read::{backends, object_name, vip};
+use nb_read::{backends, vip};
 use nb_words::LineFault;
 use std::alloc::Global;
 
@@ -17,7 +18,7 @@ pub(crate) fn lb_add(alloc: Global, call: &Call) -> Result<Edit, LineFault>
     ensures read { IfOk result (λ edit. edit_of Verb.LbAdd call.now ≡ Ok edit) }
     ensures refused { IfErr result (λ fault. IsFaultOf (edit_of Verb.LbAdd call.now) fault) }
 {
-    let lb = object_name(alloc, call.number(0), call.text(0))?;
+    let lb = name_at(alloc, call, 0)?;
     let at = vip(call.number(1), call.text(1))?;
     let backends = backends(alloc, at.port.is_some(), call.number(2), call.text(2))?;
     let proto = maybe_proto(call, 3)?;
@@ -35,7 +36,7 @@ pub(crate) fn lb_del(alloc: Global, call: &Call) -> Result<Edit, LineFault>
     ensures read { IfOk result (λ edit. edit_of Verb.LbDel call.now ≡ Ok edit) }
     ensures refused { IfErr result (λ fault. IsFaultOf (edit_of Verb.LbDel call.now) fault) }
 {
-    let lb = object_name(alloc, call.number(0), call.text(0))?;
+    let lb = name_at(alloc, call, 0)?;
     let at = maybe_vip(call, 1)?;
     Ok(Edit::LbDel {
         lb,
@@ -50,8 +51,8 @@ pub(crate) fn ls_lb_add(alloc: Global, call: &Call) -> Result<Edit, LineFault>
     ensures read { IfOk result (λ edit. edit_of Verb.LsLbAdd call.now ≡ Ok edit) }
     ensures refused { IfErr result (λ fault. IsFaultOf (edit_of Verb.LsLbAdd call.now) fault) }
 {
-    let switch = object_name(alloc, call.number(0), call.text(0))?;
-    let lb = object_name(alloc, call.number(1), call.text(1))?;
+    let switch = name_at(alloc, call, 0)?;
+    let lb = name_at(alloc, call, 1)?;
     Ok(Edit::LsLbAdd {
         switch,
         lb,
@@ -65,8 +66,8 @@ pub(crate) fn lr_lb_add(alloc: Global, call: &Call) -> Result<Edit, LineFault>
     ensures read { IfOk result (λ edit. edit_of Verb.LrLbAdd call.now ≡ Ok edit) }
     ensures refused { IfErr result (λ fault. IsFaultOf (edit_of Verb.LrLbAdd call.now) fault) }
 {
-    let router = object_name(alloc, call.number(0), call.text(0))?;
-    let lb = object_name(alloc, call.number(1), call.text(1))?;
+    let router = name_at(alloc, call, 0)?;
+    let lb = name_at(alloc, call, 1)?;
     Ok(Edit::LrLbAdd {
         router,
         lb,
@@ -80,7 +81,7 @@ pub(crate) fn ls_lb_del(alloc: Global, call: &Call) -> Result<Edit, LineFault>
     ensures read { IfOk result (λ edit. edit_of Verb.LsLbDel call.now ≡ Ok edit) }
     ensures refused { IfErr result (λ fault. IsFaultOf (edit_of Verb.LsLbDel call.now) fault) }
 {
-    let switch = object_name(alloc, call.number(0), call.text(0))?;
+    let switch = name_at(alloc, call, 0)?;
     let lb = maybe_name(alloc, call, 1)?;
     Ok(Edit::LsLbDel {
         switch,
@@ -95,7 +96,7 @@ pub(crate) fn lr_lb_del(alloc: Global, call: &Call) -> Result<Edit, LineFault>
     ensures read { IfOk result (λ edit. edit_of Verb.LrLbDel call.now ≡ Ok edit) }
     ensures refused { IfErr result (λ fault. IsFaultOf (edit_of Verb.LrLbDel call.now) fault) }
 {
-    let router = object_name(alloc, call.number(0), call.text(0))?;
+    let router = name_at(alloc, call, 0)?;
     let lb = maybe_name(alloc, call, 1)?;
     Ok(Edit::LrLbDel {
         router,

@@ -2,6 +2,7 @@
 #![tactic(auto)]
 
 mod acls;
+mod at;
 mod balancers;
 mod call;
 mod command;

@@ -3,11 +3,12 @@ ghost use Rattle.std.specs.Prelude.{◌≡◌, ◌≤◌, Ok, IfOk, IfErr, lengt
 ghost use Rattle.nb_words.specs.Fault.{IsFaultOf};
 ghost use Rattle.nb_edit.specs.Edits.{edit_of};
 
+use crate::at::{ip_at, mac_at, name_at, state_at};
 use crate::call::Call;
 use crate::maybe::{maybe_logical, maybe_name, maybe_nat_kind, maybe_network, no_more};
 use crate::verb::Verb;
 use nb_core::Edit;
-use nb_read::{ip, logical, mac, nat_kind, network, networks, nexthop, object_name, state};
+use nb_read::{logical, nat_kind, network, networks, nexthop};
 use nb_words::LineFault;
 use std::alloc::Global;
 
@@ -17,7 +18,7 @@ pub(crate) fn lr_add(alloc: Global, call: &Call) -> Result<Edit, LineFault>
     ensures read { IfOk result (λ edit. edit_of Verb.LrAdd call.now ≡ Ok edit) }
     ensures refused { IfErr result (λ fault. IsFaultOf (edit_of Verb.LrAdd call.now) fault) }
 {
-    let name = object_name(alloc, call.number(0), call.text(0))?;
+    let name = name_at(alloc, call, 0)?;
     Ok(Edit::LrAdd {
         name,
         may_exist: call.may_exist(),
@@ -30,7 +31,7 @@ pub(crate) fn lr_del(alloc: Global, call: &Call) -> Result<Edit, LineFault>
     ensures read { IfOk result (λ edit. edit_of Verb.LrDel call.now ≡ Ok edit) }
     ensures refused { IfErr result (λ fault. IsFaultOf (edit_of Verb.LrDel call.now) fault) }
 {
-    let name = object_name(alloc, call.number(0), call.text(0))?;
+    let name = name_at(alloc, call, 0)?;
     Ok(Edit::LrDel {
         name,
         if_exists: call.if_exists(),
@@ -43,9 +44,9 @@ pub(crate) fn lrp_add(alloc: Global, call: &Call) -> Result<Edit, LineFault>
     ensures read { IfOk result (λ edit. edit_of Verb.LrpAdd call.now ≡ Ok edit) }
     ensures refused { IfErr result (λ fault. IsFaultOf (edit_of Verb.LrpAdd call.now) fault) }
 {
-    let router = object_name(alloc, call.number(0), call.text(0))?;
-    let port = object_name(alloc, call.number(1), call.text(1))?;
-    let mac = mac(call.number(2), call.text(2))?;
+    let router = name_at(alloc, call, 0)?;
+    let port = name_at(alloc, call, 1)?;
+    let mac = mac_at(call, 2)?;
     let nets = networks(alloc, call.number(3), call.from(3))?;
     Ok(Edit::LrpAdd {
         router,
@@ -62,7 +63,7 @@ pub(crate) fn lrp_del(alloc: Global, call: &Call) -> Result<Edit, LineFault>
     ensures read { IfOk result (λ edit. edit_of Verb.LrpDel call.now ≡ Ok edit) }
     ensures refused { IfErr result (λ fault. IsFaultOf (edit_of Verb.LrpDel call.now) fault) }
 {
-    let port = object_name(alloc, call.number(0), call.text(0))?;
+    let port = name_at(alloc, call, 0)?;
     Ok(Edit::LrpDel {
         port,
         if_exists: call.if_exists(),
@@ -75,8 +76,8 @@ pub(crate) fn lrp_set_enabled(alloc: Global, call: &Call) -> Result<Edit, LineFa
     ensures read { IfOk result (λ edit. edit_of Verb.LrpSetEnabled call.now ≡ Ok edit) }
     ensures refused { IfErr result (λ fault. IsFaultOf (edit_of Verb.LrpSetEnabled call.now) fault) }
 {
-    let port = object_name(alloc, call.number(0), call.text(0))?;
-    let enabled = state(call.number(1), call.text(1))?;
+    let port = name_at(alloc, call, 0)?;
+    let enabled = state_at(call, 1)?;
     Ok(Edit::LrpSetEnabled { port, enabled })
 }
 
@@ -86,7 +87,7 @@ pub(crate) fn lr_route_add(alloc: Global, call: &Call) -> Result<Edit, LineFault
     ensures read { IfOk result (λ edit. edit_of Verb.LrRouteAdd call.now ≡ Ok edit) }
     ensures refused { IfErr result (λ fault. IsFaultOf (edit_of Verb.LrRouteAdd call.now) fault) }
 {
-    let router = object_name(alloc, call.number(0), call.text(0))?;
+    let router = name_at(alloc, call, 0)?;
     let prefix = network(call.number(1), call.text(1))?;
     let nexthop = nexthop(call.number(2), call.text(2))?;
     let port = maybe_name(alloc, call, 3)?;
@@ -105,7 +106,7 @@ pub(crate) fn lr_route_del(alloc: Global, call: &Call) -> Result<Edit, LineFault
     ensures read { IfOk result (λ edit. edit_of Verb.LrRouteDel call.now ≡ Ok edit) }
     ensures refused { IfErr result (λ fault. IsFaultOf (edit_of Verb.LrRouteDel call.now) fault) }
 {
-    let router = object_name(alloc, call.number(0), call.text(0))?;
+    let router = name_at(alloc, call, 0)?;
     let prefix = maybe_network(call, 1)?;
     Ok(Edit::LrRouteDel {
         router,
@@ -121,9 +122,9 @@ pub(crate) fn lr_nat_add(alloc: Global, call: &Call) -> Result<Edit, LineFault>
     ensures read { IfOk result (λ edit. edit_of Verb.LrNatAdd call.now ≡ Ok edit) }
     ensures refused { IfErr result (λ fault. IsFaultOf (edit_of Verb.LrNatAdd call.now) fault) }
 {
-    let router = object_name(alloc, call.number(0), call.text(0))?;
+    let router = name_at(alloc, call, 0)?;
     let kind = nat_kind(call.number(1), call.text(1))?;
-    let external = ip(call.number(2), call.text(2))?;
+    let external = ip_at(call, 2)?;
     let logical = logical(kind, call.number(3), call.text(3))?;
     no_more(call, 4)?;
     Ok(Edit::LrNatAdd {
@@ -140,7 +141,7 @@ pub(crate) fn lr_nat_del(alloc: Global, call: &Call) -> Result<Edit, LineFault>
     ensures read { IfOk result (λ edit. edit_of Verb.LrNatDel call.now ≡ Ok edit) }
     ensures refused { IfErr result (λ fault. IsFaultOf (edit_of Verb.LrNatDel call.now) fault) }
 {
-    let router = object_name(alloc, call.number(0), call.text(0))?;
+    let router = name_at(alloc, call, 0)?;
     let kind = maybe_nat_kind(call, 1)?;
     let addr = maybe_logical(call, 2, kind)?;
     Ok(Edit::LrNatDel {
@@ -157,9 +158,9 @@ pub(crate) fn smb_add(alloc: Global, call: &Call) -> Result<Edit, LineFault>
     ensures read { IfOk result (λ edit. edit_of Verb.SmbAdd call.now ≡ Ok edit) }
     ensures refused { IfErr result (λ fault. IsFaultOf (edit_of Verb.SmbAdd call.now) fault) }
 {
-    let port = object_name(alloc, call.number(0), call.text(0))?;
-    let addr = ip(call.number(1), call.text(1))?;
-    let mac = mac(call.number(2), call.text(2))?;
+    let port = name_at(alloc, call, 0)?;
+    let addr = ip_at(call, 1)?;
+    let mac = mac_at(call, 2)?;
     Ok(Edit::SmbAdd { port, addr, mac })
 }
 
@@ -169,8 +170,8 @@ pub(crate) fn smb_del(alloc: Global, call: &Call) -> Result<Edit, LineFault>
     ensures read { IfOk result (λ edit. edit_of Verb.SmbDel call.now ≡ Ok edit) }
     ensures refused { IfErr result (λ fault. IsFaultOf (edit_of Verb.SmbDel call.now) fault) }
 {
-    let port = object_name(alloc, call.number(0), call.text(0))?;
-    let addr = ip(call.number(1), call.text(1))?;
+    let port = name_at(alloc, call, 0)?;
+    let addr = ip_at(call, 1)?;
     Ok(Edit::SmbDel {
         port,
         addr,

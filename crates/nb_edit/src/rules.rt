@@ -3,10 +3,11 @@ ghost use Rattle.std.specs.Prelude.{◌≡◌, ◌≤◌, ◌<◌, ◌^◌, Ok, 
 ghost use Rattle.nb_words.specs.Fault.{IsFaultOf};
 ghost use Rattle.nb_edit.specs.Edits.{rule};
 
+use crate::at::priority_at;
 use crate::call::Call;
 use expr_core::Typed;
 use nb_core::Way;
-use nb_read::{acl_match, priority};
+use nb_read::acl_match;
 use nb_words::LineFault;
 use std::alloc::Global;
 
@@ -21,7 +22,7 @@ pub(crate) fn rule(
 {
     match way {
         Some(way) if call.is_there(3) => {
-            let priority = priority(call.number(2), call.text(2))?;
+            let priority = priority_at(call, 2)?;
             let matching = acl_match(alloc, way, call.text(3))?;
             Ok(Some((priority, matching)))
         }

@@ -3,10 +3,11 @@ ghost use Rattle.std.specs.Prelude.{◌≡◌, ◌≤◌, Ok, IfOk, IfErr, lengt
 ghost use Rattle.nb_words.specs.Fault.{IsFaultOf};
 ghost use Rattle.nb_edit.specs.Edits.{edit_of};
 
+use crate::at::set_name_at;
 use crate::call::Call;
 use crate::verb::Verb;
 use nb_core::Edit;
-use nb_read::{members, names, set_name};
+use nb_read::{members, names};
 use nb_words::LineFault;
 use std::alloc::Global;
 
@@ -16,7 +17,7 @@ pub(crate) fn pg_add(alloc: Global, call: &Call) -> Result<Edit, LineFault>
     ensures read { IfOk result (λ edit. edit_of Verb.PgAdd call.now ≡ Ok edit) }
     ensures refused { IfErr result (λ fault. IsFaultOf (edit_of Verb.PgAdd call.now) fault) }
 {
-    let name = set_name(alloc, call.number(0), call.text(0))?;
+    let name = set_name_at(alloc, call, 0)?;
     let ports = names(alloc, call.number(1), call.from(1))?;
     Ok(Edit::PgAdd { name, ports })
 }
@@ -27,7 +28,7 @@ pub(crate) fn pg_set_ports(alloc: Global, call: &Call) -> Result<Edit, LineFault
     ensures read { IfOk result (λ edit. edit_of Verb.PgSetPorts call.now ≡ Ok edit) }
     ensures refused { IfErr result (λ fault. IsFaultOf (edit_of Verb.PgSetPorts call.now) fault) }
 {
-    let name = set_name(alloc, call.number(0), call.text(0))?;
+    let name = set_name_at(alloc, call, 0)?;
     let ports = names(alloc, call.number(1), call.from(1))?;
     Ok(Edit::PgSetPorts { name, ports })
 }
@@ -38,7 +39,7 @@ pub(crate) fn pg_del(alloc: Global, call: &Call) -> Result<Edit, LineFault>
     ensures read { IfOk result (λ edit. edit_of Verb.PgDel call.now ≡ Ok edit) }
     ensures refused { IfErr result (λ fault. IsFaultOf (edit_of Verb.PgDel call.now) fault) }
 {
-    let name = set_name(alloc, call.number(0), call.text(0))?;
+    let name = set_name_at(alloc, call, 0)?;
     Ok(Edit::PgDel {
         name,
         if_exists: call.if_exists(),
@@ -51,7 +52,7 @@ pub(crate) fn as_add(alloc: Global, call: &Call) -> Result<Edit, LineFault>
     ensures read { IfOk result (λ edit. edit_of Verb.AsAdd call.now ≡ Ok edit) }
     ensures refused { IfErr result (λ fault. IsFaultOf (edit_of Verb.AsAdd call.now) fault) }
 {
-    let name = set_name(alloc, call.number(0), call.text(0))?;
+    let name = set_name_at(alloc, call, 0)?;
     let members = members(alloc, call.number(1), call.from(1))?;
     Ok(Edit::AsAdd { name, members })
 }
@@ -62,7 +63,7 @@ pub(crate) fn as_set(alloc: Global, call: &Call) -> Result<Edit, LineFault>
     ensures read { IfOk result (λ edit. edit_of Verb.AsSet call.now ≡ Ok edit) }
     ensures refused { IfErr result (λ fault. IsFaultOf (edit_of Verb.AsSet call.now) fault) }
 {
-    let name = set_name(alloc, call.number(0), call.text(0))?;
+    let name = set_name_at(alloc, call, 0)?;
     let members = members(alloc, call.number(1), call.from(1))?;
     Ok(Edit::AsSet { name, members })
 }
@@ -73,7 +74,7 @@ pub(crate) fn as_del(alloc: Global, call: &Call) -> Result<Edit, LineFault>
     ensures read { IfOk result (λ edit. edit_of Verb.AsDel call.now ≡ Ok edit) }
     ensures refused { IfErr result (λ fault. IsFaultOf (edit_of Verb.AsDel call.now) fault) }
 {
-    let name = set_name(alloc, call.number(0), call.text(0))?;
+    let name = set_name_at(alloc, call, 0)?;
     Ok(Edit::AsDel {
         name,
         if_exists: call.if_exists(),

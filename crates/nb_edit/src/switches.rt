@@ -3,11 +3,12 @@ ghost use Rattle.std.specs.Prelude.{◌≡◌, ◌≤◌, Ok, IfOk, IfErr, lengt
 ghost use Rattle.nb_words.specs.Fault.{IsFaultOf};
 ghost use Rattle.nb_edit.specs.Edits.{edit_of};
 
+use crate::at::{name_at, state_at};
 use crate::call::Call;
 use crate::maybe::router_port_once;
 use crate::verb::Verb;
 use nb_core::Edit;
-use nb_read::{addresses, guards, object_name, port_kind, port_options, state};
+use nb_read::{addresses, guards, port_kind, port_options};
 use nb_words::LineFault;
 use std::alloc::Global;
 
@@ -17,7 +18,7 @@ pub(crate) fn ls_add(alloc: Global, call: &Call) -> Result<Edit, LineFault>
     ensures read { IfOk result (λ edit. edit_of Verb.LsAdd call.now ≡ Ok edit) }
     ensures refused { IfErr result (λ fault. IsFaultOf (edit_of Verb.LsAdd call.now) fault) }
 {
-    let name = object_name(alloc, call.number(0), call.text(0))?;
+    let name = name_at(alloc, call, 0)?;
     Ok(Edit::LsAdd {
         name,
         may_exist: call.may_exist(),
@@ -30,7 +31,7 @@ pub(crate) fn ls_del(alloc: Global, call: &Call) -> Result<Edit, LineFault>
     ensures read { IfOk result (λ edit. edit_of Verb.LsDel call.now ≡ Ok edit) }
     ensures refused { IfErr result (λ fault. IsFaultOf (edit_of Verb.LsDel call.now) fault) }
 {
-    let name = object_name(alloc, call.number(0), call.text(0))?;
+    let name = name_at(alloc, call, 0)?;
     Ok(Edit::LsDel {
         name,
         if_exists: call.if_exists(),
@@ -43,8 +44,8 @@ pub(crate) fn lsp_add(alloc: Global, call: &Call) -> Result<Edit, LineFault>
     ensures read { IfOk result (λ edit. edit_of Verb.LspAdd call.now ≡ Ok edit) }
     ensures refused { IfErr result (λ fault. IsFaultOf (edit_of Verb.LspAdd call.now) fault) }
 {
-    let switch = object_name(alloc, call.number(0), call.text(0))?;
-    let port = object_name(alloc, call.number(1), call.text(1))?;
+    let switch = name_at(alloc, call, 0)?;
+    let port = name_at(alloc, call, 1)?;
     Ok(Edit::LspAdd {
         switch,
         port,
@@ -58,7 +59,7 @@ pub(crate) fn lsp_del(alloc: Global, call: &Call) -> Result<Edit, LineFault>
     ensures read { IfOk result (λ edit. edit_of Verb.LspDel call.now ≡ Ok edit) }
     ensures refused { IfErr result (λ fault. IsFaultOf (edit_of Verb.LspDel call.now) fault) }
 {
-    let port = object_name(alloc, call.number(0), call.text(0))?;
+    let port = name_at(alloc, call, 0)?;
     Ok(Edit::LspDel {
         port,
         if_exists: call.if_exists(),
@@ -71,7 +72,7 @@ pub(crate) fn lsp_set_addresses(alloc: Global, call: &Call) -> Result<Edit, Line
     ensures read { IfOk result (λ edit. edit_of Verb.LspSetAddresses call.now ≡ Ok edit) }
     ensures refused { IfErr result (λ fault. IsFaultOf (edit_of Verb.LspSetAddresses call.now) fault) }
 {
-    let port = object_name(alloc, call.number(0), call.text(0))?;
+    let port = name_at(alloc, call, 0)?;
     let addresses = addresses(alloc, call.number(1), call.from(1))?;
     Ok(Edit::LspSetAddresses { port, addresses })
 }
@@ -82,7 +83,7 @@ pub(crate) fn lsp_set_port_security(alloc: Global, call: &Call) -> Result<Edit, 
     ensures read { IfOk result (λ edit. edit_of Verb.LspSetPortSecurity call.now ≡ Ok edit) }
     ensures refused { IfErr result (λ fault. IsFaultOf (edit_of Verb.LspSetPortSecurity call.now) fault) }
 {
-    let port = object_name(alloc, call.number(0), call.text(0))?;
+    let port = name_at(alloc, call, 0)?;
     let guards = guards(alloc, call.number(1), call.from(1))?;
     Ok(Edit::LspSetPortSecurity { port, guards })
 }
@@ -93,7 +94,7 @@ pub(crate) fn lsp_set_type(alloc: Global, call: &Call) -> Result<Edit, LineFault
     ensures read { IfOk result (λ edit. edit_of Verb.LspSetType call.now ≡ Ok edit) }
     ensures refused { IfErr result (λ fault. IsFaultOf (edit_of Verb.LspSetType call.now) fault) }
 {
-    let port = object_name(alloc, call.number(0), call.text(0))?;
+    let port = name_at(alloc, call, 0)?;
     let kind = port_kind(call.number(1), call.text(1))?;
     Ok(Edit::LspSetType { port, kind })
 }
@@ -105,7 +106,7 @@ pub(crate) fn lsp_set_options(alloc: Global, call: &Call) -> Result<Edit, LineFa
     ensures refused { IfErr result (λ fault. IsFaultOf (edit_of Verb.LspSetOptions call.now) fault) }
 {
     router_port_once(call)?;
-    let port = object_name(alloc, call.number(0), call.text(0))?;
+    let port = name_at(alloc, call, 0)?;
     let router_port = port_options(alloc, call.number(1), call.from(1))?;
     Ok(Edit::LspSetOptions { port, router_port })
 }
@@ -116,7 +117,7 @@ pub(crate) fn lsp_set_enabled(alloc: Global, call: &Call) -> Result<Edit, LineFa
     ensures read { IfOk result (λ edit. edit_of Verb.LspSetEnabled call.now ≡ Ok edit) }
     ensures refused { IfErr result (λ fault. IsFaultOf (edit_of Verb.LspSetEnabled call.now) fault) }
 {
-    let port = object_name(alloc, call.number(0), call.text(0))?;
-    let enabled = state(call.number(1), call.text(1))?;
+    let port = name_at(alloc, call, 0)?;
+    let enabled = state_at(call, 1)?;
     Ok(Edit::LspSetEnabled { port, enabled })
 }

@@ -1,0 +1,17 @@
+use Rattle.std.proofs.Common.{refl}
+use Rattle.std.proofs.lemmas.Result.{err_from_is_err_and}
+use Rattle.nb_edit.proofs.Steps.{goes_on, stops, stops_later}
+use Rattle.nb_edit.proofs.balancers.lr_lb_add.Goals as goal
+
+pub returns-clause-read : goal.returns-clause-read
+returns-clause-read c = rw c.may_exist.ensures (goes_on _ _ _ _ c.in_ok-router.ensures.read (goes_on _ _ _ _ c.in_ok-lb.ensures.read refl))
+
+pub returns-in_err-router-clause-refused : goal.returns-in_err-router-clause-refused
+returns-in_err-router-clause-refused c =
+    let p = err_from_is_err_and c.from_residual.result c.from_residual.ensures.1 in
+    rw (p.1, p.2) (stops _ _ _ c.in_err-router.ensures.refused)
+
+pub returns-in_err-lb-clause-refused : goal.returns-in_err-lb-clause-refused
+returns-in_err-lb-clause-refused c =
+    let p = err_from_is_err_and c.from_residual-in_err-lb.result c.from_residual-in_err-lb.ensures.1 in
+    rw (p.1, p.2) (stops_later _ _ _ _ c.in_ok-router.ensures.read (stops _ _ _ c.in_err-lb.ensures.refused))

@@ -1,0 +1,18 @@
+use Rattle.std.proofs.Common.{refl}
+use Rattle.std.proofs.lemmas.Result.{err_from_is_err_and}
+use Rattle.nb_read.specs.Readings.{port_kind}
+use Rattle.nb_edit.proofs.Steps.{goes_on, read_at, refused_at, stops, stops_later}
+use Rattle.nb_edit.proofs.switches.lsp_set_type.Goals as goal
+
+pub returns-clause-read : goal.returns-clause-read
+returns-clause-read c = goes_on _ _ _ _ c.in_ok-port.ensures.read (goes_on _ _ _ _ (read_at port_kind c.args.call.now 1 _ _ _ c.number.ensures c.text.ensures.bytes c.in_ok-kind.ensures.read) refl)
+
+pub returns-in_err-port-clause-refused : goal.returns-in_err-port-clause-refused
+returns-in_err-port-clause-refused c =
+    let p = err_from_is_err_and c.from_residual.result c.from_residual.ensures.1 in
+    rw (p.1, p.2) (stops _ _ _ c.in_err-port.ensures.refused)
+
+pub returns-in_err-kind-clause-refused : goal.returns-in_err-kind-clause-refused
+returns-in_err-kind-clause-refused c =
+    let p = err_from_is_err_and c.from_residual-in_err-kind.result c.from_residual-in_err-kind.ensures.1 in
+    rw (p.1, p.2) (stops_later _ _ _ _ c.in_ok-port.ensures.read (stops _ _ _ (refused_at port_kind c.args.call.now 1 _ _ _ c.number.ensures c.text.ensures.bytes c.in_err-kind.ensures.refused)))

@@ -212,22 +212,17 @@ fn add_refusing_rows(
     Ok(())
 }
 
-// What the ACL takes of the packets of which this holds.
-fn taken_where(alloc: Global, known: Typed, acl: &AclOnInput) -> Result<Typed, OutOfMemory>
-    ensures { IfOk result (λ t. t ≡ all_of (known ∷ acl.now.matching ∷ [])) }
-{
-    both(alloc, known, acl.matching.copy(alloc)?)
-}
-
 // The connection of an established packet is blocked.
 fn blocking_rule(alloc: Global, priority: u16, acl: &AclOnInput) -> Result<Rule, OutOfMemory>
     ensures { IfOk result (λ rule. rule ≡ blocking_rule priority acl.now) }
 {
+    let actions = blocks(alloc, acl.verdict)?;
+    let taken = acl.matching.copy(alloc)?;
     Ok(Rule {
         stage: stage_of(acl.way),
         priority,
-        matching: taken_where(alloc, predicate(Pred::CtEst), acl)?,
-        actions: blocks(alloc, acl.verdict)?,
+        matching: both(alloc, predicate(Pred::CtEst), taken)?,
+        actions,
     })
 }
 
@@ -235,11 +230,13 @@ fn blocking_rule(alloc: Global, priority: u16, acl: &AclOnInput) -> Result<Rule,
 fn refusing_rule(alloc: Global, priority: u16, acl: &AclOnInput) -> Result<Rule, OutOfMemory>
     ensures { IfOk result (λ rule. rule ≡ refusing_rule priority acl.now) }
 {
+    let actions = ending(alloc, acl.verdict)?;
+    let taken = acl.matching.copy(alloc)?;
     let is_new = Typed::negation(alloc, predicate(Pred::CtEst))?;
     Ok(Rule {
         stage: stage_of(acl.way),
         priority,
-        matching: taken_where(alloc, is_new, acl)?,
-        actions: ending(alloc, acl.verdict)?,
+        matching: both(alloc, is_new, taken)?,
+        actions,
     })
 }

@@ -28,10 +28,11 @@ pub(crate) fn put_in_both(
 fn in_stage(alloc: Global, rule: &Rule, other: Stage) -> Result<Rule, OutOfMemory>
     ensures { IfOk result (λ same. same ≡ record rule.now { stage = other }) }
 {
+    let actions = rule.actions.copy(alloc)?;
     Ok(Rule {
         stage: other,
         priority: rule.priority,
         matching: rule.matching.copy(alloc)?,
-        actions: rule.actions.copy(alloc)?,
+        actions,
     })
 }

@@ -157,11 +157,12 @@ fn add_rows_to_track(
 fn rule_for_many(alloc: Global) -> Result<Rule, OutOfMemory>
     ensures { IfOk result (λ rule. rule ≡ rule_for_many) }
 {
+    let actions = goes_on(alloc)?;
     Ok(Rule {
         stage: Stage::LsInPreAcl,
         priority: 110,
         matching: predicate(Pred::EthMcast),
-        actions: goes_on(alloc)?,
+        actions,
     })
 }
 
@@ -169,11 +170,12 @@ fn rule_for_many(alloc: Global) -> Result<Rule, OutOfMemory>
 fn asking_rule(alloc: Global) -> Result<Rule, OutOfMemory>
     ensures { IfOk result (λ rule. rule ≡ asking_rule) }
 {
+    let actions = goes_on_after(alloc, asks_to_track())?;
     Ok(Rule {
         stage: Stage::LsInPreAcl,
         priority: 100,
         matching: predicate(Pred::Ip4),
-        actions: goes_on_after(alloc, asks_to_track())?,
+        actions,
     })
 }
 
@@ -182,11 +184,12 @@ fn tracking_rule(alloc: Global, balances: bool) -> Result<Rule, OutOfMemory>
     ensures { IfOk result (λ rule. rule ≡ tracking_rule balances) }
 {
     let step = if balances { Step::CtLb } else { Step::CtNext };
+    let actions = one_step(alloc, step)?;
     Ok(Rule {
         stage: Stage::LsInPreStateful,
         priority: 100,
         matching: bit_is_set(Field::Reg0, 0),
-        actions: one_step(alloc, step)?,
+        actions,
     })
 }
 
@@ -206,11 +209,12 @@ fn add_rows_of_connections(alloc: Global, rows: &mut NewRows, unit: Unit) -> Res
 fn rule_for_shut_out(alloc: Global) -> Result<Rule, OutOfMemory>
     ensures { IfOk result (λ rule. rule ≡ rule_for_shut_out) }
 {
+    let actions = drops(alloc)?;
     Ok(Rule {
         stage: Stage::LsInAclEval,
         priority: 65532,
         matching: is_shut_out(alloc)?,
-        actions: drops(alloc)?,
+        actions,
     })
 }
 
@@ -218,8 +222,9 @@ fn rule_for_shut_out(alloc: Global) -> Result<Rule, OutOfMemory>
 fn is_shut_out(alloc: Global) -> Result<Typed, OutOfMemory>
     ensures { IfOk result (λ t. t ≡ is_shut_out) }
 {
+    let is_reply = is_reply(alloc)?;
     let is_blocked = Typed::atom(TypedAtom::Bare(Field::CtMarkBlocked, Bits::Whole));
-    let is_blocked_reply = both(alloc, is_reply(alloc)?, is_blocked)?;
+    let is_blocked_reply = both(alloc, is_reply, is_blocked)?;
     either(alloc, predicate(Pred::CtInv), is_blocked_reply)
 }
 
@@ -243,11 +248,12 @@ fn add_rows_for_replies(alloc: Global, rows: &mut NewRows, unit: Unit) -> Result
 fn rule_for_replies(alloc: Global) -> Result<Rule, OutOfMemory>
     ensures { IfOk result (λ rule. rule ≡ rule_for_replies) }
 {
+    let actions = goes_on(alloc)?;
     Ok(Rule {
         stage: Stage::LsInAclEval,
         priority: 65531,
         matching: is_reply(alloc)?,
-        actions: goes_on(alloc)?,
+        actions,
     })
 }
 
@@ -255,10 +261,11 @@ fn rule_for_replies(alloc: Global) -> Result<Rule, OutOfMemory>
 fn keeping_rule(alloc: Global) -> Result<Rule, OutOfMemory>
     ensures { IfOk result (λ rule. rule ≡ keeping_rule) }
 {
+    let actions = goes_on_after(alloc, Step::CtCommit { blocked: false })?;
     Ok(Rule {
         stage: Stage::LsInStateful,
         priority: 100,
         matching: bit_is_set(Field::Reg0, 1),
-        actions: goes_on_after(alloc, Step::CtCommit { blocked: false })?,
+        actions,
     })
 }

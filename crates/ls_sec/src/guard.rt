@@ -142,8 +142,8 @@ fn lets_any_in(alloc: Global, name: &Name, guard: &Guard) -> Result<Rule, OutOfM
     ensures { IfOk result (λ r. r ≡ lets_in_where name.now guard.now
         (one_of (tells guard.now.mac ∷ differs Field.EthType (in_hexadecimal 0x806) ∷ []) ∷ [])) }
 {
-    let no_arp = differs(Field::EthType, in_hexadecimal(0x806));
     let mut terms = from_guarded(alloc, name, guard)?;
+    let no_arp = differs(Field::EthType, in_hexadecimal(0x806));
     terms.push(either(alloc, tells(guard.mac), no_arp)?)?;
     lets_in(alloc, terms)
 }

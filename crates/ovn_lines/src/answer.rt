@@ -9,13 +9,21 @@ use nb_words::{Command, LineFault, read_commands};
 use nv_base::{Items, OutOfMemory};
 use std::alloc::Global;
 
+/// Adds the edit that the command asks for.
+fn push_edit(alloc: Global, edits: &mut Items<Edit>, command: &Command) -> Result<(), LineFault>
+    requires { is_small command.now ≡ true }
+{
+    edits.push(read_command(alloc, command)?)?;
+    Ok(())
+}
+
 /// The edits that the commands ask for.
 fn read_each(alloc: Global, commands: &[Command]) -> Result<Items<Edit>, LineFault>
     requires { list_all is_small commands.now ≡ true }
 {
     let mut edits = Items::new(alloc);
     for command in commands {
-        edits.push(read_command(alloc, command)?)?;
+        push_edit(alloc, &mut edits, command)?;
     }
     Ok(edits)
 }
@@ -26,17 +34,20 @@ fn read_line(alloc: Global, line: &[u8]) -> Result<Items<Edit>, LineFault> {
     read_each(alloc, commands.as_slice())
 }
 
+/// Appends the edits, a line each.
+fn put_edits(out: &mut Vec<u8>, edits: &[Edit]) -> Result<(), OutOfMemory> {
+    for edit in edits {
+        put_edit(out, edit)?;
+        out.push(b'\n')?;
+    }
+    Ok(())
+}
+
 /// Appends the answer to a line: its edits, a line each, or its refusal.
 pub(crate) fn put_answer(alloc: Global, out: &mut Vec<u8>, line: &[u8]) -> Result<(), OutOfMemory> {
     match read_line(alloc, line) {
-        Ok(edits) => {
-            for edit in edits.as_slice() {
-                put_edit(out, edit)?;
-                out.push(b'\n')?;
-            }
-        }
-        Err(LineFault::Refused(refusal)) => refusal.put_line(out)?,
-        Err(LineFault::Memory) => return Err(OutOfMemory),
+        Ok(edits) => put_edits(out, edits.as_slice()),
+        Err(LineFault::Refused(refusal)) => refusal.put_line(out),
+        Err(LineFault::Memory) => Err(OutOfMemory),
     }
-    Ok(())
 }

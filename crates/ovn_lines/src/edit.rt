@@ -4,8 +4,75 @@ use crate::parts::{
     put_name, put_names, put_nat_kind, put_net, put_nets, put_owner_kind, put_policy, put_proto,
     put_rule, put_spaced_ip, put_spaced_mac, put_verdict, put_way,
 };
-use nb_core::{Edit, PortKind};
-use nv_base::OutOfMemory;
+use nb_core::{Edit, Member, OwnerKind, PortKind, Verdict};
+use nv_base::{Mac, Name, OutOfMemory, Prefix};
+
+// A variant, and the name of what it edits.
+fn put_named(out: &mut Vec<u8>, variant: &[u8], name: &Name) -> Result<(), OutOfMemory> {
+    out.extend_from_slice(variant)?;
+    put_name(out, name)
+}
+
+// A variant, a name, and a word where it holds.
+fn put_flagged(
+    out: &mut Vec<u8>,
+    variant: &[u8],
+    name: &Name,
+    holds: bool,
+    word: &[u8],
+) -> Result<(), OutOfMemory> {
+    put_named(out, variant, name)?;
+    put_if(out, holds, word)
+}
+
+// A variant, two names, and a word where it holds.
+fn put_pair(
+    out: &mut Vec<u8>,
+    variant: &[u8],
+    owner: &Name,
+    name: &Name,
+    holds: bool,
+    word: &[u8],
+) -> Result<(), OutOfMemory> {
+    put_named(out, variant, owner)?;
+    put_name(out, name)?;
+    put_if(out, holds, word)
+}
+
+// A variant, a name and names.
+fn put_list(
+    out: &mut Vec<u8>,
+    variant: &[u8],
+    name: &Name,
+    names: &[Name],
+) -> Result<(), OutOfMemory> {
+    put_named(out, variant, name)?;
+    put_names(out, names)
+}
+
+// A variant, the name of an address set, and its members.
+fn put_set(
+    out: &mut Vec<u8>,
+    variant: &[u8],
+    name: &Name,
+    members: &[Member],
+) -> Result<(), OutOfMemory> {
+    put_named(out, variant, name)?;
+    put_members(out, members)
+}
+
+// A variant, the name of a switch or a router, and the load balancer that it leaves.
+fn put_left_balancer(
+    out: &mut Vec<u8>,
+    variant: &[u8],
+    owner: &Name,
+    lb: &Option<Name>,
+    if_exists: bool,
+) -> Result<(), OutOfMemory> {
+    put_named(out, variant, owner)?;
+    put_maybe_name(out, lb)?;
+    put_if(out, if_exists, b"if-exists")
+}
 
 /// Appends the edit: its variant, and its parts.
 pub(crate) fn put_edit(out: &mut Vec<u8>, edit: &Edit) -> Result<(), OutOfMemory> {
@@ -15,75 +82,69 @@ pub(crate) fn put_edit(out: &mut Vec<u8>, edit: &Edit) -> Result<(), OutOfMemory
 fn put_switch_edit(out: &mut Vec<u8>, edit: &Edit) -> Result<(), OutOfMemory> {
     match edit {
         Edit::LsAdd { name, may_exist } => {
-            out.extend_from_slice(b"LsAdd")?;
-            put_name(out, name)?;
-            put_if(out, *may_exist, b"may-exist")
+            put_flagged(out, b"LsAdd", name, *may_exist, b"may-exist")
         }
         Edit::LsDel { name, if_exists } => {
-            out.extend_from_slice(b"LsDel")?;
-            put_name(out, name)?;
-            put_if(out, *if_exists, b"if-exists")
+            put_flagged(out, b"LsDel", name, *if_exists, b"if-exists")
         }
         Edit::LspAdd {
             switch,
             port,
             may_exist,
-        } => {
-            out.extend_from_slice(b"LspAdd")?;
-            put_name(out, switch)?;
-            put_name(out, port)?;
-            put_if(out, *may_exist, b"may-exist")
-        }
+        } => { put_pair(out, b"LspAdd", switch, port, *may_exist, b"may-exist") }
         Edit::LspDel { port, if_exists } => {
-            out.extend_from_slice(b"LspDel")?;
-            put_name(out, port)?;
-            put_if(out, *if_exists, b"if-exists")
+            put_flagged(out, b"LspDel", port, *if_exists, b"if-exists")
         }
         Edit::LspSetAddresses { port, addresses } => {
-            out.extend_from_slice(b"LspSetAddresses")?;
-            put_name(out, port)?;
+            put_named(out, b"LspSetAddresses", port)?;
             put_addresses(out, addresses.as_slice())
         }
         Edit::LspSetPortSecurity { port, guards } => {
-            out.extend_from_slice(b"LspSetPortSecurity")?;
-            put_name(out, port)?;
+            put_named(out, b"LspSetPortSecurity", port)?;
             put_guards(out, guards.as_slice())
         }
         Edit::LspSetType { port, kind } => {
-            out.extend_from_slice(b"LspSetType")?;
-            put_name(out, port)?;
-            put_if(out, *kind == PortKind::Router, b"router")
+            put_flagged(
+                out,
+                b"LspSetType",
+                port,
+                *kind == PortKind::Router,
+                b"router",
+            )
         }
         Edit::LspSetOptions { port, router_port } => {
-            out.extend_from_slice(b"LspSetOptions")?;
-            put_name(out, port)?;
+            put_named(out, b"LspSetOptions", port)?;
             put_maybe_name(out, router_port)
         }
         Edit::LspSetEnabled { port, enabled } => {
-            out.extend_from_slice(b"LspSetEnabled")?;
-            put_name(out, port)?;
-            put_if(out, *enabled, b"enabled")
+            put_flagged(out, b"LspSetEnabled", port, *enabled, b"enabled")
         }
         _ => put_router_edit(out, edit),
     }
 }
 
+// The addresses of a router's port, and whether it may be there.
+fn put_addressed(
+    out: &mut Vec<u8>,
+    mac: Mac,
+    nets: &[Prefix],
+    may_exist: bool,
+) -> Result<(), OutOfMemory> {
+    put_spaced_mac(out, mac)?;
+    put_nets(out, nets)?;
+    put_if(out, may_exist, b"may-exist")
+}
+
 fn put_router_edit(out: &mut Vec<u8>, edit: &Edit) -> Result<(), OutOfMemory> {
     match edit {
         Edit::LrAdd { name, may_exist } => {
-            out.extend_from_slice(b"LrAdd")?;
-            put_name(out, name)?;
-            put_if(out, *may_exist, b"may-exist")
+            put_flagged(out, b"LrAdd", name, *may_exist, b"may-exist")
         }
         Edit::LrDel { name, if_exists } => {
-            out.extend_from_slice(b"LrDel")?;
-            put_name(out, name)?;
-            put_if(out, *if_exists, b"if-exists")
+            put_flagged(out, b"LrDel", name, *if_exists, b"if-exists")
         }
         Edit::LrpSetEnabled { port, enabled } => {
-            out.extend_from_slice(b"LrpSetEnabled")?;
-            put_name(out, port)?;
-            put_if(out, *enabled, b"enabled")
+            put_flagged(out, b"LrpSetEnabled", port, *enabled, b"enabled")
         }
         Edit::LrpAdd {
             router,
@@ -92,21 +153,15 @@ fn put_router_edit(out: &mut Vec<u8>, edit: &Edit) -> Result<(), OutOfMemory> {
             nets,
             may_exist,
         } => {
-            out.extend_from_slice(b"LrpAdd")?;
-            put_name(out, router)?;
+            put_named(out, b"LrpAdd", router)?;
             put_name(out, port)?;
-            put_spaced_mac(out, *mac)?;
-            put_nets(out, nets.as_slice())?;
-            put_if(out, *may_exist, b"may-exist")
+            put_addressed(out, *mac, nets.as_slice(), *may_exist)
         }
         Edit::LrpDel { port, if_exists } => {
-            out.extend_from_slice(b"LrpDel")?;
-            put_name(out, port)?;
-            put_if(out, *if_exists, b"if-exists")
+            put_flagged(out, b"LrpDel", port, *if_exists, b"if-exists")
         }
         Edit::SmbAdd { port, addr, mac } => {
-            out.extend_from_slice(b"SmbAdd")?;
-            put_name(out, port)?;
+            put_named(out, b"SmbAdd", port)?;
             put_spaced_ip(out, *addr)?;
             put_spaced_mac(out, *mac)
         }
@@ -115,8 +170,7 @@ fn put_router_edit(out: &mut Vec<u8>, edit: &Edit) -> Result<(), OutOfMemory> {
             addr,
             if_exists,
         } => {
-            out.extend_from_slice(b"SmbDel")?;
-            put_name(out, port)?;
+            put_named(out, b"SmbDel", port)?;
             put_spaced_ip(out, *addr)?;
             put_if(out, *if_exists, b"if-exists")
         }
@@ -133,8 +187,7 @@ fn put_route_edit(out: &mut Vec<u8>, edit: &Edit) -> Result<(), OutOfMemory> {
             port,
             by,
         } => {
-            out.extend_from_slice(b"LrRouteAdd")?;
-            put_name(out, router)?;
+            put_named(out, b"LrRouteAdd", router)?;
             put_net(out, *prefix)?;
             put_spaced_ip(out, *nexthop)?;
             put_maybe_name(out, port)?;
@@ -146,8 +199,7 @@ fn put_route_edit(out: &mut Vec<u8>, edit: &Edit) -> Result<(), OutOfMemory> {
             if_exists,
             by,
         } => {
-            out.extend_from_slice(b"LrRouteDel")?;
-            put_name(out, router)?;
+            put_named(out, b"LrRouteDel", router)?;
             put_maybe_net(out, *prefix)?;
             put_if(out, *if_exists, b"if-exists")?;
             put_policy(out, *by)
@@ -158,8 +210,7 @@ fn put_route_edit(out: &mut Vec<u8>, edit: &Edit) -> Result<(), OutOfMemory> {
             external,
             logical,
         } => {
-            out.extend_from_slice(b"LrNatAdd")?;
-            put_name(out, router)?;
+            put_named(out, b"LrNatAdd", router)?;
             put_nat_kind(out, *kind)?;
             put_spaced_ip(out, *external)?;
             put_net(out, *logical)
@@ -170,8 +221,7 @@ fn put_route_edit(out: &mut Vec<u8>, edit: &Edit) -> Result<(), OutOfMemory> {
             addr,
             if_exists,
         } => {
-            out.extend_from_slice(b"LrNatDel")?;
-            put_name(out, router)?;
+            put_named(out, b"LrNatDel", router)?;
             put_maybe_nat_kind(out, *kind)?;
             put_maybe_net(out, *addr)?;
             put_if(out, *if_exists, b"if-exists")
@@ -188,15 +238,13 @@ fn put_balancer_edit(out: &mut Vec<u8>, edit: &Edit) -> Result<(), OutOfMemory> 
             backends,
             proto,
         } => {
-            out.extend_from_slice(b"LbAdd")?;
-            put_name(out, lb)?;
+            put_named(out, b"LbAdd", lb)?;
             put_frontend(out, *at)?;
             put_backends(out, backends.as_slice())?;
             put_proto(out, *proto)
         }
         Edit::LbDel { lb, at, if_exists } => {
-            out.extend_from_slice(b"LbDel")?;
-            put_name(out, lb)?;
+            put_named(out, b"LbDel", lb)?;
             put_maybe_frontend(out, *at)?;
             put_if(out, *if_exists, b"if-exists")
         }
@@ -204,44 +252,36 @@ fn put_balancer_edit(out: &mut Vec<u8>, edit: &Edit) -> Result<(), OutOfMemory> 
             switch,
             lb,
             may_exist,
-        } => {
-            out.extend_from_slice(b"LsLbAdd")?;
-            put_name(out, switch)?;
-            put_name(out, lb)?;
-            put_if(out, *may_exist, b"may-exist")
-        }
+        } => { put_pair(out, b"LsLbAdd", switch, lb, *may_exist, b"may-exist") }
         Edit::LrLbAdd {
             router,
             lb,
             may_exist,
-        } => {
-            out.extend_from_slice(b"LrLbAdd")?;
-            put_name(out, router)?;
-            put_name(out, lb)?;
-            put_if(out, *may_exist, b"may-exist")
-        }
+        } => { put_pair(out, b"LrLbAdd", router, lb, *may_exist, b"may-exist") }
         Edit::LsLbDel {
             switch,
             lb,
             if_exists,
-        } => {
-            out.extend_from_slice(b"LsLbDel")?;
-            put_name(out, switch)?;
-            put_maybe_name(out, lb)?;
-            put_if(out, *if_exists, b"if-exists")
-        }
+        } => { put_left_balancer(out, b"LsLbDel", switch, lb, *if_exists) }
         Edit::LrLbDel {
             router,
             lb,
             if_exists,
-        } => {
-            out.extend_from_slice(b"LrLbDel")?;
-            put_name(out, router)?;
-            put_maybe_name(out, lb)?;
-            put_if(out, *if_exists, b"if-exists")
-        }
+        } => { put_left_balancer(out, b"LrLbDel", router, lb, *if_exists) }
         _ => put_acl_edit(out, edit),
     }
+}
+
+// What an ACL does, whether it may be there, and what it is of.
+fn put_outcome(
+    out: &mut Vec<u8>,
+    verdict: Verdict,
+    may_exist: bool,
+    of: Option<OwnerKind>,
+) -> Result<(), OutOfMemory> {
+    put_verdict(out, verdict)?;
+    put_if(out, may_exist, b"may-exist")?;
+    put_owner_kind(out, of)
 }
 
 fn put_acl_edit(out: &mut Vec<u8>, edit: &Edit) -> Result<(), OutOfMemory> {
@@ -255,13 +295,10 @@ fn put_acl_edit(out: &mut Vec<u8>, edit: &Edit) -> Result<(), OutOfMemory> {
             may_exist,
             of,
         } => {
-            out.extend_from_slice(b"AclAdd")?;
-            put_name(out, owner)?;
+            put_named(out, b"AclAdd", owner)?;
             put_way(out, *way)?;
             put_rule(out, *priority, matching)?;
-            put_verdict(out, *verdict)?;
-            put_if(out, *may_exist, b"may-exist")?;
-            put_owner_kind(out, *of)
+            put_outcome(out, *verdict, *may_exist, *of)
         }
         Edit::AclDel {
             owner,
@@ -269,8 +306,7 @@ fn put_acl_edit(out: &mut Vec<u8>, edit: &Edit) -> Result<(), OutOfMemory> {
             rule,
             of,
         } => {
-            out.extend_from_slice(b"AclDel")?;
-            put_name(out, owner)?;
+            put_named(out, b"AclDel", owner)?;
             put_maybe_way(out, *way)?;
             put_maybe_rule(out, rule)?;
             put_owner_kind(out, *of)
@@ -281,35 +317,15 @@ fn put_acl_edit(out: &mut Vec<u8>, edit: &Edit) -> Result<(), OutOfMemory> {
 
 fn put_set_edit(out: &mut Vec<u8>, edit: &Edit) -> Result<(), OutOfMemory> {
     match edit {
-        Edit::PgAdd { name, ports } => {
-            out.extend_from_slice(b"PgAdd")?;
-            put_name(out, name)?;
-            put_names(out, ports.as_slice())
-        }
-        Edit::PgSetPorts { name, ports } => {
-            out.extend_from_slice(b"PgSetPorts")?;
-            put_name(out, name)?;
-            put_names(out, ports.as_slice())
-        }
+        Edit::PgAdd { name, ports } => { put_list(out, b"PgAdd", name, ports.as_slice()) }
+        Edit::PgSetPorts { name, ports } => { put_list(out, b"PgSetPorts", name, ports.as_slice()) }
         Edit::PgDel { name, if_exists } => {
-            out.extend_from_slice(b"PgDel")?;
-            put_name(out, name)?;
-            put_if(out, *if_exists, b"if-exists")
+            put_flagged(out, b"PgDel", name, *if_exists, b"if-exists")
         }
-        Edit::AsAdd { name, members } => {
-            out.extend_from_slice(b"AsAdd")?;
-            put_name(out, name)?;
-            put_members(out, members.as_slice())
-        }
-        Edit::AsSet { name, members } => {
-            out.extend_from_slice(b"AsSet")?;
-            put_name(out, name)?;
-            put_members(out, members.as_slice())
-        }
+        Edit::AsAdd { name, members } => { put_set(out, b"AsAdd", name, members.as_slice()) }
+        Edit::AsSet { name, members } => { put_set(out, b"AsSet", name, members.as_slice()) }
         Edit::AsDel { name, if_exists } => {
-            out.extend_from_slice(b"AsDel")?;
-            put_name(out, name)?;
-            put_if(out, *if_exists, b"if-exists")
+            put_flagged(out, b"AsDel", name, *if_exists, b"if-exists")
         }
         _ => Ok(()),
     }

@@ -42,14 +42,24 @@ fn put_fault(out: &mut Vec<u8>, offset: u32) -> Result<(), OutOfMemory> {
     put_dec(out, u128::from(offset))
 }
 
+fn put_too_long(out: &mut Vec<u8>) -> Result<(), OutOfMemory> {
+    out.extend_from_slice(b"too-long")?;
+    Ok(())
+}
+
+/// Appends the text of the line's action list, or its fault.
+fn put_text(alloc: Global, out: &mut Vec<u8>, line: &[u8]) -> Result<(), OutOfMemory> {
+    match read(alloc, line) {
+        Ok(actions) => put_list(out, &actions),
+        Err(Fault::Syntax(offset)) => put_fault(out, offset),
+        Err(Fault::TooLong) => put_too_long(out),
+        Err(Fault::Memory) => Err(OutOfMemory),
+    }
+}
+
 /// Appends the answer to a line: the text of its action list, or its fault.
 pub(crate) fn put_answer(alloc: Global, out: &mut Vec<u8>, line: &[u8]) -> Result<(), OutOfMemory> {
-    match read(alloc, line) {
-        Ok(actions) => put_list(out, &actions)?,
-        Err(Fault::Syntax(offset)) => put_fault(out, offset)?,
-        Err(Fault::TooLong) => out.extend_from_slice(b"too-long")?,
-        Err(Fault::Memory) => return Err(OutOfMemory),
-    }
+    put_text(alloc, out, line)?;
     out.push(b'\n')?;
     Ok(())
 }

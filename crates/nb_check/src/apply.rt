@@ -42,7 +42,10 @@ pub(crate) fn apply(
 {
     let edit = tested(alloc, records, edit)?;
     let kinds = may_rise(&edit);
-    let mut after = known.after(alloc, records, &edit)?;
+    let Ok(mut after) = known.after(alloc, records, &edit) else {
+        drop(edit);
+        return Err(LineFault::Memory);
+    };
     let done = nb_change::edit(alloc, records, edit)?;
     let undo = keep(alloc, records, &mut after, kinds, done)?;
     *known = after;

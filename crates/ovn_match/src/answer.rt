@@ -126,6 +126,39 @@ fn put_microflow(out: &mut Vec<u8>, micro: &Micro) -> Result<(), OutOfMemory> {
     put_packet(out, &micro.packet)
 }
 
+/// Appends the canonical text of the match in this role, and how often it held if that was asked.
+fn put_checked(
+    alloc: Global,
+    out: &mut Vec<u8>,
+    expr: &Expr,
+    role: Role,
+    times: u32,
+) -> Result<(), Fault> {
+    let typed = check(alloc, expr, role)?;
+    Ok(put_match(out, &typed, times)?)
+}
+
+/// Appends what the match says as a microflow.
+fn put_packet_of(alloc: Global, out: &mut Vec<u8>, expr: &Expr) -> Result<(), Fault> {
+    let micro = microflow(alloc, expr)?;
+    Ok(put_microflow(out, &micro)?)
+}
+
+/// Appends what is asked of the match.
+fn put_reply(
+    alloc: Global,
+    out: &mut Vec<u8>,
+    question: Question,
+    expr: &Expr,
+    times: u32,
+) -> Result<(), Fault> {
+    match question {
+        Question::Read => Ok(put_tree(out, expr)?),
+        Question::Check(role) => put_checked(alloc, out, expr, role, times),
+        Question::Packet => put_packet_of(alloc, out, expr),
+    }
+}
+
 /// Appends the canonical text of the match, and how often it held if that was asked, or what it says as a microflow.
 fn put_text(alloc: Global, out: &mut Vec<u8>, line: &[u8], times: u32) -> Result<(), Fault> {
     let (question, text) = split_question(line);
@@ -133,12 +166,7 @@ fn put_text(alloc: Global, out: &mut Vec<u8>, line: &[u8], times: u32) -> Result
         return Err(Fault::TooLong);
     }
     let expr = parse_match(alloc, text)?;
-    match question {
-        Question::Read => put_tree(out, &expr)?,
-        Question::Check(role) => put_match(out, &check(alloc, &expr, role)?, times)?,
-        Question::Packet => put_microflow(out, &microflow(alloc, &expr)?)?,
-    }
-    Ok(())
+    put_reply(alloc, out, question, &expr, times)
 }
 
 fn put_fault(out: &mut Vec<u8>, name: &str, offset: u32) -> Result<(), OutOfMemory> {

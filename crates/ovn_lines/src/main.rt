@@ -6,6 +6,8 @@ mod edit;
 mod parts;
 
 use answer::put_answer;
+use nv_base::OutOfMemory;
+use std::alloc::Global;
 use std::io::{self, ErrorKind, Read, Write};
 
 fn main(rt: HostRuntime) -> io::Result<()> {
@@ -13,8 +15,14 @@ fn main(rt: HostRuntime) -> io::Result<()> {
     let mut input = Vec::new(alloc);
     rt.stdin().read_to_end(&mut input)?;
     let mut output = Vec::new(alloc);
-    for line in input.as_slice().split(|byte| *byte == b'\n') {
-        put_answer(alloc, &mut output, line).map_err(|_| ErrorKind::OutOfMemory)?;
-    }
+    put_answers(alloc, &mut output, &input).map_err(|_| ErrorKind::OutOfMemory)?;
     rt.stdout().write_all(&output)
+}
+
+// Puts the answer to each line.
+fn put_answers(alloc: Global, output: &mut Vec<u8>, input: &[u8]) -> Result<(), OutOfMemory> {
+    for line in input.split(|byte| *byte == b'\n') {
+        put_answer(alloc, output, line)?;
+    }
+    Ok(())
 }

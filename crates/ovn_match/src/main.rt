@@ -7,6 +7,8 @@ mod answer;
 mod nothing;
 
 use answer::put_answer;
+use nv_base::OutOfMemory;
+use std::alloc::Global;
 use std::env;
 use std::io::{self, ErrorKind, Read, Write};
 
@@ -20,9 +22,20 @@ fn main(rt: HostRuntime) -> io::Result<()> {
     let mut input = Vec::new(alloc);
     rt.stdin().read_to_end(&mut input)?;
     let mut output = Vec::new(alloc);
-    for line in input.as_slice().split_inclusive(|byte| *byte == b'\n') {
-        let text = line.strip_suffix(b"\n").unwrap_or(line);
-        put_answer(alloc, &mut output, text, times).map_err(|_| ErrorKind::OutOfMemory)?;
-    }
+    put_answers(alloc, &mut output, &input, times).map_err(|_| ErrorKind::OutOfMemory)?;
     rt.stdout().write_all(&output)
+}
+
+// Puts the answer to each line.
+fn put_answers(
+    alloc: Global,
+    output: &mut Vec<u8>,
+    input: &[u8],
+    times: u32,
+) -> Result<(), OutOfMemory> {
+    for line in input.split_inclusive(|byte| *byte == b'\n') {
+        let text = line.strip_suffix(b"\n").unwrap_or(line);
+        put_answer(alloc, output, text, times)?;
+    }
+    Ok(())
 }

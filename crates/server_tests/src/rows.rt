@@ -184,6 +184,7 @@ fn a_switch_is_listed_in_row_order(rt: HostRuntime) {
 Datapath: sw0  Pipeline: egress
   table=4 (ls_out_check_port_sec), priority=0, hint=0, match=(1), action=(output;)
 ";
+    drop(rows);
     assert!(rt; out.as_slice() == want.as_bytes());
 }
 
@@ -198,6 +199,7 @@ fn datapaths_are_listed_by_name_list_and_one_alone(rt: HostRuntime) {
     let names = [(2, "lr"), (1, "ls")];
     let one = listing(&rows, &names, Some(ObjId(1)), rt.alloc(), &rt);
     let both = listing(&rows, &names, None, rt.alloc(), &rt);
+    drop(rows);
     let router = "Datapath: lr  Pipeline: ingress
 Datapath: lr  Pipeline: egress
   table=2 (lr_out_delivery), priority=7, hint=0, match=(1), action=(output;)
@@ -273,6 +275,7 @@ fn a_packet_meets_the_first_row_of_its_table_that_takes_it(rt: HostRuntime) {
     ] {
         assert!(rt; met(&rows, dp, stage, &packet) == expected);
     }
+    drop(rows);
 }
 
 // A row to the MAC of this last byte, and out by this port.

@@ -1,9 +1,9 @@
 //! Records with two kinds of tags, for the tests of tables.
 ghost use Rattle.std.specs.Prelude.{◌≡◌, IfOk};
 
-use nb_table::Record;
 use nv_base::{Items, Kept, Name, ObjId, OutOfMemory};
 use nv_map::Probe;
+use nv_table::Record;
 use std::alloc::Global;
 use std::cmp::Ordering;
 

@@ -1,10 +1,10 @@
 // What no clause says: that each generic call does its work at a concrete record, and that calls can succeed.
 ghost use Rattle.std.specs.Prelude.{◌≡◌, None, Some};
-ghost use Rattle.nb_table.specs.Table.{record_of};
+ghost use Rattle.nv_table.specs.Table.{record_of};
 
 use crate::ports::{Port, TagRef};
-use nb_table::{Loose, Record, Table};
 use nv_base::{Name, ObjId, OutOfMemory};
+use nv_table::{Loose, Record, Table};
 use std::alloc::Global;
 use std::test::Fail;
 

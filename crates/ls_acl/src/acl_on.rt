@@ -17,7 +17,7 @@ use crate::actions::{blocks, ending, goes_on, passes};
 use act_core::Action;
 use expr_core::{Pred, Typed};
 use inc_table::Maker;
-use nb_core::{Verdict, Way};
+use nb_records::{Verdict, Way};
 use net_rows::{AclOnInput, Rule, Unit};
 use nv_base::{Items, Kept, ObjId, OutOfMemory};
 use sb_model::{Stage, both, predicate};

@@ -6,13 +6,10 @@ ghost use Rattle.ls_acl.specs.inner.Parts.{blocks};
 
 use act_core::{Action, Step};
 use expr_core::Bits;
-use nb_core::Verdict;
+use nb_records::Verdict;
 use nv_base::{Field, Items, OutOfMemory};
-use sb_model::{in_decimal, one_step};
+use sb_model::{DatapathKind, in_decimal, one_step};
 use std::alloc::Global;
-
-// The table of egress by which packets go out.
-const LAST_TABLE: u8 = 4;
 
 /// The packet goes on.
 pub(crate) fn goes_on(alloc: Global) -> Result<Items<Action>, OutOfMemory>
@@ -69,7 +66,7 @@ fn rejects(alloc: Global) -> Result<Action, OutOfMemory>
         Step::Set(Field::FlagsLoopback, Bits::Whole, in_decimal(1)),
         Step::Jump {
             egress: true,
-            table: LAST_TABLE,
+            table: DatapathKind::Switch.last_table(),
         },
     ]?;
     Ok(Action::Reject(Items::from_items(block)))

@@ -3,8 +3,8 @@ use Rattle.std.proofs.Common.{◌≡◌, ℕ, ◌==◌, Bool, List, [], ◌∷�
 use Rattle.std.specs.Prelude.{◌||◌, if◌then◌else◌, Option, Some}
 use Rattle.std.specs.List.{flat_map, list_any}
 use Rattle.std.proofs.lemmas.List.Folds.{list_any-append}
-use Rattle.nb_core.specs.declared.switch.Addr.{Addr}
-use Rattle.nb_net.specs.Readable.{macs_of}
+use Rattle.nb_records.specs.declared.switch.Addr.{Addr}
+use Rattle.nb_model.specs.Readable.{macs_of}
 use Rattle.net_rows.specs.Lookup.{more_macs}
 
 -- one of all the pieces passes where one of the piece of some element does

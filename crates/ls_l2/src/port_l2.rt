@@ -1,7 +1,7 @@
 ghost use Rattle.std.specs.Prelude.{◌≡◌, ◌++◌, ◌&&◌, ◌==◌, map, IfOk, OnOk};
 ghost use Rattle.std.specs.List.{flat_map, list_any};
-ghost use Rattle.nb_net.specs.Belongs.{is_router_kind};
-ghost use Rattle.nb_net.specs.Readable.{macs_of};
+ghost use Rattle.nb_model.specs.Belongs.{is_router_kind};
+ghost use Rattle.nb_model.specs.Readable.{macs_of};
 ghost use Rattle.net_meaning.specs.Switches.{is_router_word};
 ghost use Rattle.net_rows.specs.Lookup.{arp_rules, arp_rules_of, lookup_rule, more_macs, looked_up, host_rules, port_l2_rules};
 ghost use Rattle.net_rows.specs.Unit.{said_by, unit_of, unit_rows};
@@ -9,7 +9,7 @@ ghost use Rattle.ls_l2.specs.inner.Macs.{own_macs, peer_macs};
 
 use crate::arp::add_arp_rows;
 use inc_table::Maker;
-use nb_core::{Addr, PortKind};
+use nb_records::{Addr, PortKind};
 use net_rows::{PortL2Input, Rule, Unit};
 use nv_base::{Field, Ip4, Kept, Mac, Name, ObjId, OutOfMemory};
 use sb_model::{Stage, as_mac, equals, goes_out_by};

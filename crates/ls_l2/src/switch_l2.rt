@@ -1,5 +1,6 @@
+ghost use Rattle.nv_base.specs.Name.{flood_group, unknown_group};
 ghost use Rattle.std.specs.Prelude.{◌≡◌, [], ◌∷◌, ◌++◌, IfOk, OnOk};
-ghost use Rattle.sb_model.specs.Make.{takes_each, is_predicate, steps, goes_out_by, flood_group, unknown_group};
+ghost use Rattle.sb_model.specs.Make.{takes_each, is_predicate, steps, goes_out_by};
 ghost use Rattle.net_rows.specs.Lookup.{switch_l2_rules, unknown_rules};
 ghost use Rattle.net_rows.specs.Unit.{rule, said_by, unit_of_datapath, unit_rows};
 
@@ -7,7 +8,7 @@ use act_core::Step;
 use expr_core::Pred;
 use inc_table::Maker;
 use net_rows::{Rule, SwitchL2Input, Unit};
-use nv_base::{Name, ObjId, OutOfMemory};
+use nv_base::{FLOOD_GROUP, Name, ObjId, OutOfMemory, UNKNOWN_GROUP};
 use sb_model::{Stage, goes_out_by, one_step, predicate, takes_each};
 use sb_rows::{NewRows, RowList};
 use std::alloc::Global;
@@ -113,7 +114,7 @@ fn last_rule(alloc: Global, stage: Stage, step: Step) -> Result<Rule, OutOfMemor
 fn flood_rule(alloc: Global) -> Result<Rule, OutOfMemory>
     ensures { IfOk result (λ r. r ≡ rule Stage.LsInL2Lkup 100 (is_predicate Pred.EthMcast) (goes_out_by flood_group)) }
 {
-    let actions = goes_out_by(alloc, Name::from_slice(alloc, b"_MC_flood")?)?;
+    let actions = goes_out_by(alloc, Name::from_slice(alloc, FLOOD_GROUP)?)?;
     Ok(Rule {
         stage: Stage::LsInL2Lkup,
         priority: 100,
@@ -141,7 +142,7 @@ fn add_unknown_rows(
 fn unknown_rule(alloc: Global) -> Result<Rule, OutOfMemory>
     ensures { IfOk result (λ r. r ≡ rule Stage.LsInL2Unknown 50 takes_each (goes_out_by unknown_group)) }
 {
-    let actions = goes_out_by(alloc, Name::from_slice(alloc, b"_MC_unknown")?)?;
+    let actions = goes_out_by(alloc, Name::from_slice(alloc, UNKNOWN_GROUP)?)?;
     Ok(Rule {
         stage: Stage::LsInL2Unknown,
         priority: 50,

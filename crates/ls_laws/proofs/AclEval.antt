@@ -13,16 +13,16 @@ use Rattle.pkt_core.specs.declared.replies.IcmpReason.TheVariants.{PortUnreachab
 use Rattle.expr_eval.specs.MatchMeaning.{holds}
 use Rattle.act_core.specs.declared.step.Step.{Step}
 use Rattle.act_core.specs.declared.step.Step.TheVariants.{Jump}
-use Rattle.nb_core.specs.declared.acl.Acl.{Acl}
-use Rattle.nb_core.specs.declared.acl.Verdict.{Verdict}
-use Rattle.nb_core.specs.declared.acl.Verdict.TheVariants as verdict
-use Rattle.nb_core.specs.declared.acl.Way.{Way}
-use Rattle.nb_core.specs.declared.acl.Way.TheVariants.{From, To}
-use Rattle.nb_core.specs.declared.switch.Switch.{Switch}
-use Rattle.nb_net.specs.Belongs.{same_way}
-use Rattle.nb_net.specs.Names.{names}
-use Rattle.nb_net.specs.Network.{Network}
-use Rattle.nb_net.specs.Readable.{is_priority}
+use Rattle.nb_records.specs.declared.acl.Acl.{Acl}
+use Rattle.nb_records.specs.declared.acl.Verdict.{Verdict}
+use Rattle.nb_records.specs.declared.acl.Verdict.TheVariants as verdict
+use Rattle.nb_records.specs.declared.acl.Way.{Way}
+use Rattle.nb_records.specs.declared.acl.Way.TheVariants.{From, To}
+use Rattle.nb_records.specs.declared.switch.Switch.{Switch}
+use Rattle.nb_model.specs.Belongs.{same_way}
+use Rattle.nb_model.specs.Names.{names}
+use Rattle.nb_model.specs.Network.{Network}
+use Rattle.nb_model.specs.Readable.{is_priority}
 use Rattle.sb_model.specs.Make.{goes_on, drops, turns_back}
 use Rattle.sb_model.specs.Stage.{all_stages, next_stage, stage_at, stage_place}
 use Rattle.sb_model.specs.declared.row.Row.{Row}
@@ -46,13 +46,15 @@ use Rattle.net_rows.proofs.Units.{rows-acl, rows-switch, rows-in_order}
 use Rattle.tr_stage.specs.declared.outcome.Outcome.TheVariants.{Made, Drop}
 use Rattle.tr_stage.specs.Machine.{acted, answer_for, answered, run_actions, step}
 use Rattle.tr_stage.specs.Machine.StageEnd.{On, Ends}
-use Rattle.ls_laws.specs.Steps.{IsOn, DecidesIn, DecidesOut, decided, flows_at, last_table, rejected, sent_back}
+use Rattle.ls_laws.specs.Steps.{IsOn, DecidesIn, DecidesOut, decided, flows_at, rejected, sent_back}
 use Rattle.ls_laws.proofs.Deciding.{Rises, IsAfter, IsFirst, first_of, rises_kept}
 use Rattle.ls_laws.proofs.PassingStages.{passing}
 use Rattle.ls_laws.proofs.RuleStages.{rules_at, among_rules_at, from_rules_at, the_only, is_of_security, is_of_addresses, is_of_acls, port_rule_stage, untracked_rule, untracked_rules, switch_rules-untracked, tracks_none, acl_rule-gives}
 use Rattle.ls_laws.proofs.Selected.{first_of_takers}
 use Rattle.ls_laws.proofs.Tables.{IsSwitchRule, IsPortRule, IsAclRule, IsRule, filter_passes, table-gives}
 use Rattle.ls_laws.proofs.Takers.{lower_after, later_after, step_by}
+use Rattle.sb_model.specs.Stage.{last_table}
+use Rattle.sb_model.specs.declared.stage.DatapathKind.TheVariants.{Switch}
 
 -- ---- what the actions of an ACL do
 
@@ -70,7 +72,7 @@ answer_is packet = by (meets packet Tcp) refl (is_answerable packet)
 
 -- what is done to the packet that answers
 abbrev block : List Step
-block = turns_back ++ Jump true last_table ∷ []
+block = turns_back ++ Jump true (last_table Switch) ∷ []
 
 -- the stage after that of a direction
 abbrev next_of : Way → Stage
@@ -91,7 +93,7 @@ module _ (net : Network) (way : Way) (packet : Values) where
   rejected_is w = ap (answered (names net) (stage_of w) block) (answer_is packet) ∙ by w (is_answerable packet)
     where
       by : (v : Way) (may : Bool) → answered (names net) (stage_of v) block (cond may (Some (rejection packet)) None)
-          ≡ cond may (Ends (Some (Made (sent_back (rejection packet)) last_table Reject))) (Ends (Some (Drop acl_cause)))
+          ≡ cond may (Ends (Some (Made (sent_back (rejection packet)) (last_table Switch) Reject))) (Ends (Some (Drop acl_cause)))
       by From true = refl
       by From false = refl
       by To true = refl

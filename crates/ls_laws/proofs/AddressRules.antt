@@ -6,12 +6,12 @@ use Rattle.std.proofs.lemmas.Bool.{false≢true, not-true}
 use Rattle.std.proofs.lemmas.List.Elements.{Contains-append_left, Contains-append_right, Contains-append_cases}
 use Rattle.nv_base.specs.declared.ip4.Ip4.{Ip4}
 use Rattle.nv_base.specs.declared.field.Field.TheVariants.{Inport}
-use Rattle.nb_core.specs.declared.switch.Addr.{Addr}
-use Rattle.nb_core.specs.declared.switch.Addr.TheVariants as addr
-use Rattle.nb_core.specs.declared.switch.Port.{Port}
-use Rattle.nb_net.specs.Addresses.{macs}
-use Rattle.nb_net.specs.Belongs.{is_router_kind, is_to_router, peer_router_port}
-use Rattle.nb_net.specs.Network.{Network}
+use Rattle.nb_records.specs.declared.switch.Addr.{Addr}
+use Rattle.nb_records.specs.declared.switch.Addr.TheVariants as addr
+use Rattle.nb_records.specs.declared.switch.Port.{Port}
+use Rattle.nb_model.specs.Addresses.{macs}
+use Rattle.nb_model.specs.Belongs.{is_router_kind, is_to_router, peer_router_port}
+use Rattle.nb_model.specs.Network.{Network}
 use Rattle.net_meaning.specs.Stateless.{IsStateless}
 use Rattle.net_meaning.specs.Switches.{all_macs, is_router_word, mac_of_peer}
 use Rattle.sb_model.specs.Make.{all_of, goes_on, is_port, steps}

@@ -13,14 +13,14 @@ use Rattle.pkt_core.specs.Packet.{Values, place, value, with_value, with_values}
 use Rattle.pkt_core.specs.Prerequisite.{is_there}
 use Rattle.pkt_core.specs.Replies.{arp_reply}
 use Rattle.expr_eval.specs.MatchMeaning.{holds}
-use Rattle.nb_core.specs.declared.switch.Addr.{Addr}
-use Rattle.nb_core.specs.declared.switch.Addr.TheVariants as addr
-use Rattle.nb_core.specs.declared.switch.Port.{Port}
-use Rattle.nb_core.specs.declared.switch.Switch.{Switch}
-use Rattle.nb_net.specs.Belongs.{is_to_router}
-use Rattle.nb_net.specs.Names.{names}
-use Rattle.nb_net.specs.Network.{Network}
-use Rattle.nb_net.specs.Readable.{ips_of}
+use Rattle.nb_records.specs.declared.switch.Addr.{Addr}
+use Rattle.nb_records.specs.declared.switch.Addr.TheVariants as addr
+use Rattle.nb_records.specs.declared.switch.Port.{Port}
+use Rattle.nb_records.specs.declared.switch.Switch.{Switch}
+use Rattle.nb_model.specs.Belongs.{is_to_router}
+use Rattle.nb_model.specs.Names.{names}
+use Rattle.nb_model.specs.Network.{Network}
+use Rattle.nb_model.specs.Readable.{ips_of}
 use Rattle.sb_model.specs.Make.{all_of, goes_on, is_port, steps}
 use Rattle.sb_model.specs.Stage.{all_stages, next_stage, pipeline_of, stage_at, stage_place}
 use Rattle.sb_model.specs.declared.row.Row.{Row}

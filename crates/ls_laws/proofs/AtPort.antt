@@ -11,11 +11,11 @@ use Rattle.pkt_core.specs.Packet.{Values, value}
 use Rattle.pkt_core.specs.Prerequisite.{meets, is_there}
 use Rattle.expr_eval.specs.MatchMeaning.{holds}
 use Rattle.expr_eval.specs.Relation.{is_of_port}
-use Rattle.nb_core.specs.declared.router.RouterPort.{RouterPort}
-use Rattle.nb_core.specs.declared.switch.Port.{Port}
-use Rattle.nb_net.specs.Names.{names, port_number}
-use Rattle.nb_net.specs.Network.{Network}
-use Rattle.nb_net.specs.Sound.{IsSound}
+use Rattle.nb_records.specs.declared.router.RouterPort.{RouterPort}
+use Rattle.nb_records.specs.declared.switch.Port.{Port}
+use Rattle.nb_model.specs.Names.{names, port_number}
+use Rattle.nb_model.specs.Network.{Network}
+use Rattle.nb_model.specs.Sound.{IsSound}
 use Rattle.sb_model.specs.Make.{is_port}
 use Rattle.net_rows.proofs.Elements.{one_of, one_of_none}
 use Rattle.net_rows.proofs.Sound.{PortsRise, ports_rise, port_of_sound}

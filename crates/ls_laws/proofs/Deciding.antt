@@ -4,8 +4,8 @@ use Rattle.std.specs.Prelude.{Option, Some, fold}
 use Rattle.std.specs.List.{AllByRecursion, Contains, filter}
 use Rattle.std.proofs.lemmas.Bool.{ltb-true}
 use Rattle.std.proofs.lemmas.Bool.Decides.{nat_tests}
-use Rattle.nb_core.specs.declared.acl.Acl.{Acl}
-use Rattle.nb_table.specs.Table.{NumbersRise}
+use Rattle.nb_records.specs.declared.acl.Acl.{Acl}
+use Rattle.nv_table.specs.Table.{NumbersRise}
 use Rattle.net_meaning.specs.AclVerdict.{higher}
 use Rattle.net_rows.proofs.Elements.{one_of, one_of_none, one_first, one_later}
 

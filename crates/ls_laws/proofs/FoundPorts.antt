@@ -4,7 +4,7 @@ use Rattle.std.specs.Prelude.{Some, None}
 use Rattle.std.specs.List.{Contains, find}
 use Rattle.std.proofs.lemmas.Bool.{false≢true}
 use Rattle.std.proofs.lemmas.Option.{same_Some, none-some}
-use Rattle.nb_core.specs.declared.switch.Port.{Port}
+use Rattle.nb_records.specs.declared.switch.Port.{Port}
 use Rattle.net_rows.proofs.Elements.{one_of, one_of_none, one_first, one_later}
 use Rattle.net_rows.proofs.Sound.{PortsRise}
 use Rattle.ls_laws.proofs.RuleStages.{each_of}

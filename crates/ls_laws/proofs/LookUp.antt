@@ -1,4 +1,5 @@
 -- The lookup of destinations finds the port that the meaning finds, and sends what no port has to the ports for unknown addresses.
+use Rattle.nv_base.specs.Name.{flood_group, unknown_group}
 use Rattle.std.proofs.Common.{◌≡◌, ℕ, ◌<◌, Bool, true, false, cond, List, [], ◌∷◌, eqb, sym, ap, refl, ◌∙◌, subst, ◌⊎◌, inl, inr, lit<}
 use Rattle.std.specs.Prelude.{◌||◌, ◌&&◌, Option, Some, None}
 use Rattle.std.specs.Ordering.{is_gt}
@@ -10,11 +11,11 @@ use Rattle.nv_base.specs.declared.field.Field.TheVariants.{EthDst}
 use Rattle.pkt_core.specs.Packet.{Values, value}
 use Rattle.expr_core.specs.declared.predicate.Pred.TheVariants.{EthMcast}
 use Rattle.expr_eval.specs.MatchMeaning.{holds}
-use Rattle.nb_core.specs.declared.switch.Port.{Port}
-use Rattle.nb_core.specs.declared.switch.Switch.{Switch}
-use Rattle.nb_net.specs.Names.{names}
-use Rattle.nb_net.specs.Network.{Network}
-use Rattle.sb_model.specs.Make.{takes_each, is_predicate, goes_on, drops, goes_out, goes_out_by, flood_group, unknown_group}
+use Rattle.nb_records.specs.declared.switch.Port.{Port}
+use Rattle.nb_records.specs.declared.switch.Switch.{Switch}
+use Rattle.nb_model.specs.Names.{names}
+use Rattle.nb_model.specs.Network.{Network}
+use Rattle.sb_model.specs.Make.{takes_each, is_predicate, goes_on, drops, goes_out, goes_out_by}
 use Rattle.sb_model.specs.Stage.{all_stages, next_stage, pipeline_of, stage_at, stage_place}
 use Rattle.sb_model.specs.declared.row.Row.{Row}
 use Rattle.sb_model.specs.declared.stage.Stage.{Stage}
@@ -36,7 +37,7 @@ use Rattle.net_rows.proofs.Units.{rows-switch, rows-port, rows-in_order}
 use Rattle.tr_stage.specs.declared.outcome.Outcome.TheVariants.{Drop}
 use Rattle.tr_stage.specs.Machine.{acted, after, bound_for, run_actions, step}
 use Rattle.tr_stage.specs.Machine.StageEnd.{On, Ends}
-use Rattle.ls_laws.specs.Steps.{IsOn, LooksUp, FindsNone, flood_number, flows_at, found_at, leaves_by, sent_unknown, unknown_number}
+use Rattle.ls_laws.specs.Steps.{IsOn, LooksUp, FindsNone, flows_at, found_at, leaves_by, sent_unknown}
 use Rattle.ls_laws.proofs.AddressRules.{IsAddressRule, address_rule-gives, is_host, lookup-from}
 use Rattle.ls_laws.proofs.AddressRules.IsAddressRule.{Own, Asked, ForMac}
 use Rattle.ls_laws.proofs.FoundPorts.{IsFoundPort, found_port, found_none}
@@ -45,6 +46,7 @@ use Rattle.ls_laws.proofs.RuleStages.{rules_at, among_rules_at, from_rules_at, i
 use Rattle.ls_laws.proofs.Selected.{first_of_takers}
 use Rattle.ls_laws.proofs.Tables.{IsSwitchRule, IsPortRule, IsRule, table-gives}
 use Rattle.ls_laws.proofs.Takers.{lower_after, later_after, step_by}
+use Rattle.nv_base.specs.Object.{flood_number, unknown_number}
 
 -- ---- the lookup
 

@@ -5,19 +5,19 @@ use Rattle.std.proofs.lemmas.List.{get_or-set_same, get_or-set_other, length-set
 use Rattle.std.proofs.lemmas.Grind.{same_number_lists}
 use Rattle.nv_base.specs.declared.field.Field.{Field}
 use Rattle.nv_base.specs.declared.field.Field.TheVariants.{Inport}
-use Rattle.nv_base.specs.Field.{field_width, all_fields}
+use Rattle.nv_base.specs.Field.{field_count, field_width, all_fields}
 use Rattle.pkt_core.specs.Packet.{Values, IsPacket, place, value, with_value, only}
 use Rattle.pkt_core.proofs.Only.{place_at, place_within, field_at, only_value, length-only}
 
 -- the number that a field was given
-pub set_value : (packet : Values) (field : Field) (number : ℕ) → length packet ≡ 36 → value (with_value packet field number) field ≡ number
+pub set_value : (packet : Values) (field : Field) (number : ℕ) → length packet ≡ field_count → value (with_value packet field number) field ≡ number
 set_value packet field number long = get_or-set_same packet (place field) number 0 (rw long (place_within field))
 
 -- another field's number
 pub other_value : (packet : Values) (changed field : Field) (number : ℕ) → eqb (place changed) (place field) ≡ false → value (with_value packet changed number) field ≡ value packet field
 other_value packet changed field number other = get_or-set_other packet (place changed) (place field) number 0 (λ same. false≢true (sym other ∙ eq-eqb (place changed) (place field) (sym same)))
 
-pub with_length : (packet : Values) (field : Field) (number : ℕ) → length packet ≡ 36 → length (with_value packet field number) ≡ 36
+pub with_length : (packet : Values) (field : Field) (number : ℕ) → length packet ≡ field_count → length (with_value packet field number) ≡ field_count
 with_length packet field number long = length-set packet (place field) number ∙ long
 
 -- fields at one place are one
@@ -25,10 +25,10 @@ pub same_place : (f g : Field) → place f ≡ place g → f ≡ g
 same_place f g same = sym (field_at f f) ∙ ap (λ i. get_or all_fields i f) same ∙ field_at g f
 
 -- packets of the same numbers are one
-pub same_packets : (a b : Values) → length a ≡ 36 → length b ≡ 36 → ((field : Field) → value a field ≡ value b field) → a ≡ b
+pub same_packets : (a b : Values) → length a ≡ field_count → length b ≡ field_count → ((field : Field) → value a field ≡ value b field) → a ≡ b
 same_packets a b long also same =
     same_number_lists a b (long ∙ sym also) (λ k below.
-    let within : k < 36 = rw (sym long) below in
+    let within : k < field_count = rw (sym long) below in
     let at = place_at k Inport within in
     subst (λ i. get_or a i 0 ≡ get_or b i 0) at (same (get_or all_fields k Inport)))
 

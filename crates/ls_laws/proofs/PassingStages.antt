@@ -9,8 +9,8 @@ use Rattle.sb_model.specs.Stage.{all_stages, next_stage, stage_at, stage_place}
 use Rattle.sb_model.specs.declared.row.Row.{Row}
 use Rattle.sb_model.specs.declared.stage.Stage.{Stage}
 use Rattle.sb_model.specs.declared.stage.Stage.TheVariants.{LsInPreAcl, LsInPreStateful, LsInAclEval, LsInLb, LsInStateful, LsInArpRsp, LsOutPreAcl, LsOutPreStateful, LsOutAclEval, LsOutStateful, LsOutCheckPortSec}
-use Rattle.nb_core.specs.declared.switch.Switch.{Switch}
-use Rattle.nb_net.specs.Network.{Network}
+use Rattle.nb_records.specs.declared.switch.Switch.{Switch}
+use Rattle.nb_model.specs.Network.{Network}
 use Rattle.net_meaning.specs.Applies.{balances}
 use Rattle.net_rows.specs.Acls.{switch_acl_rules}
 use Rattle.net_rows.specs.Build.{has_unknown, switch_rules}

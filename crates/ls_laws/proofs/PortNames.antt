@@ -8,12 +8,12 @@ use Rattle.std.proofs.lemmas.Bool.{false≢true, false_from_ne_true, and_parts, 
 use Rattle.std.proofs.lemmas.List.Elements.{Contains-append_left}
 use Rattle.std.proofs.lemmas.Slice.Eq.{bytes_eq-Decides}
 use Rattle.nv_base.specs.Name.{is_object_name}
-use Rattle.nb_core.specs.declared.router.RouterPort.{RouterPort}
-use Rattle.nb_core.specs.declared.switch.Port.{Port}
-use Rattle.nb_net.specs.Names.{names}
-use Rattle.nb_net.specs.Network.{Network}
-use Rattle.nb_net.specs.Readable.{are_apart}
-use Rattle.nb_net.specs.Sound.{IsSound}
+use Rattle.nb_records.specs.declared.router.RouterPort.{RouterPort}
+use Rattle.nb_records.specs.declared.switch.Port.{Port}
+use Rattle.nb_model.specs.Names.{names}
+use Rattle.nb_model.specs.Network.{Network}
+use Rattle.nb_model.specs.Readable.{are_apart}
+use Rattle.nb_model.specs.Sound.{IsSound}
 use Rattle.net_rows.proofs.Elements.{one_of, one_of_none, Contains-map}
 use Rattle.net_rows.proofs.Sound.{each_passes, port_of_sound}
 use Rattle.tr_stage.specs.Machine.{number_of}

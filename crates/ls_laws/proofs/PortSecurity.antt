@@ -9,14 +9,14 @@ use Rattle.pkt_core.specs.Prerequisite.{is_there}
 use Rattle.act_core.specs.declared.action.Action.{Action}
 use Rattle.expr_core.specs.Formula.{formulas}
 use Rattle.expr_eval.specs.MatchMeaning.{holds, all_hold}
-use Rattle.nb_core.specs.declared.switch.Guard.{Guard}
-use Rattle.nb_core.specs.declared.switch.Port.{Port}
-use Rattle.nb_core.specs.declared.switch.Switch.{Switch}
-use Rattle.nb_net.specs.Names.{names}
-use Rattle.nb_net.specs.Network.{Network}
-use Rattle.nb_net.specs.Readable.{are_addresses, are_apart, are_guards, is_block, is_ip4, is_mac, may_name, nets_of}
-use Rattle.nb_net.specs.Sound.{IsSound}
-use Rattle.nb_net.proofs.Readable.{of_port}
+use Rattle.nb_records.specs.declared.switch.Guard.{Guard}
+use Rattle.nb_records.specs.declared.switch.Port.{Port}
+use Rattle.nb_records.specs.declared.switch.Switch.{Switch}
+use Rattle.nb_model.specs.Names.{names}
+use Rattle.nb_model.specs.Network.{Network}
+use Rattle.nb_model.specs.Readable.{are_addresses, are_apart, are_guards, is_block, is_ip4, is_mac, may_name, nets_of}
+use Rattle.nb_model.specs.Sound.{IsSound}
+use Rattle.nb_model.proofs.Readable.{of_port}
 use Rattle.nv_base.specs.Name.{is_object_name}
 use Rattle.net_meaning.specs.Address.{is_multicast}
 use Rattle.net_meaning.specs.Applies.{is_empty, balances}

@@ -5,17 +5,17 @@ use Rattle.std.specs.List.{AllByRecursion, Contains, filter, flat_map}
 use Rattle.std.proofs.lemmas.Bool.{false≢true, eq-eqb, not-true}
 use Rattle.std.proofs.lemmas.List.Elements.{All-contains, All-from_recursion, Contains-append_cases}
 use Rattle.nv_base.specs.declared.ip4.Ip4.{Ip4}
-use Rattle.nb_core.specs.declared.acl.Acl.{Acl}
-use Rattle.nb_core.specs.declared.acl.Way.{Way}
-use Rattle.nb_core.specs.declared.acl.Way.TheVariants.{From, To}
-use Rattle.nb_core.specs.declared.switch.Addr.{Addr}
-use Rattle.nb_core.specs.declared.switch.Addr.TheVariants as addr
-use Rattle.nb_core.specs.declared.switch.Guard.{Guard}
-use Rattle.nb_core.specs.declared.switch.Port.{Port}
-use Rattle.nb_core.specs.declared.switch.Switch.{Switch}
-use Rattle.nb_net.specs.Belongs.{is_router_kind}
-use Rattle.nb_net.specs.Network.{Network}
-use Rattle.nb_net.specs.Readable.{is_priority}
+use Rattle.nb_records.specs.declared.acl.Acl.{Acl}
+use Rattle.nb_records.specs.declared.acl.Way.{Way}
+use Rattle.nb_records.specs.declared.acl.Way.TheVariants.{From, To}
+use Rattle.nb_records.specs.declared.switch.Addr.{Addr}
+use Rattle.nb_records.specs.declared.switch.Addr.TheVariants as addr
+use Rattle.nb_records.specs.declared.switch.Guard.{Guard}
+use Rattle.nb_records.specs.declared.switch.Port.{Port}
+use Rattle.nb_records.specs.declared.switch.Switch.{Switch}
+use Rattle.nb_model.specs.Belongs.{is_router_kind}
+use Rattle.nb_model.specs.Network.{Network}
+use Rattle.nb_model.specs.Readable.{is_priority}
 use Rattle.net_meaning.specs.Applies.{is_empty, tracks, balances}
 use Rattle.net_meaning.specs.Stateless.{IsStateless}
 use Rattle.sb_model.specs.Stage.{stage_place}

@@ -7,10 +7,10 @@ use Rattle.sb_model.specs.declared.stage.Stage.{Stage}
 use Rattle.sb_model.specs.declared.row.Row.{Row}
 use Rattle.sb_rows.specs.Match.{is_in_table}
 use Rattle.sb_rows.proofs.Tables.{in_table-gives}
-use Rattle.nb_core.specs.declared.acl.Acl.{Acl}
-use Rattle.nb_core.specs.declared.switch.Port.{Port}
-use Rattle.nb_core.specs.declared.switch.Switch.{Switch}
-use Rattle.nb_net.specs.Network.{Network}
+use Rattle.nb_records.specs.declared.acl.Acl.{Acl}
+use Rattle.nb_records.specs.declared.switch.Port.{Port}
+use Rattle.nb_records.specs.declared.switch.Switch.{Switch}
+use Rattle.nb_model.specs.Network.{Network}
 use Rattle.net_meaning.specs.Applies.{applies}
 use Rattle.net_rows.specs.Acls.{acl_on_rules}
 use Rattle.net_rows.specs.Build.{acl_on_input, switch_rules, port_rules, rows}

@@ -20,8 +20,8 @@ use Rattle.sb_rows.specs.Row.{key_cmp, row_cmp, IsInRowOrder}
 use Rattle.sb_rows.proofs.Order.{row_cmp_total, lt_turned}
 use Rattle.sb_rows.proofs.Place.{ordered_tail}
 use Rattle.sb_rows.proofs.Tables.{in_table-from, in_table-gives}
-use Rattle.nb_net.specs.Names.{names}
-use Rattle.nb_net.specs.Network.{Network}
+use Rattle.nb_model.specs.Names.{names}
+use Rattle.nb_model.specs.Network.{Network}
 use Rattle.net_rows.specs.Build.{rows}
 use Rattle.net_rows.proofs.Elements.{one_of, one_of_none, one_first, one_later}
 use Rattle.net_rows.proofs.Units.{rows-in_order}

@@ -5,12 +5,12 @@ use Rattle.nv_base.specs.declared.object.ObjId.{ObjId}
 use Rattle.nv_base.specs.declared.field.Field.TheVariants.{Inport, Outport, FlagsLoopback, EthDst, ArpTpa}
 use Rattle.pkt_core.specs.Packet.{Values, IsPacket, value, with_value, with_values}
 use Rattle.pkt_core.specs.Replies.{is_answerable, arp_reply}
-use Rattle.nb_core.specs.declared.acl.Way.TheVariants.{From, To}
-use Rattle.nb_core.specs.declared.switch.Port.{Port}
-use Rattle.nb_core.specs.declared.switch.Switch.{Switch}
-use Rattle.nb_net.specs.Names.{names}
-use Rattle.nb_net.specs.Network.{Network}
-use Rattle.nb_net.specs.Sound.{IsSound}
+use Rattle.nb_records.specs.declared.acl.Way.TheVariants.{From, To}
+use Rattle.nb_records.specs.declared.switch.Port.{Port}
+use Rattle.nb_records.specs.declared.switch.Switch.{Switch}
+use Rattle.nb_model.specs.Names.{names}
+use Rattle.nb_model.specs.Network.{Network}
+use Rattle.nb_model.specs.Sound.{IsSound}
 use Rattle.sb_model.specs.declared.stage.Stage.{Stage}
 use Rattle.sb_model.specs.declared.stage.Stage.TheVariants.{LsInCheckPortSec, LsInPreAcl, LsInAclEval, LsInLb, LsInArpRsp, LsInL2Lkup, LsInL2Unknown, LsOutAclEval, LsOutStateful, LsOutCheckPortSec}
 use Rattle.net_meaning.specs.AclVerdict.{Decision, decision}
@@ -25,6 +25,9 @@ use Rattle.net_rows.specs.Build.{rows}
 use Rattle.tr_stage.specs.Machine.{Flows, StageEnd, flows_of, step}
 use Rattle.tr_stage.specs.Machine.StageEnd.{On, Ends}
 use Rattle.tr_stage.specs.declared.outcome.Outcome.TheVariants.{Leave, Deliver, Made, Drop}
+use Rattle.sb_model.specs.Stage.{last_table}
+use Rattle.sb_model.specs.declared.stage.DatapathKind.TheVariants.{Switch}
+use Rattle.nv_base.specs.Object.{flood_number, unknown_number}
 
 -- the flows of a network at one of its datapaths
 abbrev pub flows_at : Network → ObjId → Flows
@@ -65,17 +68,13 @@ ChecksOut =
 
 -- ---- ACLs
 
--- the number of the last table of egress
-abbrev pub last_table : ℕ
-last_table = 4
-
 -- the packet goes back by the port that it came in by
 abbrev pub sent_back : Values → Values
 sent_back packet = with_values packet ((Outport, value packet Inport) ∷ (FlagsLoopback, 1) ∷ [])
 
 -- a rejected packet is answered, where it may be
 abbrev pub rejected : Values → StageEnd
-rejected packet = if is_answerable packet then Ends (Some (Made (sent_back (rejection packet)) last_table Reject)) else Ends (Some (Drop Acl))
+rejected packet = if is_answerable packet then Ends (Some (Made (sent_back (rejection packet)) (last_table Switch) Reject)) else Ends (Some (Drop Acl))
 
 -- what follows a decision
 abbrev pub decided : Decision → Stage → Values → StageEnd
@@ -108,13 +107,6 @@ Answers =
     else On LsInL2Lkup packet)
 
 -- ---- the lookup
-
--- the numbers of the multicast groups
-abbrev pub flood_number : ℕ
-flood_number = 4294967295
-
-abbrev pub unknown_number : ℕ
-unknown_number = 4294967294
 
 -- the packet leaves by the port or the group of this number
 abbrev pub leaves_by : Values → ℕ → StageEnd

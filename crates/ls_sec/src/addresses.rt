@@ -4,7 +4,7 @@ ghost use Rattle.net_meaning.specs.Guards.{has_host_part};
 ghost use Rattle.net_rows.specs.PortSecurity.{item_of, own_items, broadcast_of, items_for_many};
 
 use expr_core::Item;
-use nb_core::Guard;
+use nb_records::Guard;
 use nv_base::{Ip4, Items, OutOfMemory, Prefix};
 use sb_model::{as_ip4, in_decimal};
 use std::alloc::Global;

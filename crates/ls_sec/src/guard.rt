@@ -23,7 +23,7 @@ use crate::addresses::{items_let_out, own_items};
 use crate::one_step::one_step_rule;
 use act_core::Step;
 use expr_core::{Item, Typed};
-use nb_core::Guard;
+use nb_records::Guard;
 use net_rows::{Rule, Unit};
 use nv_base::{Field, Ip4, Items, Kept, Mac, Name, OutOfMemory};
 use sb_model::{

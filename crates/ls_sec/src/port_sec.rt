@@ -8,7 +8,7 @@ use crate::made::one_more;
 use crate::one_step::one_step_rule;
 use act_core::Step;
 use inc_table::Maker;
-use nb_core::Guard;
+use nb_records::Guard;
 use net_rows::{PortSecInput, Unit};
 use nv_base::{Field, Kept, Name, ObjId, OutOfMemory};
 use sb_model::{Stage, is_port};

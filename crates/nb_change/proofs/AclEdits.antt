@@ -4,20 +4,20 @@ use Rattle.std.specs.Prelude.{is_some, option_map}
 use Rattle.expr_core.specs.Formula.{Formula}
 use Rattle.expr_core.specs.declared.typed.TypedAtom.{TypedAtom}
 use Rattle.nv_base.specs.declared.object.ObjId.{ObjId}
-use Rattle.nb_core.specs.declared.acl.Acl.{Acl}
-use Rattle.nb_core.specs.declared.acl.Verdict.{Verdict}
-use Rattle.nb_core.specs.declared.acl.Way.{Way}
-use Rattle.nb_core.specs.declared.edit.Edit.TheVariants as edit
-use Rattle.nb_core.specs.declared.edit.OwnerKind.{OwnerKind}
-use Rattle.nb_net.specs.Belongs.{owner_id, same_way}
-use Rattle.nb_net.specs.Effect.{effect, acl_like, add_acl, is_acl, is_rule, where_there, without}
-use Rattle.nb_net.specs.Network.{Network, next_number, same}
-use Rattle.nb_net.specs.Readable.{MayBeRule}
-use Rattle.nb_net.specs.Sound.{IsSound}
-use Rattle.nb_net.proofs.Numbered.{are_used}
-use Rattle.nb_table.specs.Table.{with_exchanged}
-use Rattle.nb_tables.proofs.PlacedRecords.{new_last}
-use Rattle.nb_removal.proofs.Goes.{none_goes}
+use Rattle.nb_records.specs.declared.acl.Acl.{Acl}
+use Rattle.nb_records.specs.declared.acl.Verdict.{Verdict}
+use Rattle.nb_records.specs.declared.acl.Way.{Way}
+use Rattle.nb_records.specs.declared.edit.Edit.TheVariants as edit
+use Rattle.nb_records.specs.declared.edit.OwnerKind.{OwnerKind}
+use Rattle.nb_model.specs.Belongs.{owner_id, same_way}
+use Rattle.nb_model.specs.Effect.{effect, acl_like, add_acl, is_acl, is_rule, where_there, without}
+use Rattle.nb_model.specs.Network.{Network, next_number, same}
+use Rattle.nb_model.specs.Readable.{MayBeRule}
+use Rattle.nb_model.specs.Sound.{IsSound}
+use Rattle.nb_model.proofs.Numbered.{are_used}
+use Rattle.nv_table.specs.Table.{with_exchanged}
+use Rattle.nb_store.proofs.PlacedRecords.{new_last}
+use Rattle.nb_change.proofs.Goes.{none_goes}
 
 there_or_not : {X Y : Type 0} (f : X → Y) (o : Option X) → is_some o ≡ is_some (option_map f o)
 there_or_not f None = refl

@@ -5,22 +5,22 @@ use Rattle.std.specs.Bool.{IsTrue}
 use Rattle.std.specs.List.{list_all}
 use Rattle.std.specs.Str.{bytes_eq}
 use Rattle.nv_base.specs.declared.object.ObjId.{ObjId}
-use Rattle.nb_core.specs.declared.edit.Edit.TheVariants as edit
-use Rattle.nb_core.specs.declared.switch.Addr.{Addr}
-use Rattle.nb_core.specs.declared.switch.Guard.{Guard}
-use Rattle.nb_core.specs.declared.switch.Port.{Port}
-use Rattle.nb_core.specs.declared.switch.PortKind.{PortKind}
-use Rattle.nb_core.specs.declared.switch.PortKind.TheVariants as port_kind
-use Rattle.nb_core.specs.declared.switch.Switch.{Switch}
-use Rattle.nb_net.specs.Effect.{effect, add_switch, add_port, set_port, where_there}
-use Rattle.nb_net.specs.Network.{Network, next_number, switch_named, port_named, switch_id}
-use Rattle.nb_net.specs.Readable.{are_apart}
-use Rattle.nb_net.specs.Sound.{IsSound, switch_ids, port_ids}
-use Rattle.nb_net.proofs.Lists.{all_parts}
-use Rattle.nb_net.proofs.Alike.{same_names}
-use Rattle.nb_net.proofs.RecordLists.{found_holds}
-use Rattle.nb_table.specs.Table.{with_exchanged, NumbersRise}
-use Rattle.nb_tables.proofs.PlacedRecords.{new_last, named_changed, none_changed, rises, apart_first}
+use Rattle.nb_records.specs.declared.edit.Edit.TheVariants as edit
+use Rattle.nb_records.specs.declared.switch.Addr.{Addr}
+use Rattle.nb_records.specs.declared.switch.Guard.{Guard}
+use Rattle.nb_records.specs.declared.switch.Port.{Port}
+use Rattle.nb_records.specs.declared.switch.PortKind.{PortKind}
+use Rattle.nb_records.specs.declared.switch.PortKind.TheVariants as port_kind
+use Rattle.nb_records.specs.declared.switch.Switch.{Switch}
+use Rattle.nb_model.specs.Effect.{effect, add_switch, add_port, set_port, where_there}
+use Rattle.nb_model.specs.Network.{Network, next_number, switch_named, port_named, switch_id}
+use Rattle.nb_model.specs.Readable.{are_apart}
+use Rattle.nb_model.specs.Sound.{IsSound, switch_ids, port_ids}
+use Rattle.nb_model.proofs.Lists.{all_parts}
+use Rattle.nb_model.proofs.Alike.{same_names}
+use Rattle.nb_model.proofs.RecordLists.{found_holds}
+use Rattle.nv_table.specs.Table.{with_exchanged, NumbersRise}
+use Rattle.nb_store.proofs.PlacedRecords.{new_last, named_changed, none_changed, rises, apart_first}
 
 -- ports whose parts are the same
 pub same_parts : {id owner : ObjId} {name own : List ℕ} {kind : PortKind} {r q : Option (List ℕ)} {a b : List Addr} {s t : List Guard} {on : Bool} → name ≡ own → r ≡ q → a ≡ b → s ≡ t

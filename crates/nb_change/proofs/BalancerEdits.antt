@@ -3,22 +3,22 @@ use Rattle.std.proofs.Common.{◌≡◌, ℕ, ◌+◌, Bool, cond, List, [], ◌
 use Rattle.std.specs.Prelude.{is_some, unwrap_or}
 use Rattle.std.specs.Str.{bytes_eq}
 use Rattle.nv_base.specs.declared.object.ObjId.{ObjId}
-use Rattle.nb_core.specs.declared.balancer.Lb.{Lb}
-use Rattle.nb_core.specs.declared.balancer.Proto.{Proto}
-use Rattle.nb_core.specs.declared.balancer.Proto.TheVariants.{Tcp}
-use Rattle.nb_core.specs.declared.balancer.Vip.{Vip}
-use Rattle.nb_core.specs.declared.edit.Edit.TheVariants as edit
-use Rattle.nb_core.specs.declared.router.Router.{Router}
-use Rattle.nb_core.specs.declared.switch.Switch.{Switch}
-use Rattle.nb_net.specs.Effect.{effect, each_where, add_vip, where_there, set_switch_lbs, set_router_lbs, with_number, without, is_detached}
-use Rattle.nb_net.specs.Network.{Network, next_number, switch_named, router_named, lb_named, lb_id}
-use Rattle.nb_net.specs.Sound.{IsSound}
-use Rattle.nb_net.proofs.Alike.{same_names}
-use Rattle.nb_net.proofs.Numbered.{are_used}
-use Rattle.nb_net.proofs.RecordLists.{found_holds}
-use Rattle.nb_table.specs.Table.{with_exchanged}
-use Rattle.nb_tables.proofs.PlacedRecords.{named_changed, new_last, none_changed, apart_first, rises}
-use Rattle.nb_removal.proofs.Goes.{apart_last}
+use Rattle.nb_records.specs.declared.balancer.Lb.{Lb}
+use Rattle.nb_records.specs.declared.balancer.Proto.{Proto}
+use Rattle.nb_records.specs.declared.balancer.Proto.TheVariants.{Tcp}
+use Rattle.nb_records.specs.declared.balancer.Vip.{Vip}
+use Rattle.nb_records.specs.declared.edit.Edit.TheVariants as edit
+use Rattle.nb_records.specs.declared.router.Router.{Router}
+use Rattle.nb_records.specs.declared.switch.Switch.{Switch}
+use Rattle.nb_model.specs.Effect.{effect, each_where, add_vip, where_there, set_switch_lbs, set_router_lbs, with_number, without, is_detached}
+use Rattle.nb_model.specs.Network.{Network, next_number, switch_named, router_named, lb_named, lb_id}
+use Rattle.nb_model.specs.Sound.{IsSound}
+use Rattle.nb_model.proofs.Alike.{same_names}
+use Rattle.nb_model.proofs.Numbered.{are_used}
+use Rattle.nb_model.proofs.RecordLists.{found_holds}
+use Rattle.nv_table.specs.Table.{with_exchanged}
+use Rattle.nb_store.proofs.PlacedRecords.{named_changed, new_last, none_changed, apart_first, rises}
+use Rattle.nb_change.proofs.Goes.{apart_last}
 
 -- where each is detached, none is left
 pub all_detached : (net : Network) (numbers : List ObjId) → [] ≡ without (is_detached net None) numbers

@@ -3,17 +3,17 @@ use Rattle.std.proofs.Common.{◌≡◌, Bool, Option, Some, None, map, refl, sy
 use Rattle.std.specs.Prelude.{find, option_map}
 use Rattle.std.specs.Str.{bytes_eq}
 use Rattle.nv_base.specs.declared.object.ObjId.{ObjId}
-use Rattle.nb_core.specs.declared.acl.Acl.{Acl}
-use Rattle.nb_core.specs.declared.edit.Edit.TheVariants as edit
-use Rattle.nb_core.specs.declared.switch.Port.{Port}
-use Rattle.nb_core.specs.declared.switch.Switch.{Switch}
-use Rattle.nb_net.specs.Belongs.{is_number}
-use Rattle.nb_net.specs.Effect.{effect, without, without_ports}
-use Rattle.nb_net.specs.Network.{Network, port_id, port_named, switch_id}
-use Rattle.nb_net.specs.Sound.{IsSound}
-use Rattle.nb_removal.specs.Leaving.{without_switch}
-use Rattle.nb_tables.proofs.PlacedRecords.{rises, apart_first}
-use Rattle.nb_removal.proofs.Removed.{less_port, named_gone, none_gone, all_stay}
+use Rattle.nb_records.specs.declared.acl.Acl.{Acl}
+use Rattle.nb_records.specs.declared.edit.Edit.TheVariants as edit
+use Rattle.nb_records.specs.declared.switch.Port.{Port}
+use Rattle.nb_records.specs.declared.switch.Switch.{Switch}
+use Rattle.nb_model.specs.Belongs.{is_number}
+use Rattle.nb_model.specs.Effect.{effect, without, without_ports}
+use Rattle.nb_model.specs.Network.{Network, port_id, port_named, switch_id}
+use Rattle.nb_model.specs.Sound.{IsSound}
+use Rattle.nb_change.specs.Leaving.{without_switch}
+use Rattle.nb_store.proofs.PlacedRecords.{rises, apart_first}
+use Rattle.nb_change.proofs.Removed.{less_port, named_gone, none_gone, all_stay}
 
 module _ (net : Network) (sound : IsSound net) where
   -- the port of a name

@@ -3,19 +3,19 @@ use Rattle.std.proofs.Common.{◌≡◌, ◌+◌, ℕ, Bool, false, List, [], �
 use Rattle.std.specs.Prelude.{option_map}
 use Rattle.std.specs.Str.{bytes_eq}
 use Rattle.nv_base.specs.declared.object.ObjId.{ObjId}
-use Rattle.nb_core.specs.declared.acl.Acl.{Acl}
-use Rattle.nb_core.specs.declared.edit.Edit.TheVariants as edit
-use Rattle.nb_core.specs.declared.sets.Group.{Group}
-use Rattle.nb_net.specs.Belongs.{is_number}
-use Rattle.nb_net.specs.Effect.{effect, named_port_ids, without}
-use Rattle.nb_net.specs.Network.{Network, next_number, same, group_named, group_id}
-use Rattle.nb_net.specs.Sound.{IsSound}
-use Rattle.nb_net.proofs.Alike.{same_names}
-use Rattle.nb_net.proofs.Numbered.{are_used}
-use Rattle.nb_net.proofs.RecordLists.{found_holds}
-use Rattle.nb_table.specs.Table.{with_exchanged, without_number}
-use Rattle.nb_tables.proofs.PlacedRecords.{new_last, named_changed, none_changed, rises}
-use Rattle.nb_removal.proofs.Goes.{none_goes}
+use Rattle.nb_records.specs.declared.acl.Acl.{Acl}
+use Rattle.nb_records.specs.declared.edit.Edit.TheVariants as edit
+use Rattle.nb_records.specs.declared.sets.Group.{Group}
+use Rattle.nb_model.specs.Belongs.{is_number}
+use Rattle.nb_model.specs.Effect.{effect, named_port_ids, without}
+use Rattle.nb_model.specs.Network.{Network, next_number, same, group_named, group_id}
+use Rattle.nb_model.specs.Sound.{IsSound}
+use Rattle.nb_model.proofs.Alike.{same_names}
+use Rattle.nb_model.proofs.Numbered.{are_used}
+use Rattle.nb_model.proofs.RecordLists.{found_holds}
+use Rattle.nv_table.specs.Table.{with_exchanged, without_number}
+use Rattle.nb_store.proofs.PlacedRecords.{new_last, named_changed, none_changed, rises}
+use Rattle.nb_change.proofs.Goes.{none_goes}
 
 module _ (net : Network) (sound : IsSound net) where
   abbrev with_groups : List Group → Network

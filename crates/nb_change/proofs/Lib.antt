@@ -7,3 +7,13 @@ pub mod NewRecords
 pub mod Once
 pub mod RouterEdits
 pub mod SetEdits
+pub mod AclRemovals
+pub mod AclsThatGo
+pub mod BalancerRemovals
+pub mod Goes
+pub mod ListedNumbers
+pub mod NatsFor
+pub mod OneByOne
+pub mod Removed
+pub mod RouterRemovals
+pub mod RoutesFor

@@ -1,15 +1,15 @@
 -- Records that are new in a sound network.
 use Rattle.std.proofs.Common.{◌≡◌, ◌++◌, [], ◌∷◌, ap}
-use Rattle.nb_core.specs.declared.router.Binding.{Binding}
-use Rattle.nb_core.specs.declared.router.Nat.{Nat}
-use Rattle.nb_core.specs.declared.router.Route.{Route}
-use Rattle.nb_core.specs.declared.router.Router.{Router}
-use Rattle.nb_core.specs.declared.router.RouterPort.{RouterPort}
-use Rattle.nb_net.specs.Network.{Network, next_number}
-use Rattle.nb_net.specs.Sound.{IsSound}
-use Rattle.nb_net.proofs.Numbered.{are_used}
-use Rattle.nb_table.specs.Table.{with_exchanged}
-use Rattle.nb_tables.proofs.PlacedRecords.{new_last}
+use Rattle.nb_records.specs.declared.router.Binding.{Binding}
+use Rattle.nb_records.specs.declared.router.Nat.{Nat}
+use Rattle.nb_records.specs.declared.router.Route.{Route}
+use Rattle.nb_records.specs.declared.router.Router.{Router}
+use Rattle.nb_records.specs.declared.router.RouterPort.{RouterPort}
+use Rattle.nb_model.specs.Network.{Network, next_number}
+use Rattle.nb_model.specs.Sound.{IsSound}
+use Rattle.nb_model.proofs.Numbered.{are_used}
+use Rattle.nv_table.specs.Table.{with_exchanged}
+use Rattle.nb_store.proofs.PlacedRecords.{new_last}
 
 module _ (net : Network) (sound : IsSound net) where
   pub new_router : (r : Router) → r.id ≡ next_number net → with_exchanged (λ x. x.id) r net.routers ≡ net.routers ++ r ∷ []

@@ -7,9 +7,9 @@ use Rattle.std.specs.List.{filter_map, cons_option}
 use Rattle.std.proofs.lemmas.Bool.Decides.{nat_tests}
 use borrow.Author.Tests.{eqb-true}
 use Rattle.nv_base.specs.declared.object.ObjId.{ObjId}
-use Rattle.nb_net.specs.Belongs.{is_among, once}
-use Rattle.nb_net.specs.Effect.{with_number, named_port_ids}
-use Rattle.nb_net.specs.Network.{Network, same, port_id}
+use Rattle.nb_model.specs.Belongs.{is_among, once}
+use Rattle.nb_model.specs.Effect.{with_number, named_port_ids}
+use Rattle.nb_model.specs.Network.{Network, same, port_id}
 
 turned : (a b : ℕ) → (a == b) ≡ (b == a)
 turned a b = grind (arith, nat_tests)

@@ -8,23 +8,23 @@ use Rattle.std.specs.Str.{bytes_eq}
 use Rattle.nv_base.specs.Block.{Block}
 use Rattle.nv_base.specs.declared.ip4.Ip4.{Ip4}
 use Rattle.nv_base.specs.declared.object.ObjId.{ObjId}
-use Rattle.nb_core.specs.declared.edit.Edit.TheVariants as edit
-use Rattle.nb_core.specs.declared.router.Binding.{Binding}
-use Rattle.nb_core.specs.declared.router.Nat.{Nat}
-use Rattle.nb_core.specs.declared.router.NatKind.{NatKind}
-use Rattle.nb_core.specs.declared.router.Route.{Route}
-use Rattle.nb_core.specs.declared.router.RouteBy.{RouteBy}
-use Rattle.nb_core.specs.declared.router.Router.{Router}
-use Rattle.nb_core.specs.declared.router.RouterPort.{RouterPort}
-use Rattle.nb_net.specs.Belongs.{is_number, same_binding}
-use Rattle.nb_net.specs.Effect.{effect, add_router, add_router_port, where_there, policy_or, without, each_where}
-use Rattle.nb_net.specs.Network.{Network, next_number, same, router_named, router_port_named, router_id, router_port_id}
-use Rattle.nb_net.specs.Sound.{IsSound}
-use Rattle.nb_net.proofs.Alike.{same_names}
-use Rattle.nb_net.proofs.RecordLists.{found_holds}
-use Rattle.nb_table.specs.Table.{with_exchanged, without_number, NumbersRise}
-use Rattle.nb_tables.proofs.PlacedRecords.{named_changed, none_changed, none_without, rises}
-use Rattle.nb_removal.proofs.Goes.{alone_goes, none_goes, apart_last}
+use Rattle.nb_records.specs.declared.edit.Edit.TheVariants as edit
+use Rattle.nb_records.specs.declared.router.Binding.{Binding}
+use Rattle.nb_records.specs.declared.router.Nat.{Nat}
+use Rattle.nb_records.specs.declared.router.NatKind.{NatKind}
+use Rattle.nb_records.specs.declared.router.Route.{Route}
+use Rattle.nb_records.specs.declared.router.RouteBy.{RouteBy}
+use Rattle.nb_records.specs.declared.router.Router.{Router}
+use Rattle.nb_records.specs.declared.router.RouterPort.{RouterPort}
+use Rattle.nb_model.specs.Belongs.{is_number, same_binding}
+use Rattle.nb_model.specs.Effect.{effect, add_router, add_router_port, where_there, policy_or, without, each_where}
+use Rattle.nb_model.specs.Network.{Network, next_number, same, router_named, router_port_named, router_id, router_port_id}
+use Rattle.nb_model.specs.Sound.{IsSound}
+use Rattle.nb_model.proofs.Alike.{same_names}
+use Rattle.nb_model.proofs.RecordLists.{found_holds}
+use Rattle.nv_table.specs.Table.{with_exchanged, without_number, NumbersRise}
+use Rattle.nb_store.proofs.PlacedRecords.{named_changed, none_changed, none_without, rises}
+use Rattle.nb_change.proofs.Goes.{alone_goes, none_goes, apart_last}
 use Rattle.nb_change.proofs.NewRecords.{new_router, new_router_port, new_route, new_nat, new_binding}
 
 module _ (net : Network) (sound : IsSound net) where

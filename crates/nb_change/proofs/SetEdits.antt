@@ -4,19 +4,19 @@ use Rattle.std.specs.Prelude.{find}
 use Rattle.std.specs.Bool.{IsTrue}
 use Rattle.std.specs.Str.{bytes_eq}
 use Rattle.nv_base.specs.declared.object.ObjId.{ObjId}
-use Rattle.nb_core.specs.declared.edit.Edit.TheVariants as edit
-use Rattle.nb_core.specs.declared.sets.AddrSet.{AddrSet}
-use Rattle.nb_core.specs.declared.sets.Member.{Member}
-use Rattle.nb_net.specs.Effect.{effect, without}
-use Rattle.nb_net.specs.Network.{Network, next_number, set_named}
-use Rattle.nb_net.specs.Readable.{are_apart}
-use Rattle.nb_net.specs.Sound.{IsSound}
-use Rattle.nb_net.proofs.Alike.{same_names}
-use Rattle.nb_net.proofs.Numbered.{are_used}
-use Rattle.nb_net.proofs.RecordLists.{found_holds}
-use Rattle.nb_table.specs.Table.{with_exchanged, without_number, NumbersRise}
-use Rattle.nb_tables.proofs.PlacedRecords.{new_last, named_changed, named_once, none_changed, none_without, placed, rises}
-use Rattle.nb_removal.proofs.Goes.{passing_goes, without_both}
+use Rattle.nb_records.specs.declared.edit.Edit.TheVariants as edit
+use Rattle.nb_records.specs.declared.sets.AddrSet.{AddrSet}
+use Rattle.nb_records.specs.declared.sets.Member.{Member}
+use Rattle.nb_model.specs.Effect.{effect, without}
+use Rattle.nb_model.specs.Network.{Network, next_number, set_named}
+use Rattle.nb_model.specs.Readable.{are_apart}
+use Rattle.nb_model.specs.Sound.{IsSound}
+use Rattle.nb_model.proofs.Alike.{same_names}
+use Rattle.nb_model.proofs.Numbered.{are_used}
+use Rattle.nb_model.proofs.RecordLists.{found_holds}
+use Rattle.nv_table.specs.Table.{with_exchanged, without_number, NumbersRise}
+use Rattle.nb_store.proofs.PlacedRecords.{new_last, named_changed, named_once, none_changed, none_without, placed, rises}
+use Rattle.nb_change.proofs.Goes.{passing_goes, without_both}
 
 -- of records whose names are apart, that of a name goes alone
 named_goes : {R : Type 0} (number : R → ObjId) (name_of : R → List ℕ) (name : List ℕ) (x : R) (rs : List R) → find (λ r. bytes_eq (name_of r) name) rs ≡ Some x → NumbersRise number rs

@@ -1,15 +1,15 @@
 //! ACLs that a command removes.
 ghost use Rattle.std.specs.Prelude.{◌≡◌, OnOk};
-ghost use Rattle.nb_core.specs.declared.edit.Edit.TheVariants as edit;
-ghost use Rattle.nb_net.specs.Effect.{effect};
-ghost use Rattle.nb_net.specs.Readable.{MayBeRule};
-ghost use Rattle.nb_net.specs.Sound.{IsSound};
-ghost use Rattle.nb_tables.specs.Undo.{back_steps};
+ghost use Rattle.nb_records.specs.declared.edit.Edit.TheVariants as edit;
+ghost use Rattle.nb_model.specs.Effect.{effect};
+ghost use Rattle.nb_model.specs.Readable.{MayBeRule};
+ghost use Rattle.nb_model.specs.Sound.{IsSound};
+ghost use Rattle.nb_store.specs.Undo.{back_steps};
 
+use crate::acl_removals::{remove_acl_like, remove_acls, remove_acls_of_way};
 use expr_core::Typed;
-use nb_core::{OwnerKind, Way};
-use nb_removal::{remove_acl_like, remove_acls, remove_acls_of_way};
-use nb_tables::Work;
+use nb_records::{OwnerKind, Way};
+use nb_store::Work;
 use nv_base::{Name, OutOfMemory};
 
 /// `acl-del`

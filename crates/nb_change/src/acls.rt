@@ -1,15 +1,15 @@
 //! Edits of ACLs.
 ghost use Rattle.std.specs.Prelude.{◌≡◌, OnOk};
 ghost use Rattle.expr_check.specs.Printed.{IsPrintable};
-ghost use Rattle.nb_core.specs.declared.edit.Edit.TheVariants as edit;
+ghost use Rattle.nb_records.specs.declared.edit.Edit.TheVariants as edit;
 ghost use Rattle.nb_read.specs.Readings.{role_of};
-ghost use Rattle.nb_net.specs.Effect.{effect};
-ghost use Rattle.nb_net.specs.Sound.{IsSound};
-ghost use Rattle.nb_tables.specs.Undo.{back_steps};
+ghost use Rattle.nb_model.specs.Effect.{effect};
+ghost use Rattle.nb_model.specs.Sound.{IsSound};
+ghost use Rattle.nb_store.specs.Undo.{back_steps};
 
 use expr_core::Typed;
-use nb_core::{Acl, OwnerKind, Verdict, Way};
-use nb_tables::Work;
+use nb_records::{Acl, OwnerKind, Verdict, Way};
+use nb_store::Work;
 use nv_base::{Name, OutOfMemory};
 use std::alloc::Global;
 

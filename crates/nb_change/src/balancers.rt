@@ -1,17 +1,18 @@
 //! Edits of load balancers, and of the switches and routers that have them.
 ghost use Rattle.std.specs.Prelude.{◌≡◌, ◌+◌, ◌<◌, ◌^◌, [], ◌∷◌, ◌++◌, unwrap_or, IfOk, OnOk};
-ghost use Rattle.nb_core.specs.declared.balancer.Proto.TheVariants.{Tcp};
-ghost use Rattle.nb_core.specs.declared.edit.Edit.TheVariants as edit;
-ghost use Rattle.nb_net.specs.Belongs.{is_number};
-ghost use Rattle.nb_net.specs.Network.{lb_id, next_number};
-ghost use Rattle.nb_net.specs.Effect.{effect, is_detached, with_number, without};
-ghost use Rattle.nb_net.specs.Sound.{IsSound};
-ghost use Rattle.nb_table.specs.Table.{with_exchanged};
-ghost use Rattle.nb_tables.specs.Undo.{back_steps};
+ghost use Rattle.nb_records.specs.declared.balancer.Proto.TheVariants.{Tcp};
+ghost use Rattle.nb_records.specs.declared.edit.Edit.TheVariants as edit;
+ghost use Rattle.nb_model.specs.Belongs.{is_number};
+ghost use Rattle.nb_model.specs.Network.{lb_id, next_number};
+ghost use Rattle.nb_model.specs.Effect.{effect, is_detached, with_number, without};
+ghost use Rattle.nb_model.specs.Sound.{IsSound};
+ghost use Rattle.nv_table.specs.Table.{with_exchanged};
+ghost use Rattle.nb_store.specs.Undo.{back_steps};
 
-use nb_core::{Backend, Frontend, Lb, Proto, Router, Switch, Vip};
-use nb_removal::{others, remove_lb_named, remove_vip};
-use nb_tables::{Records, Work, add_number};
+use crate::balancer_removals::{remove_lb_named, remove_vip};
+use crate::switch_removals::others;
+use nb_records::{Backend, Frontend, Lb, Proto, Router, Switch, Vip};
+use nb_store::{Records, Work, add_number};
 use nv_base::{Items, Kept, Name, ObjId, OutOfMemory};
 use std::alloc::Global;
 

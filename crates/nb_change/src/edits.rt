@@ -1,9 +1,9 @@
 //! Edits of the network, each by its name.
 ghost use Rattle.std.specs.Prelude.{◌≡◌, OnOk, OnErr, IfOk};
-ghost use Rattle.nb_net.specs.Effect.{effect};
-ghost use Rattle.nb_net.specs.Readable.{IsReadable};
-ghost use Rattle.nb_net.specs.Sound.{IsSound};
-ghost use Rattle.nb_tables.specs.Undo.{back, back_steps};
+ghost use Rattle.nb_model.specs.Effect.{effect};
+ghost use Rattle.nb_model.specs.Readable.{IsReadable};
+ghost use Rattle.nb_model.specs.Sound.{IsSound};
+ghost use Rattle.nb_store.specs.Undo.{back, back_steps};
 
 use crate::acl_edits::acl_del;
 use crate::acls::acl_add;
@@ -17,8 +17,8 @@ use crate::routers::{lr_add, lr_del, lrp_add, lrp_del, lrp_set_enabled};
 use crate::routes::{lr_nat_add, lr_nat_del, lr_route_add, lr_route_del, smb_add, smb_del};
 use crate::sets::{as_add, as_del, as_set};
 use crate::switches::{ls_add, ls_del};
-use nb_core::Edit;
-use nb_tables::{Records, Undo, Work};
+use nb_records::Edit;
+use nb_store::{Records, Undo, Work};
 use nv_base::OutOfMemory;
 use std::alloc::Global;
 use std::mem;

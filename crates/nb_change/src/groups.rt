@@ -1,13 +1,13 @@
 //! Edits of port groups.
 ghost use Rattle.std.specs.Prelude.{◌≡◌, OnOk, IfOk};
-ghost use Rattle.nb_core.specs.declared.edit.Edit.TheVariants as edit;
-ghost use Rattle.nb_net.specs.Effect.{effect, named_port_ids};
-ghost use Rattle.nb_net.specs.Sound.{IsSound};
-ghost use Rattle.nb_tables.specs.Undo.{back_steps};
+ghost use Rattle.nb_records.specs.declared.edit.Edit.TheVariants as edit;
+ghost use Rattle.nb_model.specs.Effect.{effect, named_port_ids};
+ghost use Rattle.nb_model.specs.Sound.{IsSound};
+ghost use Rattle.nb_store.specs.Undo.{back_steps};
 
-use nb_core::Group;
-use nb_removal::remove_acls;
-use nb_tables::{Place, Records, Work, add_number};
+use crate::acl_removals::remove_acls;
+use nb_records::Group;
+use nb_store::{Place, Records, Work, add_number};
 use nv_base::{Items, Name, ObjId, OutOfMemory};
 use std::alloc::Global;
 

@@ -2,14 +2,19 @@
 #![tactic(auto)]
 
 mod acl_edits;
+mod acl_removals;
 mod acls;
+mod balancer_removals;
 mod balancers;
 mod edits;
 mod groups;
+mod one_by_one;
 mod ports;
+mod router_removals;
 mod routers;
 mod routes;
 mod sets;
+mod switch_removals;
 mod switches;
 
 pub use edits::edit;

@@ -1,13 +1,13 @@
 //! Edits of what belongs to routers: routes, NAT rules and static bindings.
 ghost use Rattle.std.specs.Prelude.{◌≡◌, OnOk};
-ghost use Rattle.nb_core.specs.declared.edit.Edit.TheVariants as edit;
-ghost use Rattle.nb_net.specs.Effect.{effect};
-ghost use Rattle.nb_net.specs.Sound.{IsSound};
-ghost use Rattle.nb_tables.specs.Undo.{back_steps};
+ghost use Rattle.nb_records.specs.declared.edit.Edit.TheVariants as edit;
+ghost use Rattle.nb_model.specs.Effect.{effect};
+ghost use Rattle.nb_model.specs.Sound.{IsSound};
+ghost use Rattle.nb_store.specs.Undo.{back_steps};
 
-use nb_core::{Binding, Nat, NatKind, Route, RouteBy};
-use nb_removal::{remove_nats_for, remove_routes_for};
-use nb_tables::{Place, Work};
+use crate::one_by_one::{remove_nats_for, remove_routes_for};
+use nb_records::{Binding, Nat, NatKind, Route, RouteBy};
+use nb_store::{Place, Work};
 use nv_base::{Ip4, Mac, Name, OutOfMemory, Prefix};
 use std::alloc::Global;
 

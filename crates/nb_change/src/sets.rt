@@ -1,12 +1,12 @@
 //! Edits of address sets.
 ghost use Rattle.std.specs.Prelude.{◌≡◌, OnOk};
-ghost use Rattle.nb_core.specs.declared.edit.Edit.TheVariants as edit;
-ghost use Rattle.nb_net.specs.Effect.{effect};
-ghost use Rattle.nb_net.specs.Sound.{IsSound};
-ghost use Rattle.nb_tables.specs.Undo.{back_steps};
+ghost use Rattle.nb_records.specs.declared.edit.Edit.TheVariants as edit;
+ghost use Rattle.nb_model.specs.Effect.{effect};
+ghost use Rattle.nb_model.specs.Sound.{IsSound};
+ghost use Rattle.nb_store.specs.Undo.{back_steps};
 
-use nb_core::{AddrSet, Member};
-use nb_tables::{Place, Work};
+use nb_records::{AddrSet, Member};
+use nb_store::{Place, Work};
 use nv_base::{Items, Name, OutOfMemory};
 use std::alloc::Global;
 

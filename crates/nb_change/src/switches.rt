@@ -1,13 +1,13 @@
 //! Edits of switches.
 ghost use Rattle.std.specs.Prelude.{◌≡◌, OnOk};
-ghost use Rattle.nb_core.specs.declared.edit.Edit.TheVariants as edit;
-ghost use Rattle.nb_net.specs.Effect.{effect};
-ghost use Rattle.nb_net.specs.Sound.{IsSound};
-ghost use Rattle.nb_tables.specs.Undo.{back_steps};
+ghost use Rattle.nb_records.specs.declared.edit.Edit.TheVariants as edit;
+ghost use Rattle.nb_model.specs.Effect.{effect};
+ghost use Rattle.nb_model.specs.Sound.{IsSound};
+ghost use Rattle.nb_store.specs.Undo.{back_steps};
 
-use nb_core::Switch;
-use nb_removal::remove_switch;
-use nb_tables::Work;
+use crate::switch_removals::remove_switch;
+use nb_records::Switch;
+use nb_store::Work;
 use nv_base::{Items, Name, OutOfMemory};
 use std::alloc::Global;
 

@@ -1,29 +1,30 @@
 -- What the tests of an edit and the limits tell of the network after it.
 use Rattle.std.proofs.Common.{◌≡◌, ◌+◌, ◌<◌, ◌≤◌, Some, None, Option, List, [], ◌∷◌, ◌++◌, inl, inr, arith, refl, sym, ap, ◌∙◌, subst}
 use Rattle.std.specs.Prelude.{Err}
-use Rattle.nb_core.specs.declared.edit.Edit.{Edit}
-use Rattle.nb_core.specs.declared.refusal.Kind.{Kind}
-use Rattle.nb_core.specs.declared.refusal.Refusal.{Refusal}
-use Rattle.nb_net.specs.Amounts.{first_over, over_limit}
-use Rattle.nb_net.specs.Effect.{effect}
-use Rattle.nb_net.specs.Network.{Network}
-use Rattle.nb_net.specs.Readable.{IsReadable}
-use Rattle.nb_net.specs.Rises.{may_rise}
-use Rattle.nb_net.specs.Sound.{IsSound}
-use Rattle.nb_net.specs.Tests.{first_refusal, tests, refusal}
-use Rattle.nb_net.specs.Transactions.{unless, applied}
-use Rattle.nb_net.proofs.ApartEdits.{apart}
-use Rattle.nb_net.proofs.Drawn.{edit_draws}
-use Rattle.nb_net.proofs.EditsNumbered.{edit_numbered}
-use Rattle.nb_net.proofs.EditsRefer.{edit_refers}
-use Rattle.nb_net.proofs.NamedEdits.{named}
-use Rattle.nb_net.proofs.ReadableEdits.{readable}
-use Rattle.nb_net.proofs.RisesEdits.{edit_limit}
+use Rattle.nb_records.specs.declared.edit.Edit.{Edit}
+use Rattle.nb_records.specs.declared.refusal.Kind.{Kind}
+use Rattle.nb_records.specs.declared.refusal.Refusal.{Refusal}
+use Rattle.nb_model.specs.Amounts.{first_over, over_limit}
+use Rattle.nb_model.specs.Effect.{effect}
+use Rattle.nb_model.specs.Network.{Network}
+use Rattle.nb_model.specs.Readable.{IsReadable}
+use Rattle.nb_model.specs.Rises.{may_rise}
+use Rattle.nb_model.specs.Sound.{IsSound}
+use Rattle.nb_model.specs.Tests.{first_refusal, tests, refusal}
+use Rattle.nb_model.specs.Transactions.{unless, applied}
+use Rattle.nb_model.proofs.ApartEdits.{apart}
+use Rattle.nb_model.proofs.Drawn.{edit_draws}
+use Rattle.nb_model.proofs.EditsNumbered.{edit_numbered}
+use Rattle.nb_model.proofs.EditsRefer.{edit_refers}
+use Rattle.nb_model.proofs.NamedEdits.{named}
+use Rattle.nb_model.proofs.ReadableEdits.{readable}
+use Rattle.nb_model.proofs.RisesEdits.{edit_limit}
 use Rattle.nb_words.specs.Fault.{IsFaultOf}
 use Rattle.nb_words.specs.declared.fault.LineFault.{LineFault}
 use Rattle.nb_words.specs.declared.fault.LineFault.TheVariants.{Refused, Memory}
 use Rattle.nb_limits.specs.Limitless.{IsSoundButLimits}
-use Rattle.nb_members.specs.Tested.{tested}
+use Rattle.nb_valid.specs.Tested.{tested}
+use Rattle.nv_base.specs.Object.{number_limit}
 
 -- where the earlier tests pass, the last one decides
 last_decides : (earlier : List (Option Refusal)) (last : Option Refusal) → first_refusal earlier ≡ None → first_refusal (earlier ++ last ∷ []) ≡ last
@@ -48,7 +49,7 @@ pub next_at_most : (net : Network) (edit : Edit) → (effect net edit).next ≤ 
 next_at_most net edit = elim (edit_draws net edit) [ inl same ↦ omega (arith, same) | inr more ↦ omega (arith, more) ]
 
 -- an edit that no test refuses leaves the network sound but for its limits
-pub sound_but_limits : (net : Network) (edit : Edit) → IsSound net → IsReadable edit → net.next + 1 < 4294967294 → first_refusal (tests net edit) ≡ None → IsSoundButLimits (effect net edit)
+pub sound_but_limits : (net : Network) (edit : Edit) → IsSound net → IsReadable edit → net.next + 1 < number_limit → first_refusal (tests net edit) ≡ None → IsSoundButLimits (effect net edit)
 sound_but_limits net edit sound read room passes = record {
   numbered = edit_numbered net edit sound.numbered (omega (arith, next_at_most net edit));
   named = named net edit sound.named passes;

@@ -1,8 +1,8 @@
 -- Edits undone, one after another.
 use Rattle.std.proofs.Common.{◌≡◌, List, [], ◌∷◌, ◌++◌, refl, ap}
-use Rattle.nb_net.specs.Network.{Network}
-use Rattle.nb_tables.specs.Undo.{back}
-use Rattle.nb_tables.specs.declared.undo.Undo.{Undo}
+use Rattle.nb_model.specs.Network.{Network}
+use Rattle.nb_store.specs.Undo.{back}
+use Rattle.nb_store.specs.declared.undo.Undo.{Undo}
 use Rattle.nb_check.specs.inner.Undone.{back_all}
 
 -- the last edit is undone first

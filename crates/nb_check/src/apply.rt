@@ -1,21 +1,22 @@
 //! Edits of the records of a sound network, one by one: each is done, or changes nothing.
 ghost use Rattle.std.specs.Prelude.{◌≡◌, ◌+◌, ◌<◌, ◌≤◌, Ok, None, OnOk, OnErr, IfOk, IfErr, length};
 ghost use Rattle.std.specs.List.{AllByRecursion};
-ghost use Rattle.nb_net.specs.Amounts.{first_over};
-ghost use Rattle.nb_net.specs.Effect.{effect};
-ghost use Rattle.nb_net.specs.Readable.{IsReadable};
-ghost use Rattle.nb_net.specs.Sound.{IsSound};
-ghost use Rattle.nb_net.specs.Tests.{refusal};
-ghost use Rattle.nb_net.specs.Transactions.{unless, applied, edited};
-ghost use Rattle.nb_tables.specs.Undo.{back};
+ghost use Rattle.nb_model.specs.Amounts.{first_over};
+ghost use Rattle.nb_model.specs.Effect.{effect};
+ghost use Rattle.nb_model.specs.Readable.{IsReadable};
+ghost use Rattle.nb_model.specs.Sound.{IsSound};
+ghost use Rattle.nb_model.specs.Tests.{refusal};
+ghost use Rattle.nb_model.specs.Transactions.{unless, applied, edited};
+ghost use Rattle.nb_store.specs.Undo.{back};
 ghost use Rattle.nb_words.specs.Fault.{IsFaultOf};
 ghost use Rattle.nb_limits.specs.Ceilings.{AreCeilings};
 ghost use Rattle.nb_check.specs.inner.Undone.{back_all};
 ghost use Rattle.nb_limits.specs.Limitless.{IsSoundButLimits};
+ghost use Rattle.nv_base.specs.Object.{number_limit};
 
-use nb_core::{Edit, Kind};
 use nb_limits::{Ceilings, first_over, may_rise};
-use nb_tables::{Records, Undo};
+use nb_records::{Edit, Kind};
+use nb_store::{Records, Undo};
 use nb_valid::tested;
 use nb_words::LineFault;
 use std::alloc::Global;
@@ -31,7 +32,7 @@ pub(crate) fn apply(
     requires sound { IsSound records.old }
     requires known { AreCeilings records.old known.old }
     requires readable { IsReadable edit }
-    requires room { records.old.next + 1 < 4294967294 }
+    requires room { records.old.next + 1 < number_limit }
     ensures accepted { OnOk result (refusal records.old edit ≡ None) }
     ensures done { OnOk result (records.new ≡ effect records.old edit) }
     ensures back { IfOk result (λ undo. back undo records.new ≡ records.old) }
@@ -94,7 +95,7 @@ pub(crate) fn apply_each(
     requires sound { IsSound records.old }
     requires known { AreCeilings records.old known.old }
     requires readable { AllByRecursion IsReadable edits.items }
-    requires room { records.old.next + length edits.items < 4294967294 }
+    requires room { records.old.next + length edits.items < number_limit }
     ensures done { OnOk result (edited records.old edits.items ≡ Ok records.new) }
     ensures refused { IfErr result (λ fault. IsFaultOf (edited records.old edits.items) fault) }
     ensures back { back_all undos.new.items records.new ≡ back_all undos.old.items records.old }
@@ -118,7 +119,7 @@ fn apply_next(
     requires sound { IsSound records.old }
     requires known { AreCeilings records.old known.old }
     requires readable { IsReadable edit }
-    requires room { records.old.next + 1 < 4294967294 }
+    requires room { records.old.next + 1 < number_limit }
     ensures done { OnOk result (applied records.old edit ≡ Ok records.new) }
     ensures room { records.new.next ≤ records.old.next + 1 }
     ensures refused { IfErr result (λ fault. IsFaultOf (applied records.old edit) fault) }

@@ -1,20 +1,21 @@
 ghost use Rattle.std.specs.Prelude.{◌≡◌, ◌+◌, ◌<◌, ◌⊎◌, None, Ok, OnOk, OnErr, IfOk, IfErr, length};
 ghost use Rattle.std.specs.List.{AllByRecursion};
-ghost use Rattle.nb_core.specs.declared.refusal.Kind.TheVariants as kinds;
-ghost use Rattle.nb_net.specs.Amounts.{amount};
-ghost use Rattle.nb_net.specs.Effect.{effect};
-ghost use Rattle.nb_net.specs.Network.{empty_network};
-ghost use Rattle.nb_net.specs.Readable.{IsReadable};
-ghost use Rattle.nb_net.specs.Sound.{IsSound};
-ghost use Rattle.nb_net.specs.Tests.{refusal};
-ghost use Rattle.nb_net.specs.Transactions.{applied, edited};
-ghost use Rattle.nb_tables.specs.Undo.{back};
+ghost use Rattle.nb_records.specs.declared.refusal.Kind.TheVariants as kinds;
+ghost use Rattle.nb_model.specs.Amounts.{amount};
+ghost use Rattle.nb_model.specs.Effect.{effect};
+ghost use Rattle.nb_model.specs.Network.{empty_network};
+ghost use Rattle.nb_model.specs.Readable.{IsReadable};
+ghost use Rattle.nb_model.specs.Sound.{IsSound};
+ghost use Rattle.nb_model.specs.Tests.{refusal};
+ghost use Rattle.nb_model.specs.Transactions.{applied, edited};
+ghost use Rattle.nb_store.specs.Undo.{back};
 ghost use Rattle.nb_words.specs.Fault.{IsFaultOf};
+ghost use Rattle.nv_base.specs.Object.{number_limit};
 
 use crate::apply::{apply, apply_each, undo_all};
-use nb_core::{Edit, Kind};
 use nb_limits::{Ceilings, amount};
-use nb_tables::{Records, Undo};
+use nb_records::{Edit, Kind};
+use nb_store::{Records, Undo};
 use nb_words::LineFault;
 use nv_base::{Items, OutOfMemory};
 use std::alloc::Global;
@@ -28,9 +29,9 @@ pub struct Tables {
 }
 
 impl Model for Tables {
-    ghost use Rattle.nb_core.specs.contracts.acl.Acl as acl;
-    ghost use Rattle.nb_net.specs.Network.{Network};
-    ghost use Rattle.nb_net.specs.Sound.{IsSound};
+    ghost use Rattle.nb_records.specs.contracts.acl.Acl as acl;
+    ghost use Rattle.nb_model.specs.Network.{Network};
+    ghost use Rattle.nb_model.specs.Sound.{IsSound};
     ghost use Rattle.nb_limits.specs.Ceilings.{AreCeilings};
     ghost use Rattle.std.specs.Coded.{codes};
 
@@ -75,7 +76,7 @@ impl Tables {
     /// test that fails says (ovn-nbctl(8)). A refused edit changes nothing, nor does one for which memory ran out.
     pub fn apply(&mut self, alloc: Global, edit: Edit) -> Result<Undo, LineFault>
         requires readable { IsReadable edit }
-        requires room { self.old.next + 1 < 4294967294 }
+        requires room { self.old.next + 1 < number_limit }
         ensures accepted { OnOk result (refusal self.old edit ≡ None) }
         ensures done { OnOk result (self.new ≡ effect self.old edit) }
         ensures back { IfOk result (λ undo. back undo self.new ≡ self.old) }
@@ -99,7 +100,7 @@ impl Tables {
     /// transaction). Then, or where memory runs out, none is done.
     pub fn apply_all(&mut self, alloc: Global, edits: Items<Edit>) -> Result<(), LineFault>
         requires readable { AllByRecursion IsReadable edits }
-        requires room { self.old.next + length edits < 4294967294 }
+        requires room { self.old.next + length edits < number_limit }
         ensures done { OnOk result (edited self.old edits ≡ Ok self.new) }
         ensures refused { IfErr result (λ fault. IsFaultOf (edited self.old edits) fault) }
         ensures same { OnErr result (self.new ≡ self.old) }

@@ -4,9 +4,9 @@ use Rattle.std.specs.List.{AllByRecursion, find, list_all, slice_get}
 use Rattle.std.specs.Str.{bytes_eq}
 use Rattle.std.proofs.lemmas.Bool.{false≢true}
 use Rattle.std.proofs.lemmas.Slice.Eq.{bytes_eq-Decides}
-use Rattle.nb_core.specs.declared.acl.Verdict.TheVariants.{Allow, AllowRelated, AllowStateless, Drop, Reject}
-use Rattle.nb_core.specs.declared.edit.Edit.{Edit}
-use Rattle.nb_core.specs.declared.refusal.Refusal.TheVariants.{NotInProfile, UnknownCommand, WrongWords}
+use Rattle.nb_records.specs.declared.acl.Verdict.TheVariants.{Allow, AllowRelated, AllowStateless, Drop, Reject}
+use Rattle.nb_records.specs.declared.edit.Edit.{Edit}
+use Rattle.nb_records.specs.declared.refusal.Refusal.TheVariants.{NotInProfile, UnknownCommand, WrongWords}
 use Rattle.nb_words.specs.Commands.{command}
 use Rattle.nb_words.specs.declared.command.Command.{Command}
 use Rattle.nb_words.specs.declared.word.Word.{Word}
@@ -24,15 +24,15 @@ use Rattle.nb_edit.specs.declared.form.Tail.TheVariants.{Ends}
 use Rattle.nb_edit.specs.declared.verb.Verb.{Verb}
 use Rattle.nb_edit.specs.declared.verb.Verb.TheVariants as verb
 use Rattle.nb_edit.proofs.Fits.{has_places}
-use Rattle.nb_net.proofs.Reading
-use Rattle.nb_net.proofs.Reading.{goes_on, goes_on_anyway, there}
-use Rattle.nb_plain.specs.Plain.{tracks_none, IsBuilt}
+use Rattle.nb_model.proofs.Reading
+use Rattle.nb_model.proofs.Reading.{goes_on, goes_on_anyway, there}
+use Rattle.nb_model.specs.Plain.{tracks_none, IsBuilt}
 use Rattle.nb_cmds.specs.Built.{related_place, unbuilt, unbuilt_word, built, refused_option, optioned}
 use Rattle.nb_cmds.specs.Lines.{task, task_by, read_line}
-use Rattle.nb_tasks.specs.Tasks.{tasks, task_of, is_named}
+use Rattle.nb_cmds.specs.Tasks.{tasks, task_of, is_named}
 use Rattle.nb_cmds.specs.declared.line.Line.TheVariants as line
-use Rattle.nb_tasks.specs.declared.task.Task.{Task}
-use Rattle.nb_tasks.specs.declared.task.Task.TheVariants as task
+use Rattle.nb_cmds.specs.declared.task.Task.{Task}
+use Rattle.nb_cmds.specs.declared.task.Task.TheVariants as task
 use Rattle.nb_cmds.proofs.EachEdit.{HoldsAs, line_given}
 
 both : (a b : Bool) → (a && b) ≡ true → (a ≡ true) × (b ≡ true)

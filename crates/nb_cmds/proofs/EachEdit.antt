@@ -2,17 +2,17 @@
 use Rattle.std.proofs.Common.{◌≡◌, ℕ, List, [], ◌∷◌, ◌++◌, Ok, IfOk}
 use Rattle.std.specs.List.{AllByRecursion}
 use Rattle.std.proofs.lemmas.Result.{IfOk-at_ok}
-use Rattle.nb_core.specs.declared.edit.Edit.{Edit}
+use Rattle.nb_records.specs.declared.edit.Edit.{Edit}
 use Rattle.nb_words.specs.Commands.{read_commands}
 use Rattle.nb_words.specs.declared.command.Command.{Command}
-use Rattle.nb_net.proofs.Reading.{goes_on, goes_on_anyway}
+use Rattle.nb_model.proofs.Reading.{goes_on, goes_on_anyway}
 use Rattle.nb_cmds.specs.Built.{edit_of}
 use Rattle.nb_cmds.specs.Lines.{task, beside, edit_beside, edits, sole, said, read_line}
 use Rattle.nb_cmds.specs.Queries.{no_other_option, asked}
 use Rattle.nb_cmds.specs.declared.line.Line.{Line}
 use Rattle.nb_cmds.specs.declared.line.Line.TheVariants as line
-use Rattle.nb_tasks.specs.declared.task.Task.{Task}
-use Rattle.nb_tasks.specs.declared.task.Task.TheVariants as task
+use Rattle.nb_cmds.specs.declared.task.Task.{Task}
+use Rattle.nb_cmds.specs.declared.task.Task.TheVariants as task
 
 -- it holds of the edit that the command asks for, if it edits
 abbrev pub HoldsAs : (Edit → Type 0) → Command → Task → Type 0

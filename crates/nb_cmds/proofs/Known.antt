@@ -2,8 +2,8 @@
 use Rattle.std.proofs.Common.{◌≡◌, ℕ, ◌+◌, ◌<◌, ◌≤◌, Bool, List, [], ◌∷◌, length, get_or, drop, refl, sym, ap, ◌∙◌, subst, arith}
 use Rattle.std.specs.Prelude.{◌==◌, Some, Result, Ok, Err, IfOk, IfErr}
 use Rattle.std.proofs.lemmas.Bool.{le-ltb, lt-ltb}
-use Rattle.nb_core.specs.declared.refusal.Refusal.{Refusal}
-use Rattle.nb_core.specs.declared.refusal.Refusal.TheVariants.{WrongWords}
+use Rattle.nb_records.specs.declared.refusal.Refusal.{Refusal}
+use Rattle.nb_records.specs.declared.refusal.Refusal.TheVariants.{WrongWords}
 use Rattle.nb_words.specs.Fault.{IsFaultOf}
 use Rattle.nb_words.specs.declared.command.Command.{Command}
 use Rattle.nb_words.specs.declared.fault.LineFault.{LineFault}
@@ -15,8 +15,8 @@ use Rattle.nb_cmds.specs.Lines.{edits, said}
 use Rattle.nb_cmds.specs.Queries.{minimal_after, query_of, trace, trace_of, traced}
 use Rattle.nb_cmds.specs.declared.line.Line.TheVariants as line
 use Rattle.nb_cmds.specs.declared.query.Query.TheVariants as query
-use Rattle.nb_tasks.specs.declared.task.Question.{Question}
-use Rattle.nb_tasks.specs.declared.task.Question.TheVariants as question
+use Rattle.nb_cmds.specs.declared.task.Question.{Question}
+use Rattle.nb_cmds.specs.declared.task.Question.TheVariants as question
 
 -- ---- lists of a known length
 

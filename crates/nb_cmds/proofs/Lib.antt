@@ -7,3 +7,4 @@ pub mod Quoted
 pub mod ReadableLines
 pub mod ShortLines
 pub mod Small
+pub mod CommandReadings

@@ -35,8 +35,8 @@ use Rattle.expr_check.specs.Check.{checked}
 use Rattle.expr_check.specs.declared.fault.TypeFault.{TypeFault}
 use Rattle.expr_check.proofs.Passed.{well_typed}
 use Rattle.nb_read.specs.Readings.{checked_match, parsed_match}
-use Rattle.nb_net.proofs.MatchReadings.{IsWhole, formed_too, reading_whole}
-use Rattle.nb_net.proofs.Reading.{goes_on, there_after}
+use Rattle.nb_model.proofs.MatchReadings.{IsWhole, formed_too, reading_whole}
+use Rattle.nb_model.proofs.Reading.{goes_on, there_after}
 use Rattle.pkt_core.specs.Packet.{Values, IsPacket, place, value, with_value, with_values, zero_packet}
 use Rattle.pkt_core.proofs.Only.{place_within, field_at}
 use Rattle.pkt_micro.specs.Microflow.{implied, prerequisite_named, said_of, said_by, joined, said, all_said, is_of, is_contradicted, number_of, numbered, name_of, port_said, judged, microflow, microflow_of}

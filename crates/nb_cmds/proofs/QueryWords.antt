@@ -3,14 +3,14 @@ use Rattle.std.proofs.Common.{◌≡◌, ◌+◌, ◌==◌, nat_lt, ℕ, Bool, L
 use Rattle.std.specs.Bool.{IsTrue}
 use Rattle.std.proofs.lemmas.Result.{IfOk-at_ok}
 use Rattle.nv_base.specs.Name.{is_object_name, is_quotable}
-use Rattle.nb_core.specs.declared.refusal.Refusal.TheVariants.{WrongWords}
+use Rattle.nb_records.specs.declared.refusal.Refusal.TheVariants.{WrongWords}
 use Rattle.nb_words.specs.Commands.{read_commands}
 use Rattle.nb_words.specs.declared.command.Command.{Command}
 use Rattle.nb_words.specs.declared.word.Word.{Word}
 use Rattle.nb_edit.specs.Commands.{option_count}
 use Rattle.nb_read.specs.Readings.{object_name}
-use Rattle.nb_net.proofs.Reading.{goes_on, goes_on_anyway, not_refused}
-use Rattle.nb_net.proofs.WordReadings.{object_name_given}
+use Rattle.nb_model.proofs.Reading.{goes_on, goes_on_anyway, not_refused}
+use Rattle.nb_model.proofs.WordReadings.{object_name_given}
 use Rattle.pkt_core.specs.Packet.{IsPacket}
 use Rattle.nb_cmds.specs.Built.{edit_of}
 use Rattle.nb_cmds.specs.Lines.{task, edits, sole, said, read_line}
@@ -20,10 +20,10 @@ use Rattle.nb_cmds.specs.declared.line.Line.{Line}
 use Rattle.nb_cmds.specs.declared.line.Line.TheVariants as line
 use Rattle.nb_cmds.specs.declared.query.Query.{Query}
 use Rattle.nb_cmds.specs.declared.query.Query.TheVariants as query
-use Rattle.nb_tasks.specs.declared.task.Question.{Question}
-use Rattle.nb_tasks.specs.declared.task.Question.TheVariants as question
-use Rattle.nb_tasks.specs.declared.task.Task.{Task}
-use Rattle.nb_tasks.specs.declared.task.Task.TheVariants as task
+use Rattle.nb_cmds.specs.declared.task.Question.{Question}
+use Rattle.nb_cmds.specs.declared.task.Question.TheVariants as question
+use Rattle.nb_cmds.specs.declared.task.Task.{Task}
+use Rattle.nb_cmds.specs.declared.task.Task.TheVariants as task
 use Rattle.nb_cmds.proofs.Microflows
 use Rattle.nb_cmds.proofs.Microflows.{micro_given}
 

@@ -5,8 +5,8 @@ use Rattle.std.specs.Str.{is_utf8}
 use Rattle.std.proofs.lemmas.Bool.{le-ltb, ltb-true, leb-true}
 use Rattle.std.proofs.lemmas.Str.{IsUtf8-append, IsUtf8-nil, IsUtf8-from_ascii, is_utf8-from_IsUtf8}
 use Rattle.nv_base.specs.Name.{is_object_name, is_name_byte, is_quote}
-use Rattle.nb_core.specs.declared.edit.Edit.TheVariants.{LsAdd}
-use Rattle.nb_core.specs.declared.refusal.Refusal.TheVariants.{LineTooLong, NotUtf8, BadName}
+use Rattle.nb_records.specs.declared.edit.Edit.TheVariants.{LsAdd}
+use Rattle.nb_records.specs.declared.refusal.Refusal.TheVariants.{LineTooLong, NotUtf8, BadName}
 use Rattle.nb_words.specs.declared.word.Word.{Word}
 use Rattle.nb_words.specs.Commands.{command, commands_of, is_between, numbered, read_commands}
 use Rattle.nb_words.specs.Quoting.{is_quotable, quoted_word}
@@ -16,7 +16,7 @@ use Rattle.nb_read.specs.Then.{and_then}
 use Rattle.nb_edit.specs.Forms.{verbs}
 use Rattle.nb_cmds.specs.Lines.{said}
 use Rattle.nb_cmds.specs.Quoted.{quoted_switch, IsRead}
-use Rattle.nb_tasks.specs.Tasks.{tasks}
+use Rattle.nb_cmds.specs.Tasks.{tasks}
 use Rattle.nb_cmds.specs.declared.line.Line.TheVariants.{Edits}
 
 both : (a b : Bool) → (a && b) ≡ true → (a ≡ true) × (b ≡ true)

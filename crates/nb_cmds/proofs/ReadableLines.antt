@@ -1,21 +1,21 @@
 -- The edits that a line asks for are readable.
 use Rattle.std.proofs.Common.{◌≡◌, ◌+◌, ℕ, List, Option, Some, None, Result, Ok, Err, IfOk, refl, take}
 use Rattle.std.specs.List.{AllByRecursion}
-use Rattle.nb_core.specs.declared.edit.Edit.{Edit}
-use Rattle.nb_core.specs.declared.refusal.Refusal.{Refusal}
-use Rattle.nb_core.specs.declared.refusal.Refusal.TheVariants.{NotInProfile}
+use Rattle.nb_records.specs.declared.edit.Edit.{Edit}
+use Rattle.nb_records.specs.declared.refusal.Refusal.{Refusal}
+use Rattle.nb_records.specs.declared.refusal.Refusal.TheVariants.{NotInProfile}
 use Rattle.nb_words.specs.Commands.{command}
 use Rattle.nb_words.specs.declared.command.Command.{Command}
 use Rattle.nb_edit.specs.Commands.{read_command}
 use Rattle.nb_edit.specs.declared.verb.Verb.{Verb}
-use Rattle.nb_net.specs.Readable.{IsReadable}
-use Rattle.nb_readable.proofs.CommandReadings.{command_readable}
-use Rattle.nb_net.proofs.Reading.{goes_on_anyway}
+use Rattle.nb_model.specs.Readable.{IsReadable}
+use Rattle.nb_cmds.proofs.CommandReadings.{command_readable}
+use Rattle.nb_model.proofs.Reading.{goes_on_anyway}
 use Rattle.nb_cmds.specs.Built.{unbuilt_word, built, refused_option, optioned}
 use Rattle.nb_cmds.specs.Lines.{task, read_line}
 use Rattle.nb_cmds.specs.declared.line.Line.TheVariants as line
-use Rattle.nb_tasks.specs.declared.task.Task.{Task}
-use Rattle.nb_tasks.specs.declared.task.Task.TheVariants as task
+use Rattle.nb_cmds.specs.declared.task.Task.{Task}
+use Rattle.nb_cmds.specs.declared.task.Task.TheVariants as task
 use Rattle.nb_cmds.proofs.EachEdit.{HoldsAs, line_given}
 
 command_given : (c : Command) → IfOk (read_command c) IsReadable

@@ -5,23 +5,23 @@ use Rattle.std.specs.Str.{is_utf8}
 use Rattle.std.proofs.lemmas.List.Splits.{length-slice_split}
 use Rattle.std.proofs.lemmas.List.Sums.{count_by-le-length}
 use Rattle.std.proofs.lemmas.Result.{IfOk-at_ok, IfOk-weaker}
-use Rattle.nb_core.specs.declared.edit.Edit.{Edit}
-use Rattle.nb_core.specs.declared.refusal.Refusal.{Refusal}
-use Rattle.nb_core.specs.declared.refusal.Refusal.TheVariants.{LineTooLong, NotUtf8}
+use Rattle.nb_records.specs.declared.edit.Edit.{Edit}
+use Rattle.nb_records.specs.declared.refusal.Refusal.{Refusal}
+use Rattle.nb_records.specs.declared.refusal.Refusal.TheVariants.{LineTooLong, NotUtf8}
 use Rattle.nb_words.specs.Commands.{commands_of, is_between, line_limit, numbered, read_commands, says_nothing}
 use Rattle.nb_words.specs.Words.{words_of}
 use Rattle.nb_words.specs.declared.command.Command.{Command}
 use Rattle.nb_words.specs.declared.word.Word.{Word}
 use Rattle.nb_words.proofs.Counts.{no_more_words}
 use Rattle.nb_edit.specs.Commands.{option_count}
-use Rattle.nb_net.proofs.Reading.{both_ways, goes_on, goes_on_anyway, not_refused}
+use Rattle.nb_model.proofs.Reading.{both_ways, goes_on, goes_on_anyway, not_refused}
 use Rattle.nb_cmds.specs.Built.{edit_of}
 use Rattle.nb_cmds.specs.Lines.{task, task_by, beside, edit_beside, edits, sole, said, read_line}
 use Rattle.nb_cmds.specs.Queries.{asked}
 use Rattle.nb_cmds.specs.declared.line.Line.{Line}
 use Rattle.nb_cmds.specs.declared.line.Line.TheVariants as line
-use Rattle.nb_tasks.specs.declared.task.Task.{Task}
-use Rattle.nb_tasks.specs.declared.task.Task.TheVariants as task
+use Rattle.nb_cmds.specs.declared.task.Task.{Task}
+use Rattle.nb_cmds.specs.declared.task.Task.TheVariants as task
 
 -- the command has a word
 abbrev pub HasWord : Command → Type 0

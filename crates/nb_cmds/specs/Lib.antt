@@ -4,3 +4,4 @@ pub mod Microflows
 pub mod Quoted
 pub mod Queries
 pub mod inner
+pub mod Tasks

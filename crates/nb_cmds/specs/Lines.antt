@@ -1,9 +1,9 @@
 -- What a line says.
 use Rattle.std.specs.Prelude.{ℕ, ◌+◌, List, [], ◌∷◌, ◌++◌, Option, Some, None, ok_or, Result, Ok, Err}
 use Rattle.std.specs.List.{slice_get}
-use Rattle.nb_core.specs.declared.edit.Edit as edit
-use Rattle.nb_core.specs.declared.refusal.Refusal.{Refusal}
-use Rattle.nb_core.specs.declared.refusal.Refusal.TheVariants.{UnknownCommand, WrongWords}
+use Rattle.nb_records.specs.declared.edit.Edit as edit
+use Rattle.nb_records.specs.declared.refusal.Refusal.{Refusal}
+use Rattle.nb_records.specs.declared.refusal.Refusal.TheVariants.{UnknownCommand, WrongWords}
 use Rattle.nb_words.specs.Commands.{read_commands}
 use Rattle.nb_words.specs.declared.command.Command.{Command}
 use Rattle.nb_words.specs.declared.word.Word.{Word}
@@ -11,11 +11,11 @@ use Rattle.nb_read.specs.Then.{and_then}
 use Rattle.nb_edit.specs.Commands.{option_count}
 use Rattle.nb_cmds.specs.Built.{edit_of}
 use Rattle.nb_cmds.specs.Queries.{no_other_option, asked}
-use Rattle.nb_tasks.specs.Tasks.{task_of}
+use Rattle.nb_cmds.specs.Tasks.{task_of}
 use Rattle.nb_cmds.specs.declared.line.Line.{Line}
 use Rattle.nb_cmds.specs.declared.line.Line.TheVariants as line
-use Rattle.nb_tasks.specs.declared.task.Task.{Task}
-use Rattle.nb_tasks.specs.declared.task.Task.TheVariants.{Edit, Query}
+use Rattle.nb_cmds.specs.declared.task.Task.{Task}
+use Rattle.nb_cmds.specs.declared.task.Task.TheVariants.{Edit, Query}
 
 -- what is asked for by the word of this number, which is to be a name that is built
 abbrev pub task_by : ℕ → Option Word → Result Task Refusal

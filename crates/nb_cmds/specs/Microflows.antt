@@ -2,9 +2,9 @@
 use Rattle.std.specs.Prelude.{ℕ, List, Result, Ok, Err}
 use Rattle.expr_core.specs.declared.role.Role.TheVariants as role
 use Rattle.expr_parse.specs.Grammar.{reading}
-use Rattle.nb_core.specs.declared.refusal.MicroRule.TheVariants as rule
-use Rattle.nb_core.specs.declared.refusal.Refusal.{Refusal}
-use Rattle.nb_core.specs.declared.refusal.Refusal.TheVariants.{WrongWords, BadMicroflow}
+use Rattle.nb_records.specs.declared.refusal.MicroRule.TheVariants as rule
+use Rattle.nb_records.specs.declared.refusal.Refusal.{Refusal}
+use Rattle.nb_records.specs.declared.refusal.Refusal.TheVariants.{WrongWords, BadMicroflow}
 use Rattle.nb_read.specs.Then.{and_then}
 use Rattle.nb_read.specs.Readings.{parsed_match}
 use Rattle.pkt_micro.specs.Microflow.{microflow}

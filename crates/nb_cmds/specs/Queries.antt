@@ -1,7 +1,7 @@
 -- The queries.
 use Rattle.std.specs.Prelude.{ℕ, ◌+◌, ◌==◌, nat_lt, Bool, not, List, [], ◌∷◌, drop, take, position, Option, Some, None, Result, Ok, Err, if◌then◌else◌}
-use Rattle.nb_core.specs.declared.refusal.Refusal.{Refusal}
-use Rattle.nb_core.specs.declared.refusal.Refusal.TheVariants.{WrongWords, NotInProfile}
+use Rattle.nb_records.specs.declared.refusal.Refusal.{Refusal}
+use Rattle.nb_records.specs.declared.refusal.Refusal.TheVariants.{WrongWords, NotInProfile}
 use Rattle.nb_words.specs.declared.command.Command.{Command}
 use Rattle.nb_words.specs.declared.word.Word.{Word}
 use Rattle.nb_read.specs.Then.{and_then}
@@ -10,9 +10,9 @@ use Rattle.nb_read.specs.Readings.{object_name}
 use Rattle.nb_cmds.specs.Microflows.{micro_of}
 use Rattle.nb_cmds.specs.declared.query.Query.{Query}
 use Rattle.nb_cmds.specs.declared.query.Query.TheVariants.{FlowList, Trace, Dump}
-use Rattle.nb_tasks.specs.Tasks.{is_minimal, takes}
-use Rattle.nb_tasks.specs.declared.task.Question.{Question}
-use Rattle.nb_tasks.specs.declared.task.Question.TheVariants as question
+use Rattle.nb_cmds.specs.Tasks.{is_minimal, takes}
+use Rattle.nb_cmds.specs.declared.task.Question.{Question}
+use Rattle.nb_cmds.specs.declared.task.Question.TheVariants as question
 
 -- an option at this place is refused
 abbrev pub refused_at : ℕ → Option ℕ → Result (Unit {0}) Refusal

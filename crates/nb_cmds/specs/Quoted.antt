@@ -1,6 +1,6 @@
 -- An edit whose words are in quotes.
 use Rattle.std.specs.Prelude.{ℕ, ◌≡◌, false, List, [], ◌∷◌, Ok, codes}
-use Rattle.nb_core.specs.declared.edit.Edit.TheVariants.{LsAdd}
+use Rattle.nb_records.specs.declared.edit.Edit.TheVariants.{LsAdd}
 use Rattle.nb_words.specs.Quoting.{quoted_line}
 use Rattle.nb_cmds.specs.Lines.{read_line}
 use Rattle.nb_cmds.specs.declared.line.Line.TheVariants.{Edits}

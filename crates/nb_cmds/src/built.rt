@@ -4,8 +4,8 @@ ghost use Rattle.nb_words.specs.Commands.{is_small};
 ghost use Rattle.nb_words.specs.Fault.{IsFaultOf};
 ghost use Rattle.nb_cmds.specs.Built.{is_refused, refused_option, is_router, router_place, related_place, unbuilt, unbuilt_word, not_built, built, optioned, edit_of};
 
-use nb_core::{Edit, Refusal};
 use nb_edit::{Verb, is_taken, option_count, read_command, read_words};
+use nb_records::{Edit, Refusal};
 use nb_words::{Command, LineFault, Word};
 use std::alloc::Global;
 

@@ -1,9 +1,9 @@
 //! The laws of lines.
 ghost use Rattle.std.specs.Prelude.{◌≡◌, ◌≤◌, ℕ, Bool, List, Some, Ok, IsTrue, length, true};
 ghost use Rattle.std.specs.List.{AllByRecursion};
-ghost use Rattle.nb_core.specs.declared.edit.Edit.{Edit};
-ghost use Rattle.nb_net.specs.Readable.{IsReadable};
-ghost use Rattle.nb_plain.specs.Plain.{IsBuilt};
+ghost use Rattle.nb_records.specs.declared.edit.Edit.{Edit};
+ghost use Rattle.nb_model.specs.Readable.{IsReadable};
+ghost use Rattle.nb_model.specs.Plain.{IsBuilt};
 ghost use Rattle.nv_base.specs.Name.{is_object_name, is_quotable};
 ghost use Rattle.nb_cmds.specs.Lines.{read_line};
 ghost use Rattle.nb_cmds.specs.Quoted.{IsRead};

@@ -1,4 +1,4 @@
-//! What a line of the script says: edits, or a query.
+//! What a line of the script says: edits, or a query; and what the names of commands and queries ask for.
 #![tactic(auto)]
 
 mod built;
@@ -6,11 +6,14 @@ mod laws;
 mod line;
 mod microflow;
 mod query;
+mod readings;
+mod task;
 
 pub use laws::{
     lines_ask_for_built_edits, lines_ask_for_readable_edits, lines_have_no_more_edits_than_bytes,
     queries_have_well_read_words, quoted_switches_are_read,
 };
 pub use line::{Line, read_line};
-pub use nb_tasks::{Question, Task, task_of};
 pub use query::Query;
+pub use readings::what_commands_ask_for_is_readable;
+pub use task::{Question, Task, task_of};

@@ -7,9 +7,9 @@ ghost use Rattle.nb_cmds.specs.Lines.{task, edit_beside, edits, alone, said, rea
 
 use crate::built::edit_of;
 use crate::query::{Query, asked, no_other_option};
-use nb_core::{Edit, Refusal};
+use crate::task::{Task, task_of};
 use nb_edit::option_count;
-use nb_tasks::{Task, task_of};
+use nb_records::{Edit, Refusal};
 use nb_words::{Command, LineFault, read_commands};
 use nv_base::{Items, OutOfMemory};
 use std::alloc::Global;

@@ -5,8 +5,8 @@ ghost use Rattle.nb_cmds.specs.Microflows.{micro_of};
 ghost use Rattle.nb_cmds.specs.inner.Faults.{micro_fault};
 
 use expr_core::Role;
-use nb_core::{MicroRule, Refusal};
 use nb_read::typed_match;
+use nb_records::{MicroRule, Refusal};
 use nb_words::LineFault;
 use pkt_micro::{Micro, MicroFault, packet_of};
 use std::alloc::Global;

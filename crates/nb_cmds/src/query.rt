@@ -4,14 +4,14 @@ ghost use Rattle.std.specs.List.{list_all};
 ghost use Rattle.nb_words.specs.Commands.{is_short, is_small};
 ghost use Rattle.nb_words.specs.Fault.{IsFaultOf};
 ghost use Rattle.nb_edit.specs.Commands as command;
-ghost use Rattle.nb_tasks.specs.Tasks.{is_minimal, takes};
+ghost use Rattle.nb_cmds.specs.Tasks.{is_minimal, takes};
 ghost use Rattle.nb_cmds.specs.Queries.{no_other_option, trace_of, traced, minimal_after, trace, query_of, asked};
 
 use crate::microflow::micro_of;
-use nb_core::Refusal;
+use crate::task::{Question, is_minimal, takes};
 use nb_edit::option_count;
 use nb_read::object_name;
-use nb_tasks::{Question, is_minimal, takes};
+use nb_records::Refusal;
 use nb_words::{Command, LineFault, Word};
 use nv_base::Name;
 use pkt_micro::Micro;

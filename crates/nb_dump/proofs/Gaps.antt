@@ -7,8 +7,8 @@ use Rattle.std.proofs.lemmas.Grind.{flat_map-append}
 use Rattle.std.proofs.lemmas.List.{append-nil}
 use Rattle.std.proofs.lemmas.List.FromFn.{map-range_with_len_more}
 use Rattle.nv_base.specs.declared.object.ObjId.{ObjId}
-use Rattle.nb_table.specs.Table.{NumbersRise, record_of, record_after}
-use Rattle.nb_core.specs.declared.edit.Edit.{Edit}
+use Rattle.nv_table.specs.Table.{NumbersRise, record_of, record_after}
+use Rattle.nb_records.specs.declared.edit.Edit.{Edit}
 use Rattle.nb_dump.specs.inner.Parts.{object, first_edits, AreNone}
 
 -- no record has a number below all of them

@@ -3,16 +3,16 @@ use Rattle.std.proofs.Common.{◌≡◌, ℕ, ◌<◌, List, [], ◌∷◌, ◌+
 use Rattle.std.proofs.lemmas.Grind.{flat_map-append}
 use Rattle.std.proofs.lemmas.List.{append-nil}
 use Rattle.nv_base.specs.declared.object.ObjId.{ObjId}
-use Rattle.nb_core.specs.Refusal.{spaced}
-use Rattle.nb_core.specs.declared.edit.Edit.{Edit}
-use Rattle.nb_core.specs.declared.edit.Edit.TheVariants as edit
-use Rattle.nb_core.specs.declared.sets.Group.{Group}
-use Rattle.nb_core.specs.declared.switch.Addr.{Addr}
-use Rattle.nb_core.specs.declared.switch.Guard.{Guard}
-use Rattle.nb_net.specs.Network.{Network}
+use Rattle.nb_records.specs.Refusal.{spaced}
+use Rattle.nb_records.specs.declared.edit.Edit.{Edit}
+use Rattle.nb_records.specs.declared.edit.Edit.TheVariants as edit
+use Rattle.nb_records.specs.declared.sets.Group.{Group}
+use Rattle.nb_records.specs.declared.switch.Addr.{Addr}
+use Rattle.nb_records.specs.declared.switch.Guard.{Guard}
+use Rattle.nb_model.specs.Network.{Network}
 use Rattle.nb_text.specs.Words.{each_spaced}
 use Rattle.nv_base.proofs.Growth.{appended_twice}
-use Rattle.nb_script.specs.Commands.{command_line, script}
+use Rattle.nb_text.specs.Commands.{command_line, script}
 use Rattle.nb_dump.specs.Edits.{option_edits, address_edits, guard_edits, ports_edits, members_edits, port_name}
 
 -- words of texts that were made before are the words of what they are made of

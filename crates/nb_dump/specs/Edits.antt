@@ -2,27 +2,27 @@
 use Rattle.std.specs.Prelude.{ℕ, ◌-◌, Bool, false, if◌then◌else◌, List, [], ◌∷◌, ◌++◌, map, Option, None, Some}
 use Rattle.std.specs.List.{flat_map, range_with_len}
 use Rattle.nv_base.specs.declared.object.ObjId.{ObjId}
-use Rattle.nb_table.specs.Table.{record_of}
-use Rattle.nb_core.specs.declared.acl.Acl.{Acl}
-use Rattle.nb_core.specs.declared.balancer.Lb.{Lb}
-use Rattle.nb_core.specs.declared.edit.Edit.{Edit}
-use Rattle.nb_core.specs.declared.edit.Edit.TheVariants as edit
-use Rattle.nb_core.specs.declared.edit.OwnerKind.TheVariants as owner_kind
-use Rattle.nb_core.specs.declared.router.Binding.{Binding}
-use Rattle.nb_core.specs.declared.router.Nat.{Nat}
-use Rattle.nb_core.specs.declared.router.Route.{Route}
-use Rattle.nb_core.specs.declared.router.Router.{Router}
-use Rattle.nb_core.specs.declared.router.RouterPort.{RouterPort}
-use Rattle.nb_core.specs.declared.sets.AddrSet.{AddrSet}
-use Rattle.nb_core.specs.declared.sets.Group.{Group}
-use Rattle.nb_core.specs.declared.switch.Addr.{Addr}
-use Rattle.nb_core.specs.declared.switch.Guard.{Guard}
-use Rattle.nb_core.specs.declared.switch.Port.{Port}
-use Rattle.nb_core.specs.declared.switch.PortKind.{PortKind}
-use Rattle.nb_core.specs.declared.switch.PortKind.TheVariants as kind
-use Rattle.nb_core.specs.declared.switch.Switch.{Switch}
-use Rattle.nb_net.specs.Network.{Network}
-use Rattle.nb_script.specs.Commands.{policy}
+use Rattle.nv_table.specs.Table.{record_of}
+use Rattle.nb_records.specs.declared.acl.Acl.{Acl}
+use Rattle.nb_records.specs.declared.balancer.Lb.{Lb}
+use Rattle.nb_records.specs.declared.edit.Edit.{Edit}
+use Rattle.nb_records.specs.declared.edit.Edit.TheVariants as edit
+use Rattle.nb_records.specs.declared.edit.OwnerKind.TheVariants as owner_kind
+use Rattle.nb_records.specs.declared.router.Binding.{Binding}
+use Rattle.nb_records.specs.declared.router.Nat.{Nat}
+use Rattle.nb_records.specs.declared.router.Route.{Route}
+use Rattle.nb_records.specs.declared.router.Router.{Router}
+use Rattle.nb_records.specs.declared.router.RouterPort.{RouterPort}
+use Rattle.nb_records.specs.declared.sets.AddrSet.{AddrSet}
+use Rattle.nb_records.specs.declared.sets.Group.{Group}
+use Rattle.nb_records.specs.declared.switch.Addr.{Addr}
+use Rattle.nb_records.specs.declared.switch.Guard.{Guard}
+use Rattle.nb_records.specs.declared.switch.Port.{Port}
+use Rattle.nb_records.specs.declared.switch.PortKind.{PortKind}
+use Rattle.nb_records.specs.declared.switch.PortKind.TheVariants as kind
+use Rattle.nb_records.specs.declared.switch.Switch.{Switch}
+use Rattle.nb_model.specs.Network.{Network}
+use Rattle.nb_text.specs.Commands.{policy}
 
 -- the object of a number, where there is one of the kind
 abbrev pub switch_of : Network → ObjId → Option Switch

@@ -1,6 +1,6 @@
 ghost use Rattle.std.specs.Prelude.{◌≡◌, ◌++◌, OnOk, OnErr};
 ghost use Rattle.nv_base.specs.Growth.{GrowsAtEnd};
-ghost use Rattle.nb_script.specs.Commands.{script};
+ghost use Rattle.nb_text.specs.Commands.{script};
 ghost use Rattle.nb_dump.specs.Dump.{dump};
 ghost use Rattle.nb_dump.specs.Edits.{dump_edits};
 

@@ -1,16 +1,15 @@
 //! What stands at the end of a dump: the ports of groups, and load balancers where they are attached.
 ghost use Rattle.std.specs.Prelude.{◌≡◌, ◌++◌, map, OnOk, OnErr};
 ghost use Rattle.nv_base.specs.Growth.{GrowsAtEnd};
-ghost use Rattle.nb_core.specs.declared.edit.Edit.TheVariants as edit;
+ghost use Rattle.nb_records.specs.declared.edit.Edit.TheVariants as edit;
 ghost use Rattle.nb_text.specs.Words.{each_spaced};
-ghost use Rattle.nb_script.specs.Commands.{command_line, script};
+ghost use Rattle.nb_text.specs.Commands.{command_line, script};
 ghost use Rattle.nb_dump.specs.Edits.{port_name, members_edits, switch_lb_edits, router_lb_edits};
 
 use crate::Objects;
 use crate::names::{lb_name, port_name};
-use nb_core::{Group, Router, Switch};
-use nb_rules::{put_lr_lb_add, put_ls_lb_add};
-use nb_text::put_word;
+use nb_records::{Group, Router, Switch};
+use nb_text::{put_lr_lb_add, put_ls_lb_add, put_word};
 use nv_base::{ObjId, OutOfMemory};
 
 // The names of ports, each after a space.

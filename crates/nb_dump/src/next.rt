@@ -1,13 +1,13 @@
 //! The next number that an object has.
 ghost use Rattle.std.specs.Prelude.{◌≡◌, ◌<◌, ℕ, None, IfSome, IfNone};
-ghost use Rattle.nb_table.specs.Table.{record_of};
+ghost use Rattle.nv_table.specs.Table.{record_of};
 ghost use Rattle.nb_dump.specs.declared.parts.Part.TheVariants as parts;
 ghost use Rattle.nb_dump.specs.inner.Parts.{object, edits_at, AreNone, IsNoDatapath, IsNoRule, IsNotListed};
 
 use crate::Objects;
 use crate::parts::Part;
-use nb_table::{Record, Table};
 use nv_base::ObjId;
+use nv_table::{Record, Table};
 
 // The least number above this one that a record has, or 2^32 where none has one.
 fn number_after<R: Record>(table: &Table<R>, low: u32) -> u64

@@ -1,5 +1,5 @@
-use nb_core::{Acl, AddrSet, Binding, Group, Lb, Nat, Port, Route, Router, RouterPort, Switch};
-use nb_table::Table;
+use nb_records::{Acl, AddrSet, Binding, Group, Lb, Nat, Port, Route, Router, RouterPort, Switch};
+use nv_table::Table;
 use std::marker::Model;
 
 /// The objects of a network, and the number that the next one gets. A clause sees the network.
@@ -20,9 +20,9 @@ pub struct Objects<'a> {
 }
 
 impl<'a> Model for Objects<'a> {
-    ghost use Rattle.nb_net.specs.Network.{Network};
+    ghost use Rattle.nb_model.specs.Network.{Network};
     ghost use Rattle.std.specs.Coded.{codes};
-    ghost use Rattle.nb_core.specs.contracts.acl.Acl as acl_of;
+    ghost use Rattle.nb_records.specs.contracts.acl.Acl as acl_of;
 
     ghost Value = { Network };
 

@@ -1,8 +1,8 @@
 //! The parts of a dump: each is a list of commands, by rising number of the objects that they are about.
 ghost use Rattle.std.specs.Prelude.{◌≡◌, ◌-◌, ◌++◌, OnOk, OnErr};
 ghost use Rattle.nv_base.specs.Growth.{GrowsAtEnd};
-ghost use Rattle.nb_table.specs.Table.{record_of};
-ghost use Rattle.nb_script.specs.Commands.{script};
+ghost use Rattle.nv_table.specs.Table.{record_of};
+ghost use Rattle.nb_text.specs.Commands.{script};
 ghost use Rattle.nb_dump.specs.Edits.{edits_for, datapath_edits, rule_edits, listed_edits, object_edits};
 ghost use Rattle.nb_dump.specs.inner.Parts.{edits_at, first_edits};
 
@@ -10,8 +10,8 @@ use crate::Objects;
 use crate::ends::{put_members, put_router_lbs, put_switch_lbs};
 use crate::next::next_number;
 use crate::records::Scripted;
-use nb_table::Table;
 use nv_base::{ObjId, OutOfMemory};
+use nv_table::Table;
 
 /// A part of a dump.
 #[derive(Clone, Copy)]

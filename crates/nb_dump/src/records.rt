@@ -1,31 +1,31 @@
 //! The commands that make a record again.
 ghost use Rattle.std.specs.Prelude.{◌≡◌, ◌++◌, OnOk, OnErr};
 ghost use Rattle.nv_base.specs.Growth.{GrowsAtEnd};
-ghost use Rattle.nb_script.specs.Commands.{script};
+ghost use Rattle.nb_text.specs.Commands.{script};
 ghost use Rattle.nb_dump.specs.Edits.{kind_edits, option_edits, address_edits, guard_edits, port_state_edits, router_port_state_edits};
 
 use crate::Objects;
 use crate::names::{group_name, router_name, router_port_name, switch_name};
-use nb_core::{
+use nb_records::{
     Acl, Addr, AddrSet, Binding, Group, Guard, Lb, Nat, Port, PortKind, Route, Router, RouterPort,
     Switch,
 };
-use nb_rules::{put_as_add, put_group_acl, put_lb_add, put_pg_add, put_switch_acl};
-use nb_script::{
-    put_lr_add, put_lr_nat_add, put_lr_route_add, put_lrp_add, put_ls_add, put_lsp_add,
-    put_lsp_set_addresses, put_lsp_set_options, put_lsp_set_port_security, put_port_disabled,
-    put_router_port_disabled, put_smb_add, put_to_router,
+use nb_text::{
+    put_as_add, put_group_acl, put_lb_add, put_lr_add, put_lr_nat_add, put_lr_route_add,
+    put_lrp_add, put_ls_add, put_lsp_add, put_lsp_set_addresses, put_lsp_set_options,
+    put_lsp_set_port_security, put_pg_add, put_port_disabled, put_router_port_disabled,
+    put_smb_add, put_switch_acl, put_to_router,
 };
-use nb_table::Record;
 use nv_base::{Name, OutOfMemory};
+use nv_table::Record;
 
 /// A record that commands make again.
 pub(crate) trait Scripted: Record {
     ghost use Rattle.std.specs.Prelude.{◌≡◌, ◌++◌, List, OnOk, OnErr};
     ghost use Rattle.nv_base.specs.Growth.{GrowsAtEnd};
-    ghost use Rattle.nb_core.specs.declared.edit.Edit.{Edit};
-    ghost use Rattle.nb_net.specs.Network.{Network};
-    ghost use Rattle.nb_script.specs.Commands.{script};
+    ghost use Rattle.nb_records.specs.declared.edit.Edit.{Edit};
+    ghost use Rattle.nb_model.specs.Network.{Network};
+    ghost use Rattle.nb_text.specs.Commands.{script};
 
     ghost edits: { Network → Self → List Edit };
 

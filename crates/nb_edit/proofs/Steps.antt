@@ -1,6 +1,6 @@
 -- Words that are read one after another: what the whole is where one was read, and the fault of one that was not.
 use Rattle.std.proofs.Common.{◌≡◌, ℕ, List, Result, Ok, drop, sym, ap, ◌∙◌, subst}
-use Rattle.nb_core.specs.declared.refusal.Refusal.{Refusal}
+use Rattle.nb_records.specs.declared.refusal.Refusal.{Refusal}
 use Rattle.nb_words.specs.Fault.{IsFaultOf}
 use Rattle.nb_words.specs.declared.fault.LineFault.{LineFault}
 use Rattle.nb_words.specs.declared.fault.LineFault.TheVariants.{Refused, Memory}

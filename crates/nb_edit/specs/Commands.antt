@@ -1,9 +1,9 @@
 -- What a command says: the edit that it asks for, or why it is refused whatever the network is.
 use Rattle.std.specs.Prelude.{ℕ, ◌+◌, Bool, true, false, not, ◌&&◌, List, [], ◌∷◌, length, take, drop, count_by, position, nat_le, Option, Some, None, option_map, unwrap_or, Result, Err, if◌then◌else◌}
 use Rattle.std.specs.List.{list_all, list_any}
-use Rattle.nb_core.specs.declared.edit.Edit.{Edit}
-use Rattle.nb_core.specs.declared.refusal.Refusal.{Refusal}
-use Rattle.nb_core.specs.declared.refusal.Refusal.TheVariants.{UnknownCommand, WrongWords, NotInProfile}
+use Rattle.nb_records.specs.declared.edit.Edit.{Edit}
+use Rattle.nb_records.specs.declared.refusal.Refusal.{Refusal}
+use Rattle.nb_records.specs.declared.refusal.Refusal.TheVariants.{UnknownCommand, WrongWords, NotInProfile}
 use Rattle.nb_words.specs.declared.word.Word.{Word}
 use Rattle.nb_words.specs.declared.command.Command.{Command}
 use Rattle.nb_edit.specs.declared.form.Flag.{Flag}

@@ -3,16 +3,16 @@ use Rattle.std.specs.Prelude.{ℕ, List, [], drop, nat_lt, count_by, Option, Som
 use Rattle.nv_base.specs.Block.{Block}
 use Rattle.expr_core.specs.Formula.{Formula}
 use Rattle.expr_core.specs.declared.typed.TypedAtom.{TypedAtom}
-use Rattle.nb_core.specs.declared.acl.Way.{Way}
-use Rattle.nb_core.specs.declared.edit.Edit.{Edit}
-use Rattle.nb_core.specs.declared.edit.Edit.TheVariants as edit
-use Rattle.nb_core.specs.declared.edit.OwnerKind.{OwnerKind}
-use Rattle.nb_core.specs.declared.edit.OwnerKind.TheVariants as owner
-use Rattle.nb_core.specs.declared.refusal.Refusal.{Refusal}
-use Rattle.nb_core.specs.declared.refusal.Refusal.TheVariants.{WrongWords, NotInProfile}
-use Rattle.nb_core.specs.declared.router.NatKind.{NatKind}
-use Rattle.nb_core.specs.declared.router.RouteBy.{RouteBy}
-use Rattle.nb_core.specs.declared.router.RouteBy.TheVariants.{Dst, Src}
+use Rattle.nb_records.specs.declared.acl.Way.{Way}
+use Rattle.nb_records.specs.declared.edit.Edit.{Edit}
+use Rattle.nb_records.specs.declared.edit.Edit.TheVariants as edit
+use Rattle.nb_records.specs.declared.edit.OwnerKind.{OwnerKind}
+use Rattle.nb_records.specs.declared.edit.OwnerKind.TheVariants as owner
+use Rattle.nb_records.specs.declared.refusal.Refusal.{Refusal}
+use Rattle.nb_records.specs.declared.refusal.Refusal.TheVariants.{WrongWords, NotInProfile}
+use Rattle.nb_records.specs.declared.router.NatKind.{NatKind}
+use Rattle.nb_records.specs.declared.router.RouteBy.{RouteBy}
+use Rattle.nb_records.specs.declared.router.RouteBy.TheVariants.{Dst, Src}
 use Rattle.nb_edit.specs.declared.verb.Verb.{Verb}
 use Rattle.nb_edit.specs.declared.verb.Verb.TheVariants as verb
 use Rattle.nb_read.specs.Then.{and_then}

@@ -8,8 +8,8 @@ use crate::call::Call;
 use crate::maybe::maybe_way;
 use crate::rules::rule;
 use crate::verb::Verb;
-use nb_core::Edit;
 use nb_read::{acl_match, verdict, way};
+use nb_records::Edit;
 use nb_words::LineFault;
 use std::alloc::Global;
 

@@ -7,8 +7,8 @@ use crate::at::name_at;
 use crate::call::Call;
 use crate::maybe::{maybe_name, maybe_proto, maybe_vip};
 use crate::verb::Verb;
-use nb_core::Edit;
 use nb_read::{backends, vip};
+use nb_records::Edit;
 use nb_words::LineFault;
 use std::alloc::Global;
 

@@ -5,7 +5,7 @@ ghost use Rattle.nb_words.specs.Commands.{is_short};
 ghost use Rattle.nb_edit.specs.Call.{call, number, text, is_there, stands, may_exist, if_exists};
 ghost use Rattle.nb_edit.specs.Edits.{policy, owner_kind};
 
-use nb_core::{OwnerKind, RouteBy};
+use nb_records::{OwnerKind, RouteBy};
 use nb_words::Word;
 use std::marker::Model;
 

@@ -12,7 +12,7 @@ use crate::edit::edit_of;
 use crate::form::{Flag, Place, Tail};
 use crate::keywords::{is_flag, is_option, is_whole, may_stand};
 use crate::verb::{Verb, verb_of};
-use nb_core::{Edit, Refusal};
+use nb_records::{Edit, Refusal};
 use nb_words::{Command, LineFault, Word};
 use std::alloc::Global;
 

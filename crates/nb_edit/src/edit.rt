@@ -8,7 +8,7 @@ ghost use Rattle.nb_edit.specs.Forms.{form};
 use crate::call::Call;
 use crate::verb::Verb;
 use crate::{acls, balancers, routers, sets, switches};
-use nb_core::Edit;
+use nb_records::Edit;
 use nb_words::LineFault;
 use std::alloc::Global;
 

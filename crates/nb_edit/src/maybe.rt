@@ -6,8 +6,8 @@ ghost use Rattle.nb_edit.specs.Call.{maybe};
 ghost use Rattle.nb_edit.specs.Edits.{no_more, logical_of, router_port_once};
 
 use crate::call::Call;
-use nb_core::{Frontend, NatKind, Proto, Refusal, Way};
 use nb_read::{is_router_port, logical, nat_kind, network, object_name, proto, vip, way};
+use nb_records::{Frontend, NatKind, Proto, Refusal, Way};
 use nb_words::LineFault;
 use nv_base::{Name, Prefix};
 use std::alloc::Global;

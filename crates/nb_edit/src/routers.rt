@@ -7,8 +7,8 @@ use crate::at::{ip_at, mac_at, name_at, state_at};
 use crate::call::Call;
 use crate::maybe::{maybe_logical, maybe_name, maybe_nat_kind, maybe_network, no_more};
 use crate::verb::Verb;
-use nb_core::Edit;
 use nb_read::{logical, nat_kind, network, networks, nexthop};
+use nb_records::Edit;
 use nb_words::LineFault;
 use std::alloc::Global;
 

@@ -6,8 +6,8 @@ ghost use Rattle.nb_edit.specs.Edits.{rule};
 use crate::at::priority_at;
 use crate::call::Call;
 use expr_core::Typed;
-use nb_core::Way;
 use nb_read::acl_match;
+use nb_records::Way;
 use nb_words::LineFault;
 use std::alloc::Global;
 

@@ -6,8 +6,8 @@ ghost use Rattle.nb_edit.specs.Edits.{edit_of};
 use crate::at::set_name_at;
 use crate::call::Call;
 use crate::verb::Verb;
-use nb_core::Edit;
 use nb_read::{members, names};
+use nb_records::Edit;
 use nb_words::LineFault;
 use std::alloc::Global;
 

@@ -7,8 +7,8 @@ use crate::at::{name_at, state_at};
 use crate::call::Call;
 use crate::maybe::router_port_once;
 use crate::verb::Verb;
-use nb_core::Edit;
 use nb_read::{addresses, guards, port_kind, port_options};
+use nb_records::Edit;
 use nb_words::LineFault;
 use std::alloc::Global;
 

@@ -4,20 +4,20 @@ use Rattle.std.proofs.lemmas.Bool.{and_parts, and_from, or_left, or_right, or_ca
 use Rattle.std.specs.Prelude.{filter, IsTrue}
 use Rattle.std.specs.List.{list_all, list_any, AllByRecursion}
 use Rattle.nv_base.specs.declared.object.ObjId.{ObjId}
-use Rattle.nb_core.specs.declared.acl.Acl.{Acl}
-use Rattle.nb_core.specs.declared.sets.Group.{Group}
-use Rattle.nb_core.specs.declared.switch.Switch.{Switch}
-use Rattle.nb_core.specs.declared.refusal.Kind.TheVariants as kind
-use Rattle.nb_net.specs.Amounts.{amount, total}
-use Rattle.nb_net.specs.Belongs.{is_among, switches_of_acl}
-use Rattle.nb_net.specs.Network.{Network, same}
-use Rattle.nb_net.specs.Readable.{are_apart}
-use Rattle.nb_net.specs.Sound.{switch_ids, port_ids, router_ids, router_port_ids, route_ids, nat_ids, lb_ids, acl_ids, set_ids, group_ids, binding_ids}
-use Rattle.nb_net.proofs.Alike.{same_sym}
-use Rattle.nb_net.proofs.Lists.{same_is, among_left, among_right}
-use Rattle.nb_net.proofs.Totals.{total_cons}
-use Rattle.nb_table.specs.Table.{NumbersRise, record_of}
-use Rattle.nb_tables.proofs.PlacedRecords.{rises}
+use Rattle.nb_records.specs.declared.acl.Acl.{Acl}
+use Rattle.nb_records.specs.declared.sets.Group.{Group}
+use Rattle.nb_records.specs.declared.switch.Switch.{Switch}
+use Rattle.nb_records.specs.declared.refusal.Kind.TheVariants as kind
+use Rattle.nb_model.specs.Amounts.{amount, total}
+use Rattle.nb_model.specs.Belongs.{is_among, switches_of_acl}
+use Rattle.nb_model.specs.Network.{Network, same}
+use Rattle.nb_model.specs.Readable.{are_apart}
+use Rattle.nb_model.specs.Sound.{switch_ids, port_ids, router_ids, router_port_ids, route_ids, nat_ids, lb_ids, acl_ids, set_ids, group_ids, binding_ids}
+use Rattle.nb_model.proofs.Alike.{same_sym}
+use Rattle.nb_model.proofs.Lists.{same_is, among_left, among_right}
+use Rattle.nb_model.proofs.Totals.{total_cons}
+use Rattle.nv_table.specs.Table.{NumbersRise, record_of}
+use Rattle.nb_store.proofs.PlacedRecords.{rises}
 use Rattle.nb_limits.specs.Limitless.{IsSoundButLimits}
 use Rattle.nb_limits.specs.inner.GroupSwitches.{switch_count, has_port_on}
 use Rattle.nb_limits.specs.inner.Weights.{weight, acl_weight, on_switch, on_switches, on_groups, found_count}

@@ -1,12 +1,12 @@
 -- The VIPs of load balancers, each counted once for each datapath that has its load balancer.
 use Rattle.std.proofs.Common.{◌≡◌, ◌+◌, ap, sym, ◌∙◌, length}
-use Rattle.nb_core.specs.declared.balancer.Lb.{Lb}
-use Rattle.nb_core.specs.declared.refusal.Kind.TheVariants as kind
-use Rattle.nb_core.specs.declared.router.Router.{Router}
-use Rattle.nb_core.specs.declared.switch.Switch.{Switch}
-use Rattle.nb_net.specs.Amounts.{amount, total, vips_of}
-use Rattle.nb_net.specs.Belongs.{is_among}
-use Rattle.nb_net.specs.Network.{Network}
+use Rattle.nb_records.specs.declared.balancer.Lb.{Lb}
+use Rattle.nb_records.specs.declared.refusal.Kind.TheVariants as kind
+use Rattle.nb_records.specs.declared.router.Router.{Router}
+use Rattle.nb_records.specs.declared.switch.Switch.{Switch}
+use Rattle.nb_model.specs.Amounts.{amount, total, vips_of}
+use Rattle.nb_model.specs.Belongs.{is_among}
+use Rattle.nb_model.specs.Network.{Network}
 use Rattle.nb_limits.specs.inner.Attached.{attached_vips, vips_on_switches, vips_on_routers}
 use Rattle.nb_limits.proofs.Swapped.{swapped, total_plus}
 

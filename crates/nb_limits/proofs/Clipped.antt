@@ -4,13 +4,13 @@ use Rattle.std.proofs.lemmas.Bool.{ltb-true}
 use Rattle.std.proofs.lemmas.Bool.Decides.{nat_tests}
 use Rattle.std.proofs.lemmas.List.Sums.{sum_by-cons}
 use Rattle.std.specs.Prelude.{sum_by}
-use Rattle.nb_core.specs.declared.switch.Addr.{Addr}
-use Rattle.nb_core.specs.declared.switch.Addr.TheVariants as addr
-use Rattle.nb_core.specs.declared.switch.Port.{Port}
-use Rattle.nb_core.specs.Tags.{port_weight, most}
-use Rattle.nb_core.specs.Tags as tags
-use Rattle.nb_net.specs.Amounts.{total, address_count}
-use Rattle.nb_net.proofs.Totals.{total_cons}
+use Rattle.nb_records.specs.declared.switch.Addr.{Addr}
+use Rattle.nb_records.specs.declared.switch.Addr.TheVariants as addr
+use Rattle.nb_records.specs.declared.switch.Port.{Port}
+use Rattle.nb_records.specs.Tags.{port_weight, most}
+use Rattle.nb_records.specs.Tags as tags
+use Rattle.nb_model.specs.Amounts.{total, address_count}
+use Rattle.nb_model.proofs.Totals.{total_cons}
 use Rattle.nb_limits.specs.inner.Within.{up_to}
 use Rattle.nb_limits.proofs.Sums.{over}
 use Rattle.nb_limits.proofs.Swapped.{total_same}

@@ -5,13 +5,13 @@ use Rattle.std.proofs.lemmas.Bool.Decides.{nat_tests}
 use Rattle.std.specs.Prelude.{filter, IsTrue}
 use Rattle.std.specs.List.{list_all, list_any, AllByRecursion}
 use Rattle.nv_base.specs.declared.object.ObjId.{ObjId}
-use Rattle.nb_net.specs.Belongs.{is_among}
-use Rattle.nb_net.specs.Effect.{with_number}
-use Rattle.nb_net.specs.Network.{same}
-use Rattle.nb_net.specs.Readable.{are_apart}
-use Rattle.nb_net.proofs.Alike.{same_sym}
-use Rattle.nb_net.proofs.Lists.{same_is}
-use Rattle.nb_table.specs.Table.{NumbersRise, record_of}
+use Rattle.nb_model.specs.Belongs.{is_among}
+use Rattle.nb_model.specs.Effect.{with_number}
+use Rattle.nb_model.specs.Network.{same}
+use Rattle.nb_model.specs.Readable.{are_apart}
+use Rattle.nb_model.proofs.Alike.{same_sym}
+use Rattle.nb_model.proofs.Lists.{same_is}
+use Rattle.nv_table.specs.Table.{NumbersRise, record_of}
 
 pub alone : (b : Bool) → (b || false) ≡ b
 alone true = refl

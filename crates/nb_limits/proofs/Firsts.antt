@@ -2,11 +2,11 @@
 use Rattle.std.proofs.Common.{◌≡◌, ℕ, ◌+◌, ◌<◌, ◌≤◌, Bool, true, false, cond, nat_lt, List, Option, Some, None, drop, get_or, length, ap, ◌∙◌}
 use Rattle.std.proofs.lemmas.List.{drop_more, drop_all}
 use Rattle.std.specs.Prelude.{find, option_map}
-use Rattle.nb_core.specs.declared.refusal.Kind.{Kind}
-use Rattle.nb_core.specs.declared.refusal.Refusal.{Refusal}
-use Rattle.nb_core.specs.declared.refusal.Refusal.TheVariants.{Limit}
-use Rattle.nb_net.specs.Amounts.{amount, bound, first_over}
-use Rattle.nb_net.specs.Network.{Network}
+use Rattle.nb_records.specs.declared.refusal.Kind.{Kind}
+use Rattle.nb_records.specs.declared.refusal.Refusal.{Refusal}
+use Rattle.nb_records.specs.declared.refusal.Refusal.TheVariants.{Limit}
+use Rattle.nb_model.specs.Amounts.{amount, bound, first_over}
+use Rattle.nb_model.specs.Network.{Network}
 
 module _ (net : Network) (kinds : List Kind) (i : ℕ) where
   pub none_first : length kinds ≤ i → first_over (drop i kinds) net ≡ None

@@ -5,18 +5,18 @@ use Rattle.std.proofs.lemmas.Bool.Decides.{nat_tests}
 use Rattle.std.specs.Prelude.{IsTrue, find, unwrap_or}
 use Rattle.std.specs.List.{list_all, AllByRecursion}
 use Rattle.std.specs.Str.{bytes_eq}
-use Rattle.nb_core.specs.declared.balancer.Lb.{Lb}
-use Rattle.nb_core.specs.declared.balancer.Proto.{Proto}
-use Rattle.nb_core.specs.declared.balancer.Proto.TheVariants.{Tcp}
-use Rattle.nb_core.specs.declared.balancer.Vip.{Vip}
-use Rattle.nb_core.specs.declared.refusal.Kind.TheVariants as kind
-use Rattle.nb_net.specs.Amounts.{amount, greatest}
-use Rattle.nb_net.specs.Effect.{add_vip, each_where}
-use Rattle.nb_net.specs.Network.{Network, next_number, lb_named}
-use Rattle.nb_net.specs.Readable.{are_apart}
-use Rattle.nb_net.specs.Sound.{AreNamed}
-use Rattle.nb_net.proofs.Alike.{names_sym, same_names}
-use Rattle.nb_net.proofs.RecordLists.{found_holds, all_only, all_where, all_push, apart_by, only, if_missing}
+use Rattle.nb_records.specs.declared.balancer.Lb.{Lb}
+use Rattle.nb_records.specs.declared.balancer.Proto.{Proto}
+use Rattle.nb_records.specs.declared.balancer.Proto.TheVariants.{Tcp}
+use Rattle.nb_records.specs.declared.balancer.Vip.{Vip}
+use Rattle.nb_records.specs.declared.refusal.Kind.TheVariants as kind
+use Rattle.nb_model.specs.Amounts.{amount, greatest}
+use Rattle.nb_model.specs.Effect.{add_vip, each_where}
+use Rattle.nb_model.specs.Network.{Network, next_number, lb_named}
+use Rattle.nb_model.specs.Readable.{are_apart}
+use Rattle.nb_model.specs.Sound.{AreNamed}
+use Rattle.nb_model.proofs.Alike.{names_sym, same_names}
+use Rattle.nb_model.proofs.RecordLists.{found_holds, all_only, all_where, all_push, apart_by, only, if_missing}
 use Rattle.nb_limits.specs.inner.KnownAfter.{has_vip_room}
 
 -- no amount is greater than the bound where the greatest is not

@@ -2,7 +2,7 @@
 use Rattle.std.proofs.Common.{◌≡◌, ℕ, max, List, [], ◌∷◌, arith, sym, ap, ◌∙◌}
 use Rattle.std.specs.Ordering.{nat_cmp, ord_max}
 use Rattle.std.proofs.lemmas.Bool.Decides.{nat_tests}
-use Rattle.nb_net.specs.Amounts.{greatest}
+use Rattle.nb_model.specs.Amounts.{greatest}
 
 -- The greater of two.
 pub greater : (a b : ℕ) → ord_max nat_cmp a b ≡ max a b

@@ -7,18 +7,18 @@ use Rattle.expr_core.specs.Formula.{Formula}
 use Rattle.expr_core.specs.Text.{typed_text}
 use Rattle.expr_core.specs.declared.typed.TypedAtom.{TypedAtom}
 use Rattle.nv_base.specs.declared.object.ObjId.{ObjId}
-use Rattle.nb_core.specs.declared.acl.Acl.{Acl}
-use Rattle.nb_core.specs.declared.edit.Edit.{Edit}
-use Rattle.nb_core.specs.declared.edit.Edit.TheVariants as edit
-use Rattle.nb_core.specs.declared.refusal.Kind.{Kind}
-use Rattle.nb_core.specs.declared.refusal.Kind.TheVariants as kind
-use Rattle.nb_core.specs.declared.refusal.Refusal.TheVariants.{Limit}
-use Rattle.nb_net.specs.Amounts.{amount, bound, kinds}
-use Rattle.nb_net.specs.Belongs.{owner_id, switches_of_acl}
-use Rattle.nb_net.specs.Effect.{effect, where_there, add_acl, new_vip}
-use Rattle.nb_net.specs.Network.{Network, next_number}
-use Rattle.nb_net.specs.Sound.{IsSound}
-use Rattle.nb_net.proofs.RisesEdits.{edit_falls}
+use Rattle.nb_records.specs.declared.acl.Acl.{Acl}
+use Rattle.nb_records.specs.declared.edit.Edit.{Edit}
+use Rattle.nb_records.specs.declared.edit.Edit.TheVariants as edit
+use Rattle.nb_records.specs.declared.refusal.Kind.{Kind}
+use Rattle.nb_records.specs.declared.refusal.Kind.TheVariants as kind
+use Rattle.nb_records.specs.declared.refusal.Refusal.TheVariants.{Limit}
+use Rattle.nb_model.specs.Amounts.{amount, bound, kinds}
+use Rattle.nb_model.specs.Belongs.{owner_id, switches_of_acl}
+use Rattle.nb_model.specs.Effect.{effect, where_there, add_acl, new_vip}
+use Rattle.nb_model.specs.Network.{Network, next_number}
+use Rattle.nb_model.specs.Sound.{IsSound}
+use Rattle.nb_model.proofs.RisesEdits.{edit_falls}
 use Rattle.nb_limits.specs.declared.ceilings.Ceilings.{Ceilings}
 use Rattle.nb_limits.specs.Ceilings.{IsCeiling, AreCeilings}
 use Rattle.nb_limits.specs.inner.KnownAfter.{raised, with_acl, reach, known_after}

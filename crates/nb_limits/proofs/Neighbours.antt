@@ -1,10 +1,10 @@
 -- The neighbours of a router port, looked for at each port of its peer's switch.
 use Rattle.std.proofs.Common.{◌≡◌, ℕ, Bool, true, false, cond, not, ◌&&◌, Some, refl, sym, ap, ◌∙◌}
 use Rattle.std.specs.Prelude.{filter}
-use Rattle.nb_core.specs.declared.switch.Port.{Port}
-use Rattle.nb_net.specs.Amounts.{total, pair_count, neighbours_across}
-use Rattle.nb_net.specs.Network.{Network, same}
-use Rattle.nb_net.proofs.Alike.{same_sym}
+use Rattle.nb_records.specs.declared.switch.Port.{Port}
+use Rattle.nb_model.specs.Amounts.{total, pair_count, neighbours_across}
+use Rattle.nb_model.specs.Network.{Network, same}
+use Rattle.nb_model.proofs.Alike.{same_sym}
 use Rattle.nb_limits.specs.inner.Across.{is_across}
 use Rattle.nb_limits.proofs.Swapped.{total_same, total_filter}
 

@@ -5,19 +5,19 @@ use Rattle.std.proofs.lemmas.List.{take_more, take_all}
 use Rattle.std.specs.Prelude.{find, IsTrue}
 use Rattle.std.specs.List.{list_all, list_any}
 use Rattle.nv_base.specs.declared.object.ObjId.{ObjId}
-use Rattle.nb_core.specs.declared.sets.Group.{Group}
-use Rattle.nb_core.specs.declared.switch.Port.{Port}
-use Rattle.nb_core.specs.declared.switch.Switch.{Switch}
-use Rattle.nb_net.specs.Belongs.{is_among}
-use Rattle.nb_net.specs.Effect.{with_number}
-use Rattle.nb_net.specs.Network.{Network, same}
-use Rattle.nb_net.specs.Readable.{are_apart}
-use Rattle.nb_net.specs.Sound.{switch_ids}
-use Rattle.nb_net.proofs.Alike.{same_sym}
-use Rattle.nb_net.proofs.Apart.{with_number_apart}
-use Rattle.nb_net.proofs.RecordLists.{all_push}
-use Rattle.nb_table.specs.Table.{record_of, has_number}
-use Rattle.nb_tables.proofs.PlacedRecords.{rises}
+use Rattle.nb_records.specs.declared.sets.Group.{Group}
+use Rattle.nb_records.specs.declared.switch.Port.{Port}
+use Rattle.nb_records.specs.declared.switch.Switch.{Switch}
+use Rattle.nb_model.specs.Belongs.{is_among}
+use Rattle.nb_model.specs.Effect.{with_number}
+use Rattle.nb_model.specs.Network.{Network, same}
+use Rattle.nb_model.specs.Readable.{are_apart}
+use Rattle.nb_model.specs.Sound.{switch_ids}
+use Rattle.nb_model.proofs.Alike.{same_sym}
+use Rattle.nb_model.proofs.Apart.{with_number_apart}
+use Rattle.nb_model.proofs.RecordLists.{all_push}
+use Rattle.nv_table.specs.Table.{record_of, has_number}
+use Rattle.nb_store.proofs.PlacedRecords.{rises}
 use Rattle.nb_limits.specs.Limitless.{IsSoundButLimits}
 use Rattle.nb_limits.specs.inner.GroupSwitches.{switch_count, has_port_on}
 use Rattle.nb_limits.proofs.Counted.{alone, any_or, any_same, any_of_number, holds_of, listed_count, among_last, among_with}

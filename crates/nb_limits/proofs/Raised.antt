@@ -5,18 +5,18 @@ use Rattle.std.specs.Prelude.{IsTrue, is_some}
 use Rattle.std.specs.List.{list_all}
 use Rattle.expr_core.specs.Text.{typed_text}
 use Rattle.nv_base.specs.declared.object.ObjId.{ObjId}
-use Rattle.nb_core.specs.declared.acl.Acl.{Acl}
-use Rattle.nb_core.specs.declared.refusal.Kind.TheVariants as kind
-use Rattle.nb_core.specs.declared.sets.Group.{Group}
-use Rattle.nb_core.specs.declared.switch.Switch.{Switch}
-use Rattle.nb_net.specs.Amounts.{amount, total}
-use Rattle.nb_net.specs.Belongs.{is_among, switches_of_acl}
-use Rattle.nb_net.specs.Effect.{add_acl, acl_like}
-use Rattle.nb_net.specs.Network.{Network, same}
-use Rattle.nb_net.specs.Sound.{group_ids}
-use Rattle.nb_net.proofs.Lists.{same_is}
-use Rattle.nb_net.proofs.Totals.{total_cons}
-use Rattle.nb_table.specs.Table.{record_of}
+use Rattle.nb_records.specs.declared.acl.Acl.{Acl}
+use Rattle.nb_records.specs.declared.refusal.Kind.TheVariants as kind
+use Rattle.nb_records.specs.declared.sets.Group.{Group}
+use Rattle.nb_records.specs.declared.switch.Switch.{Switch}
+use Rattle.nb_model.specs.Amounts.{amount, total}
+use Rattle.nb_model.specs.Belongs.{is_among, switches_of_acl}
+use Rattle.nb_model.specs.Effect.{add_acl, acl_like}
+use Rattle.nb_model.specs.Network.{Network, same}
+use Rattle.nb_model.specs.Sound.{group_ids}
+use Rattle.nb_model.proofs.Lists.{same_is}
+use Rattle.nb_model.proofs.Totals.{total_cons}
+use Rattle.nv_table.specs.Table.{record_of}
 use Rattle.nb_limits.specs.Ceilings.{IsCeiling}
 use Rattle.nb_limits.specs.inner.KnownAfter.{raised, owner_reach, reach}
 use Rattle.nb_limits.specs.Limitless.{IsSoundButLimits}

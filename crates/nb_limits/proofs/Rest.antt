@@ -6,7 +6,7 @@ use Rattle.std.proofs.lemmas.List.{drop_more, drop_all}
 use Rattle.std.specs.Prelude.{find, filter, IsTrue}
 use Rattle.std.specs.List.{AllByRecursion}
 use Rattle.nv_base.specs.declared.object.ObjId.{ObjId}
-use Rattle.nb_table.specs.Table.{NumbersRise, is_after, record_after}
+use Rattle.nv_table.specs.Table.{NumbersRise, is_after, record_after}
 
 -- two tests that agree keep the same
 pub same_kept : {R : Type 0} (p q : R → Bool) (rs : List R) → ((r : R) → p r ≡ q r) → filter p rs ≡ filter q rs

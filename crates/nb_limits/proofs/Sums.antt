@@ -3,8 +3,8 @@ use Rattle.std.proofs.Common.{◌≡◌, ℕ, ◌+◌, ◌<◌, ◌≤◌, Bool,
 use Rattle.std.proofs.lemmas.Bool.{ltb-true}
 use Rattle.std.proofs.lemmas.Bool.Decides.{nat_tests}
 use Rattle.nb_limits.specs.inner.Within.{up_to}
-use Rattle.nb_net.specs.Amounts.{total}
-use Rattle.nb_net.proofs.Totals.{total_cons}
+use Rattle.nb_model.specs.Amounts.{total}
+use Rattle.nb_model.proofs.Totals.{total_cons}
 
 pub over : (bound n : ℕ) → bound < n → up_to bound n ≡ None
 over bound n more = ap (λ b. cond b None (Some n)) (test bound n more)

@@ -1,8 +1,8 @@
 -- Sums of sums, and sums over some of a list.
 use Rattle.std.proofs.Common.{◌≡◌, ℕ, ◌+◌, ◌*◌, Bool, true, false, cond, List, [], ◌∷◌, arith, refl, sym, ap, ◌∙◌}
 use Rattle.std.specs.Prelude.{filter}
-use Rattle.nb_net.specs.Amounts.{total}
-use Rattle.nb_net.proofs.Totals.{total_cons}
+use Rattle.nb_model.specs.Amounts.{total}
+use Rattle.nb_model.proofs.Totals.{total_cons}
 
 pub total_same : {X : Type 0} (f g : X → ℕ) (xs : List X) → ((x : X) → f x ≡ g x) → total f xs ≡ total g xs
 total_same f g [] same = refl

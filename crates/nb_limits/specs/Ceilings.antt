@@ -1,8 +1,8 @@
 -- What is known of how much a network has of the kinds that no table counts.
 use Rattle.std.specs.Prelude.{◌≡◌, ℕ, ◌≤◌, true, false, nat_lt, Option, Some, None}
-use Rattle.nb_core.specs.declared.refusal.Kind.TheVariants as kind
-use Rattle.nb_net.specs.Amounts.{amount, bound}
-use Rattle.nb_net.specs.Network.{Network}
+use Rattle.nb_records.specs.declared.refusal.Kind.TheVariants as kind
+use Rattle.nb_model.specs.Amounts.{amount, bound}
+use Rattle.nb_model.specs.Network.{Network}
 use Rattle.nb_limits.specs.declared.ceilings.Ceilings.{Ceilings}
 
 -- an amount is at most what is known of it, which is within the bound, or nothing is known

@@ -4,14 +4,14 @@ ghost use Rattle.nb_limits.specs.Limitless.{IsSoundButLimits};
 ghost use Rattle.nb_limits.specs.inner.GroupSwitches.{switch_count};
 ghost use Rattle.nb_limits.specs.inner.Weights.{weight, acl_weight, on_switch, on_group, on_switches, on_groups};
 ghost use Rattle.nb_limits.specs.inner.Within.{up_to};
-ghost use Rattle.nb_core.specs.declared.refusal.Kind.TheVariants as kind;
-ghost use Rattle.nb_net.specs.Amounts.{amount, bound};
+ghost use Rattle.nb_records.specs.declared.refusal.Kind.TheVariants as kind;
+ghost use Rattle.nb_model.specs.Amounts.{amount, bound};
 
+use crate::bounds::bound;
 use crate::within::{add, add_times};
 use expr_core::put_tree;
-use nb_bounds::bound;
-use nb_core::{Acl, Group, Kind};
-use nb_tables::{Records, add_number};
+use nb_records::{Acl, Group, Kind};
+use nb_store::{Records, add_number};
 use nv_base::{Items, OutOfMemory};
 use std::alloc::Global;
 

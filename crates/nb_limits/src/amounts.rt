@@ -1,18 +1,18 @@
 //! How much of each kind a network has (not from OVN).
 ghost use Rattle.std.specs.Prelude.{◌≡◌, ◌⊎◌, IfOk, OnErr};
-ghost use Rattle.nb_core.specs.declared.refusal.Kind.TheVariants as kinds;
+ghost use Rattle.nb_records.specs.declared.refusal.Kind.TheVariants as kinds;
 ghost use Rattle.nb_limits.specs.Limitless.{IsSoundButLimits};
 ghost use Rattle.nb_limits.specs.inner.Within.{up_to};
-ghost use Rattle.nb_net.specs.Amounts.{amount, bound};
-ghost use Rattle.nb_net.specs.Sound.{IsSound};
+ghost use Rattle.nb_model.specs.Amounts.{amount, bound};
+ghost use Rattle.nb_model.specs.Sound.{IsSound};
 
 use crate::acl_limits::{acl_switches, match_text};
 use crate::balancer_limits::{backend_count, vip_count, vip_datapaths};
+use crate::bounds::bound;
 use crate::neighbour_limits::neighbours;
 use crate::within::{add, count_within, weight_within};
-use nb_bounds::bound;
-use nb_core::Kind;
-use nb_tables::Records;
+use nb_records::Kind;
+use nb_store::Records;
 use nv_base::OutOfMemory;
 use std::alloc::Global;
 

@@ -3,13 +3,13 @@ ghost use Rattle.std.specs.Prelude.{◌≡◌, length};
 ghost use Rattle.nb_limits.specs.inner.Attached.{attached_vips, vips_on_switches, vips_on_routers};
 ghost use Rattle.nb_limits.specs.Limitless.{IsSoundButLimits};
 ghost use Rattle.nb_limits.specs.inner.Within.{up_to};
-ghost use Rattle.nb_core.specs.declared.refusal.Kind.TheVariants as kind;
-ghost use Rattle.nb_net.specs.Amounts.{amount, greatest};
-ghost use Rattle.nb_table.specs.Table.{NumbersRise};
+ghost use Rattle.nb_records.specs.declared.refusal.Kind.TheVariants as kind;
+ghost use Rattle.nb_model.specs.Amounts.{amount, greatest};
+ghost use Rattle.nv_table.specs.Table.{NumbersRise};
 
 use crate::within::add;
-use nb_core::Lb;
-use nb_tables::Records;
+use nb_records::Lb;
+use nb_store::Records;
 
 /// The most VIPs that a load balancer has.
 pub(crate) fn vip_count(records: &Records) -> u64

@@ -1,22 +1,22 @@
 //! What is known of how much there is of the kinds that no table counts, so that they are seldom counted (not from OVN).
 ghost use Rattle.std.specs.Prelude.{◌≡◌, not, nat_lt, length, IfOk};
 ghost use Rattle.std.specs.Option.{option_copied};
-ghost use Rattle.nb_core.specs.declared.refusal.Kind.TheVariants as kind;
-ghost use Rattle.nb_net.specs.Amounts.{amount, bound};
-ghost use Rattle.nb_net.specs.Effect.{effect};
-ghost use Rattle.nb_net.specs.Network.{Network, empty_network};
-ghost use Rattle.nb_net.specs.Sound.{IsSound};
+ghost use Rattle.nb_records.specs.declared.refusal.Kind.TheVariants as kind;
+ghost use Rattle.nb_model.specs.Amounts.{amount, bound};
+ghost use Rattle.nb_model.specs.Effect.{effect};
+ghost use Rattle.nb_model.specs.Network.{Network, empty_network};
+ghost use Rattle.nb_model.specs.Sound.{IsSound};
 ghost use Rattle.nb_limits.specs.Ceilings.{AreCeilings};
 ghost use Rattle.nb_limits.specs.inner.KnownAfter.{raised, reach, with_acl, has_vip_room, known_after};
 ghost use Rattle.nb_limits.specs.Limitless.{IsSoundButLimits};
 
 use crate::acl_limits::{acl_switches, match_text, switch_count};
 use crate::balancer_limits::{backend_count, vip_count};
+use crate::bounds::bound;
 use crate::within::add_times;
 use expr_core::{Typed, put_tree};
-use nb_bounds::bound;
-use nb_core::{Backend, Edit, Kind, Lb};
-use nb_tables::Records;
+use nb_records::{Backend, Edit, Kind, Lb};
+use nb_store::Records;
 use nv_base::{ObjId, OutOfMemory};
 use std::alloc::Global;
 

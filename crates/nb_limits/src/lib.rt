@@ -4,6 +4,7 @@
 mod acl_limits;
 mod amounts;
 mod balancer_limits;
+mod bounds;
 mod ceilings;
 mod limits;
 mod neighbour_limits;

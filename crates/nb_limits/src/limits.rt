@@ -2,14 +2,14 @@
 ghost use Rattle.std.specs.Prelude.{◌≡◌, nat_lt, IfOk};
 ghost use Rattle.nb_limits.specs.Ceilings.{AreCeilings};
 ghost use Rattle.nb_limits.specs.Limitless.{IsSoundButLimits};
-ghost use Rattle.nb_net.specs.Amounts.{amount, bound, first_over};
-ghost use Rattle.nb_net.specs.Rises.{may_rise};
+ghost use Rattle.nb_model.specs.Amounts.{amount, bound, first_over};
+ghost use Rattle.nb_model.specs.Rises.{may_rise};
 
 use crate::amounts::amount_within;
+use crate::bounds::bound;
 use crate::ceilings::Ceilings;
-use nb_bounds::bound;
-use nb_core::{Edit, Kind, Refusal};
-use nb_tables::Records;
+use nb_records::{Edit, Kind, Refusal};
+use nb_store::Records;
 use nv_base::OutOfMemory;
 use std::alloc::Global;
 

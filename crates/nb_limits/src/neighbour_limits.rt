@@ -4,14 +4,14 @@ ghost use Rattle.std.specs.Option.{option_copied};
 ghost use Rattle.nb_limits.specs.Limitless.{IsSoundButLimits};
 ghost use Rattle.nb_limits.specs.inner.Within.{up_to};
 ghost use Rattle.nb_limits.specs.inner.Across.{is_across};
-ghost use Rattle.nb_core.specs.declared.refusal.Kind.TheVariants as kind;
-ghost use Rattle.nb_net.specs.Amounts.{amount, total, ip_count, net_count, pair_count, neighbours_across};
-ghost use Rattle.nb_net.specs.Belongs.{peer_port};
-ghost use Rattle.nb_table.specs.Table.{NumbersRise, record_of};
+ghost use Rattle.nb_records.specs.declared.refusal.Kind.TheVariants as kind;
+ghost use Rattle.nb_model.specs.Amounts.{amount, total, ip_count, net_count, pair_count, neighbours_across};
+ghost use Rattle.nb_model.specs.Belongs.{peer_port};
+ghost use Rattle.nv_table.specs.Table.{NumbersRise, record_of};
 
 use crate::within::add;
-use nb_core::{Addr, Port, PortKind, RouterPort};
-use nb_tables::Records;
+use nb_records::{Addr, Port, PortKind, RouterPort};
+use nb_store::Records;
 
 /// How many neighbours router ports know across their peers, where they are within the bound.
 pub(crate) fn neighbours(records: &Records, bound: u64) -> Option<u64>

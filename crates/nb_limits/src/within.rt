@@ -1,10 +1,10 @@
 //! Amounts that are within a bound (not from OVN).
 ghost use Rattle.std.specs.Prelude.{◌≡◌, ◌+◌, ◌*◌};
 ghost use Rattle.nb_limits.specs.inner.Within.{up_to};
-ghost use Rattle.nb_net.specs.Amounts.{bound};
+ghost use Rattle.nb_model.specs.Amounts.{bound};
 
-use nb_bounds::bound;
-use nb_core::Kind;
+use crate::bounds::bound;
+use nb_records::Kind;
 
 /// So many of a kind, where they are within its bound.
 pub(crate) fn count_within(count: u64, kind: Kind) -> Option<u64>

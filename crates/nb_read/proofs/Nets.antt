@@ -4,9 +4,9 @@ use Rattle.std.proofs.lemmas.List.{at_drop_more}
 use Rattle.std.specs.Borrow.{Bor}
 use Rattle.std.specs.List.{list_any, slice_index_or}
 use Rattle.nv_base.specs.Block.{Block}
-use Rattle.nb_core.specs.declared.refusal.Refusal.{Refusal}
-use Rattle.nb_core.specs.declared.refusal.Refusal.TheVariants.{BadAddress}
-use Rattle.nb_core.specs.declared.switch.Guard.{Guard}
+use Rattle.nb_records.specs.declared.refusal.Refusal.{Refusal}
+use Rattle.nb_records.specs.declared.refusal.Refusal.TheVariants.{BadAddress}
+use Rattle.nb_records.specs.declared.switch.Guard.{Guard}
 use Rattle.nb_words.specs.Fault.{IsFaultOf}
 use Rattle.nb_words.specs.declared.fault.LineFault.{LineFault}
 use Rattle.nb_words.specs.declared.fault.LineFault.TheVariants.{Refused, Memory}

@@ -2,16 +2,16 @@
 use Rattle.std.specs.Prelude.{ℕ, Bool, true, false, List, nat_eq, Option, Some, None, codes, if◌then◌else◌}
 use Rattle.std.specs.List.{starts_with}
 use Rattle.std.specs.Str.{bytes_eq}
-use Rattle.nb_core.specs.declared.acl.Way.{Way}
-use Rattle.nb_core.specs.declared.acl.Way.TheVariants.{From, To}
-use Rattle.nb_core.specs.declared.acl.Verdict.{Verdict}
-use Rattle.nb_core.specs.declared.acl.Verdict.TheVariants.{Allow, AllowRelated, AllowStateless, Drop, Reject}
-use Rattle.nb_core.specs.declared.balancer.Proto.{Proto}
-use Rattle.nb_core.specs.declared.balancer.Proto.TheVariants.{Tcp, Udp}
-use Rattle.nb_core.specs.declared.router.NatKind.{NatKind}
-use Rattle.nb_core.specs.declared.router.NatKind.TheVariants.{Snat, Dnat, DnatAndSnat}
-use Rattle.nb_core.specs.declared.switch.PortKind.{PortKind}
-use Rattle.nb_core.specs.declared.switch.PortKind.TheVariants.{Host, Router}
+use Rattle.nb_records.specs.declared.acl.Way.{Way}
+use Rattle.nb_records.specs.declared.acl.Way.TheVariants.{From, To}
+use Rattle.nb_records.specs.declared.acl.Verdict.{Verdict}
+use Rattle.nb_records.specs.declared.acl.Verdict.TheVariants.{Allow, AllowRelated, AllowStateless, Drop, Reject}
+use Rattle.nb_records.specs.declared.balancer.Proto.{Proto}
+use Rattle.nb_records.specs.declared.balancer.Proto.TheVariants.{Tcp, Udp}
+use Rattle.nb_records.specs.declared.router.NatKind.{NatKind}
+use Rattle.nb_records.specs.declared.router.NatKind.TheVariants.{Snat, Dnat, DnatAndSnat}
+use Rattle.nb_records.specs.declared.switch.PortKind.{PortKind}
+use Rattle.nb_records.specs.declared.switch.PortKind.TheVariants.{Host, Router}
 
 abbrev pub way_of : List ℕ → Option Way
 way_of text = if bytes_eq text (codes "from-lport") then Some From else (if bytes_eq text (codes "to-lport") then Some To else None)

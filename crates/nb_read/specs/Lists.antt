@@ -5,12 +5,12 @@ use Rattle.std.specs.Str.{bytes_eq}
 use Rattle.nv_base.specs.Block.{Block}
 use Rattle.nv_base.specs.Mac.{mac_of}
 use Rattle.nv_base.specs.declared.ip4.Ip4.{Ip4}
-use Rattle.nb_core.specs.declared.refusal.Refusal.{Refusal}
-use Rattle.nb_core.specs.declared.refusal.Refusal.TheVariants.{BadMac, BadAddress, NotInProfile}
-use Rattle.nb_core.specs.declared.sets.Member.{Member}
-use Rattle.nb_core.specs.declared.switch.Addr.{Addr}
-use Rattle.nb_core.specs.declared.switch.Addr.TheVariants.{Unknown, Router, Host}
-use Rattle.nb_core.specs.declared.switch.Guard.{Guard}
+use Rattle.nb_records.specs.declared.refusal.Refusal.{Refusal}
+use Rattle.nb_records.specs.declared.refusal.Refusal.TheVariants.{BadMac, BadAddress, NotInProfile}
+use Rattle.nb_records.specs.declared.sets.Member.{Member}
+use Rattle.nb_records.specs.declared.switch.Addr.{Addr}
+use Rattle.nb_records.specs.declared.switch.Addr.TheVariants.{Unknown, Router, Host}
+use Rattle.nb_records.specs.declared.switch.Guard.{Guard}
 use Rattle.nb_words.specs.Words.{is_separator}
 use Rattle.nb_words.specs.declared.word.Word.{Word}
 use Rattle.nb_read.specs.Then.{and_then}

@@ -21,22 +21,22 @@ use Rattle.nv_base.specs.Name.{is_object_name}
 use Rattle.nv_base.specs.Number.{below, decimal_of, number_of}
 use Rattle.nv_base.specs.Prefix.{block, prefix_of}
 use Rattle.nv_base.specs.declared.ip4.Ip4.{Ip4}
-use Rattle.nb_core.specs.declared.acl.Verdict.{Verdict}
-use Rattle.nb_core.specs.declared.acl.Way.{Way}
-use Rattle.nb_core.specs.declared.acl.Way.TheVariants.{From, To}
-use Rattle.nb_core.specs.declared.balancer.Backend.{Backend}
-use Rattle.nb_core.specs.declared.balancer.Frontend.{Frontend}
-use Rattle.nb_core.specs.declared.balancer.Proto.{Proto}
-use Rattle.nb_core.specs.declared.edit.OwnerKind.{OwnerKind}
-use Rattle.nb_core.specs.declared.edit.OwnerKind.TheVariants as owner
-use Rattle.nb_core.specs.declared.refusal.MatchRule.TheVariants as rule
-use Rattle.nb_core.specs.declared.refusal.Refusal.{Refusal}
-use Rattle.nb_core.specs.declared.refusal.Refusal.TheVariants.{WrongWords, BadName, BadMac, BadAddress, BadNumber, MatchSyntax, MatchType, NotInProfile}
-use Rattle.nb_core.specs.declared.router.NatKind.{NatKind}
-use Rattle.nb_core.specs.declared.router.NatKind.TheVariants as nat
-use Rattle.nb_core.specs.declared.sets.Member.{Member}
-use Rattle.nb_core.specs.declared.sets.Member.TheVariants as member
-use Rattle.nb_core.specs.declared.switch.PortKind.{PortKind}
+use Rattle.nb_records.specs.declared.acl.Verdict.{Verdict}
+use Rattle.nb_records.specs.declared.acl.Way.{Way}
+use Rattle.nb_records.specs.declared.acl.Way.TheVariants.{From, To}
+use Rattle.nb_records.specs.declared.balancer.Backend.{Backend}
+use Rattle.nb_records.specs.declared.balancer.Frontend.{Frontend}
+use Rattle.nb_records.specs.declared.balancer.Proto.{Proto}
+use Rattle.nb_records.specs.declared.edit.OwnerKind.{OwnerKind}
+use Rattle.nb_records.specs.declared.edit.OwnerKind.TheVariants as owner
+use Rattle.nb_records.specs.declared.refusal.MatchRule.TheVariants as rule
+use Rattle.nb_records.specs.declared.refusal.Refusal.{Refusal}
+use Rattle.nb_records.specs.declared.refusal.Refusal.TheVariants.{WrongWords, BadName, BadMac, BadAddress, BadNumber, MatchSyntax, MatchType, NotInProfile}
+use Rattle.nb_records.specs.declared.router.NatKind.{NatKind}
+use Rattle.nb_records.specs.declared.router.NatKind.TheVariants as nat
+use Rattle.nb_records.specs.declared.sets.Member.{Member}
+use Rattle.nb_records.specs.declared.sets.Member.TheVariants as member
+use Rattle.nb_records.specs.declared.switch.PortKind.{PortKind}
 use Rattle.nb_read.specs.Then.{and_then}
 use Rattle.nb_read.specs.Keywords.{way_of, verdict_of, proto_of, nat_kind_of, port_kind_of, state_of}
 

@@ -9,7 +9,7 @@ ghost use Rattle.nb_read.specs.Readings as readings;
 ghost use Rattle.nb_read.specs.Readings.{port_of, frontend_of, vip, has_port_as, backend, backends_of, backends};
 
 use crate::words::proto;
-use nb_core::{Backend, Frontend, Proto, Refusal};
+use nb_records::{Backend, Frontend, Proto, Refusal};
 use nb_words::LineFault;
 use nv_base::{Items, OutOfMemory, read_ip4, read_number};
 use std::alloc::Global;

@@ -7,7 +7,7 @@ ghost use Rattle.nb_read.specs.Lists.{addresses, has_mac, has_ip, is_ip, new_mac
 
 use crate::split::parts;
 use crate::words::{ip, mac};
-use nb_core::{Addr, Refusal};
+use nb_records::{Addr, Refusal};
 use nb_words::{LineFault, Word};
 use nv_base::{Ip4, Items, Mac};
 use std::alloc::Global;

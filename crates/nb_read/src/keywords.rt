@@ -2,7 +2,7 @@
 ghost use Rattle.std.specs.Prelude.{◌≡◌};
 ghost use Rattle.nb_read.specs.Keywords.{way_of, verdict_of, proto_of, nat_kind_of, port_kind_of, state_of};
 
-use nb_core::{NatKind, PortKind, Proto, Verdict, Way};
+use nb_records::{NatKind, PortKind, Proto, Verdict, Way};
 
 /// The direction of an ACL by its keyword (ovn-nbctl(8), `acl-add`).
 pub fn way_of(text: &[u8]) -> Option<Way>

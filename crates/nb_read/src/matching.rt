@@ -10,7 +10,7 @@ ghost use Rattle.nb_read.specs.inner.Faults.{syntax_fault, rule_fault};
 use expr_check::{Role, TypeFault, check};
 use expr_core::{Expr, Typed};
 use expr_parse::{MatchFault, parse_match};
-use nb_core::{MatchRule, Refusal, Way};
+use nb_records::{MatchRule, Refusal, Way};
 use nb_words::LineFault;
 use std::alloc::Global;
 

@@ -5,7 +5,7 @@ ghost use Rattle.std.specs.List.{list_all};
 ghost use Rattle.nb_read.specs.Readings.{object_name, is_set_byte, is_set_name, set_name, is_owner_name, owner_name};
 ghost use Rattle.nb_read.specs.Lists.{names};
 
-use nb_core::{OwnerKind, Refusal};
+use nb_records::{OwnerKind, Refusal};
 use nb_words::{LineFault, Word};
 use nv_base::{Items, Name, is_object_name};
 use std::alloc::Global;

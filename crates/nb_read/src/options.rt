@@ -5,7 +5,7 @@ ghost use Rattle.std.specs.Prelude.{None};
 ghost use Rattle.nb_read.specs.Lists.{is_router_port, port_options};
 
 use crate::naming::object_name;
-use nb_core::Refusal;
+use nb_records::Refusal;
 use nb_words::{LineFault, Word};
 use nv_base::Name;
 use std::alloc::Global;

@@ -4,7 +4,7 @@ ghost use Rattle.nb_words.specs.Fault.{IsFaultOf};
 ghost use Rattle.nb_read.specs.Lists.{networks, is_same_network, is_network_there, next_network};
 
 use crate::words::{cleared, prefix};
-use nb_core::Refusal;
+use nb_records::Refusal;
 use nb_words::{LineFault, Word};
 use nv_base::{Items, Prefix};
 use std::alloc::Global;

@@ -7,7 +7,7 @@ ghost use Rattle.nb_read.specs.Lists.{guards, is_base, has_net, guards_mac, guar
 
 use crate::split::parts;
 use crate::words::{mac, prefix};
-use nb_core::{Guard, Refusal};
+use nb_records::{Guard, Refusal};
 use nb_words::{LineFault, Word};
 use nv_base::{Items, Mac, Prefix};
 use std::alloc::Global;

@@ -6,7 +6,7 @@ ghost use Rattle.nb_read.specs.Readings.{member_of};
 ghost use Rattle.nv_base.specs.Mac.{mac_of};
 
 use crate::words::prefix;
-use nb_core::{Member, Refusal};
+use nb_records::{Member, Refusal};
 use nb_words::{LineFault, Word};
 use nv_base::{Items, read_mac};
 use std::alloc::Global;

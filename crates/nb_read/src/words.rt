@@ -10,7 +10,7 @@ ghost use Rattle.nv_base.specs.Mac.{mac_of};
 ghost use Rattle.nv_base.specs.Number.{below, number_of};
 
 use crate::keywords::{nat_kind_of, port_kind_of, proto_of, state_of, verdict_of, way_of};
-use nb_core::{NatKind, PortKind, Proto, Refusal, Verdict, Way};
+use nb_records::{NatKind, PortKind, Proto, Refusal, Verdict, Way};
 use nb_words::LineFault;
 use nv_base::{Ip4, Mac, Prefix, read_ip4, read_mac, read_number, read_prefix};
 

@@ -3,7 +3,7 @@ use Rattle.std.proofs.Common.{◌≡◌, ℕ, ◌+◌, ◌<◌, List, [], ◌++�
 use Rattle.std.proofs.lemmas.List.{append-nil, flat_map_more, take_more}
 use Rattle.nv_base.specs.Growth.{GrowsAtEnd}
 use Rattle.nv_base.proofs.Growth.{appended_twice}
-use Rattle.nb_core.specs.Refusal.{spaced}
+use Rattle.nb_records.specs.Refusal.{spaced}
 use Rattle.nb_text.specs.Words.{each_spaced}
 
 pub three : (a b c d x y z : List ℕ) → b ≡ a ++ x → c ≡ b ++ y → d ≡ c ++ z → d ≡ a ++ (x ++ (y ++ z))

@@ -1,7 +1,7 @@
 -- The text of backends, one on.
 use Rattle.std.proofs.Common.{◌≡◌, ℕ, ◌+◌, ◌<◌, List, ◌++◌, codes, length, slice_index_or, drop, append_assoc}
 use Rattle.std.proofs.lemmas.List.{at_drop_more}
-use Rattle.nb_core.specs.declared.balancer.Backend.{Backend}
+use Rattle.nb_records.specs.declared.balancer.Backend.{Backend}
 use Rattle.nb_text.specs.Words.{backends_text, service_text}
 
 -- where one is written, what is there with the text of those after it is what was there with the text from it on

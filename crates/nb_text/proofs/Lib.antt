@@ -1,3 +1,4 @@
 pub mod Appends
 mod Backends
 pub mod Quoted
+pub mod Lines

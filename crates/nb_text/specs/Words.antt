@@ -6,27 +6,27 @@ use Rattle.nv_base.specs.Ip4.{ip4_text}
 use Rattle.nv_base.specs.Mac.{mac_text}
 use Rattle.nv_base.specs.Prefix.{prefix_text}
 use Rattle.nv_base.specs.declared.ip4.Ip4.{Ip4}
-use Rattle.nb_core.specs.Refusal.{spaced}
-use Rattle.nb_core.specs.declared.acl.Verdict.{Verdict}
-use Rattle.nb_core.specs.declared.acl.Verdict.TheVariants as verdict
-use Rattle.nb_core.specs.declared.acl.Way.{Way}
-use Rattle.nb_core.specs.declared.acl.Way.TheVariants as way
-use Rattle.nb_core.specs.declared.balancer.Backend.{Backend}
-use Rattle.nb_core.specs.declared.balancer.Proto.{Proto}
-use Rattle.nb_core.specs.declared.balancer.Proto.TheVariants.{Tcp, Udp}
-use Rattle.nb_core.specs.declared.edit.OwnerKind.{OwnerKind}
-use Rattle.nb_core.specs.declared.edit.OwnerKind.TheVariants as owner
-use Rattle.nb_core.specs.declared.router.NatKind.{NatKind}
-use Rattle.nb_core.specs.declared.router.NatKind.TheVariants.{Snat, Dnat, DnatAndSnat}
-use Rattle.nb_core.specs.declared.router.RouteBy.{RouteBy}
-use Rattle.nb_core.specs.declared.router.RouteBy.TheVariants.{Dst, Src}
-use Rattle.nb_core.specs.declared.sets.Member.{Member}
-use Rattle.nb_core.specs.declared.sets.Member.TheVariants as member
-use Rattle.nb_core.specs.declared.switch.Addr.{Addr}
-use Rattle.nb_core.specs.declared.switch.Addr.TheVariants as addr
-use Rattle.nb_core.specs.declared.switch.Guard.{Guard}
-use Rattle.nb_core.specs.declared.switch.PortKind.{PortKind}
-use Rattle.nb_core.specs.declared.switch.PortKind.TheVariants as kind
+use Rattle.nb_records.specs.Refusal.{spaced}
+use Rattle.nb_records.specs.declared.acl.Verdict.{Verdict}
+use Rattle.nb_records.specs.declared.acl.Verdict.TheVariants as verdict
+use Rattle.nb_records.specs.declared.acl.Way.{Way}
+use Rattle.nb_records.specs.declared.acl.Way.TheVariants as way
+use Rattle.nb_records.specs.declared.balancer.Backend.{Backend}
+use Rattle.nb_records.specs.declared.balancer.Proto.{Proto}
+use Rattle.nb_records.specs.declared.balancer.Proto.TheVariants.{Tcp, Udp}
+use Rattle.nb_records.specs.declared.edit.OwnerKind.{OwnerKind}
+use Rattle.nb_records.specs.declared.edit.OwnerKind.TheVariants as owner
+use Rattle.nb_records.specs.declared.router.NatKind.{NatKind}
+use Rattle.nb_records.specs.declared.router.NatKind.TheVariants.{Snat, Dnat, DnatAndSnat}
+use Rattle.nb_records.specs.declared.router.RouteBy.{RouteBy}
+use Rattle.nb_records.specs.declared.router.RouteBy.TheVariants.{Dst, Src}
+use Rattle.nb_records.specs.declared.sets.Member.{Member}
+use Rattle.nb_records.specs.declared.sets.Member.TheVariants as member
+use Rattle.nb_records.specs.declared.switch.Addr.{Addr}
+use Rattle.nb_records.specs.declared.switch.Addr.TheVariants as addr
+use Rattle.nb_records.specs.declared.switch.Guard.{Guard}
+use Rattle.nb_records.specs.declared.switch.PortKind.{PortKind}
+use Rattle.nb_records.specs.declared.switch.PortKind.TheVariants as kind
 
 -- a text in single quotes
 abbrev pub in_quotes : List ℕ → List ℕ

@@ -4,10 +4,10 @@ ghost use Rattle.nv_base.specs.Growth.{GrowsAtEnd};
 ghost use Rattle.nv_base.specs.Ip4.{ip4_text};
 ghost use Rattle.nv_base.specs.Mac.{mac_text};
 ghost use Rattle.nv_base.specs.Prefix.{prefix_text};
-ghost use Rattle.nb_core.specs.Refusal.{spaced};
+ghost use Rattle.nb_records.specs.Refusal.{spaced};
 ghost use Rattle.nb_text.specs.Words.{in_quotes, each_spaced, mac_with, net_text, service_text, backends_text, nat_kind_text, proto_text, way_text, verdict_text};
 
-use nb_core::{Addr, Backend, Guard, Member, NatKind, Proto, Verdict, Way};
+use nb_records::{Addr, Backend, Guard, Member, NatKind, Proto, Verdict, Way};
 use nv_base::{Ip4, Mac, OutOfMemory, Prefix, put_dec, put_ip4, put_mac, put_prefix};
 
 /// What is written as a word of its own, of which a command may have many.
@@ -35,7 +35,7 @@ pub fn put_word(out: &mut Vec<u8>, word: &[u8]) -> Result<(), OutOfMemory>
 }
 
 /// Appends each of these as a word, after a space. After `OutOfMemory` more bytes may follow what was there.
-pub fn put_each<W: Word>(out: &mut Vec<u8>, words: &[W]) -> Result<(), OutOfMemory>
+pub(crate) fn put_each<W: Word>(out: &mut Vec<u8>, words: &[W]) -> Result<(), OutOfMemory>
     ensures ok { OnOk result (out.new.items ≡ out.old.items ++ each_spaced W.text words.now) }
     ensures err { OnErr result (GrowsAtEnd out.old.items out.new.items) }
 {
@@ -136,7 +136,7 @@ impl Word for Member {
 }
 
 /// Appends networks with their lengths, each after a space. After `OutOfMemory` more bytes may follow what was there.
-pub fn put_networks(out: &mut Vec<u8>, nets: &[Prefix]) -> Result<(), OutOfMemory>
+pub(crate) fn put_networks(out: &mut Vec<u8>, nets: &[Prefix]) -> Result<(), OutOfMemory>
     ensures ok { OnOk result (out.new.items ≡ out.old.items ++ each_spaced prefix_text nets.now) }
     ensures err { OnErr result (GrowsAtEnd out.old.items out.new.items) }
 {
@@ -147,7 +147,7 @@ pub fn put_networks(out: &mut Vec<u8>, nets: &[Prefix]) -> Result<(), OutOfMemor
 }
 
 /// Appends a network with its length, after a space. After `OutOfMemory` more bytes may follow what was there.
-pub fn put_network(out: &mut Vec<u8>, net: Prefix) -> Result<(), OutOfMemory>
+pub(crate) fn put_network(out: &mut Vec<u8>, net: Prefix) -> Result<(), OutOfMemory>
     ensures ok { OnOk result (out.new.items ≡ out.old.items ++ spaced (prefix_text net)) }
     ensures err { OnErr result (GrowsAtEnd out.old.items out.new.items) }
 {
@@ -157,7 +157,7 @@ pub fn put_network(out: &mut Vec<u8>, net: Prefix) -> Result<(), OutOfMemory>
 }
 
 /// Appends a MAC, after a space. After `OutOfMemory` more bytes may follow what was there.
-pub fn put_mac_word(out: &mut Vec<u8>, mac: Mac) -> Result<(), OutOfMemory>
+pub(crate) fn put_mac_word(out: &mut Vec<u8>, mac: Mac) -> Result<(), OutOfMemory>
     ensures ok { OnOk result (out.new.items ≡ out.old.items ++ spaced (mac_text mac)) }
     ensures err { OnErr result (GrowsAtEnd out.old.items out.new.items) }
 {
@@ -167,7 +167,7 @@ pub fn put_mac_word(out: &mut Vec<u8>, mac: Mac) -> Result<(), OutOfMemory>
 }
 
 /// Appends an address, after a space. After `OutOfMemory` more bytes may follow what was there.
-pub fn put_ip4_word(out: &mut Vec<u8>, addr: Ip4) -> Result<(), OutOfMemory>
+pub(crate) fn put_ip4_word(out: &mut Vec<u8>, addr: Ip4) -> Result<(), OutOfMemory>
     ensures ok { OnOk result (out.new.items ≡ out.old.items ++ spaced (ip4_text addr)) }
     ensures err { OnErr result (GrowsAtEnd out.old.items out.new.items) }
 {
@@ -176,7 +176,7 @@ pub fn put_ip4_word(out: &mut Vec<u8>, addr: Ip4) -> Result<(), OutOfMemory>
 
 /// Appends a prefix, as an address where its length is 32, after a space. After `OutOfMemory` more bytes may follow what was
 /// there.
-pub fn put_net_word(out: &mut Vec<u8>, net: Prefix) -> Result<(), OutOfMemory>
+pub(crate) fn put_net_word(out: &mut Vec<u8>, net: Prefix) -> Result<(), OutOfMemory>
     ensures ok { OnOk result (out.new.items ≡ out.old.items ++ spaced (net_text net)) }
     ensures err { OnErr result (GrowsAtEnd out.old.items out.new.items) }
 {
@@ -184,7 +184,11 @@ pub fn put_net_word(out: &mut Vec<u8>, net: Prefix) -> Result<(), OutOfMemory>
 }
 
 /// Appends an address, and a port where there is one. After `OutOfMemory` more bytes may follow what was there.
-pub fn put_service(out: &mut Vec<u8>, addr: Ip4, port: Option<u16>) -> Result<(), OutOfMemory>
+pub(crate) fn put_service(
+    out: &mut Vec<u8>,
+    addr: Ip4,
+    port: Option<u16>,
+) -> Result<(), OutOfMemory>
     ensures ok { OnOk result (out.new.items ≡ out.old.items ++ service_text addr port) }
     ensures err { OnErr result (GrowsAtEnd out.old.items out.new.items) }
 {
@@ -205,7 +209,7 @@ fn put_service_port(out: &mut Vec<u8>, port: u16) -> Result<(), OutOfMemory>
 }
 
 /// Appends backends with commas between. After `OutOfMemory` more bytes may follow what was there.
-pub fn put_backends(out: &mut Vec<u8>, backends: &[Backend]) -> Result<(), OutOfMemory>
+pub(crate) fn put_backends(out: &mut Vec<u8>, backends: &[Backend]) -> Result<(), OutOfMemory>
     ensures ok { OnOk result (out.new.items ≡ out.old.items ++ backends_text [] backends.now) }
     ensures err { OnErr result (GrowsAtEnd out.old.items out.new.items) }
 {
@@ -219,7 +223,7 @@ pub fn put_backends(out: &mut Vec<u8>, backends: &[Backend]) -> Result<(), OutOf
 }
 
 /// The word for the type of a NAT rule.
-pub fn nat_kind_text(kind: NatKind) -> &'static str
+pub(crate) fn nat_kind_text(kind: NatKind) -> &'static str
     ensures { result.now ≡ nat_kind_text kind }
 {
     match kind {
@@ -230,7 +234,7 @@ pub fn nat_kind_text(kind: NatKind) -> &'static str
 }
 
 /// The word for a protocol.
-pub fn proto_text(proto: Proto) -> &'static str
+pub(crate) fn proto_text(proto: Proto) -> &'static str
     ensures { result.now ≡ proto_text proto }
 {
     match proto {
@@ -240,7 +244,7 @@ pub fn proto_text(proto: Proto) -> &'static str
 }
 
 /// The word for the direction of an ACL.
-pub fn way_text(way: Way) -> &'static str
+pub(crate) fn way_text(way: Way) -> &'static str
     ensures { result.now ≡ way_text way }
 {
     match way {
@@ -250,7 +254,7 @@ pub fn way_text(way: Way) -> &'static str
 }
 
 /// The word for the verdict of an ACL.
-pub fn verdict_text(verdict: Verdict) -> &'static str
+pub(crate) fn verdict_text(verdict: Verdict) -> &'static str
     ensures { result.now ≡ verdict_text verdict }
 {
     match verdict {

@@ -3,8 +3,10 @@
 
 mod test;
 mod tests_acls;
+mod tests_balancers;
 mod tests_datapaths;
 mod tests_ports;
 mod tests_routes;
+mod tests_sets;
 
 pub use test::tested;

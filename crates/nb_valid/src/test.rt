@@ -1,13 +1,16 @@
 //! The tests of an edit, but that of the limits.
 ghost use Rattle.std.specs.Prelude.{IfOk, IfErr};
-ghost use Rattle.nb_core.specs.declared.edit.Edit.{Edit};
-ghost use Rattle.nb_net.specs.Network.{Network};
-ghost use Rattle.nb_net.specs.Readable.{IsReadable};
-ghost use Rattle.nb_net.specs.Sound.{IsSound};
+ghost use Rattle.nb_records.specs.declared.edit.Edit.{Edit};
+ghost use Rattle.nb_model.specs.Network.{Network};
+ghost use Rattle.nb_model.specs.Readable.{IsReadable};
+ghost use Rattle.nb_model.specs.Sound.{IsSound};
 ghost use Rattle.nb_words.specs.Fault.{IsFaultOf};
-ghost use Rattle.nb_members.specs.Tested.{tested, Passes, Refuses};
+ghost use Rattle.nb_valid.specs.Tested.{tested, Passes, Refuses};
 
 use crate::tests_acls::{test_acl_add, test_acl_del};
+use crate::tests_balancers::{
+    test_lb_add, test_lb_del, test_lr_lb_add, test_lr_lb_del, test_ls_lb_add, test_ls_lb_del,
+};
 use crate::tests_datapaths::{test_lr_add, test_lr_del, test_ls_add, test_ls_del};
 use crate::tests_ports::{
     test_lrp_add, test_lrp_del, test_lrp_set_enabled, test_lsp_add, test_lsp_del,
@@ -18,12 +21,11 @@ use crate::tests_routes::{
     test_lr_nat_add, test_lr_nat_del, test_lr_route_add, test_lr_route_del, test_smb_add,
     test_smb_del,
 };
-use nb_core::{Edit, Refusal};
-use nb_members::{
-    test_as_add, test_as_del, test_as_set, test_lb_add, test_lb_del, test_lr_lb_add,
-    test_lr_lb_del, test_ls_lb_add, test_ls_lb_del, test_pg_add, test_pg_del, test_pg_set_ports,
+use crate::tests_sets::{
+    test_as_add, test_as_del, test_as_set, test_pg_add, test_pg_del, test_pg_set_ports,
 };
-use nb_tables::Records;
+use nb_records::{Edit, Refusal};
+use nb_store::Records;
 use nb_words::LineFault;
 use std::alloc::Global;
 

@@ -1,15 +1,15 @@
 //! The tests of the edits of ACLs.
 ghost use Rattle.std.specs.Prelude.{IfOk, IfErr};
 ghost use Rattle.expr_check.specs.Printed.{IsPrintable};
-ghost use Rattle.nb_core.specs.declared.edit.Edit.TheVariants as edit;
+ghost use Rattle.nb_records.specs.declared.edit.Edit.TheVariants as edit;
 ghost use Rattle.nb_read.specs.Readings.{role_of};
-ghost use Rattle.nb_net.specs.Sound.{IsSound};
-ghost use Rattle.nb_members.specs.Tested.{Passes, Refuses};
+ghost use Rattle.nb_model.specs.Sound.{IsSound};
+ghost use Rattle.nb_valid.specs.Tested.{Passes, Refuses};
 
 use expr_core::Typed;
-use nb_core::{Edit, OwnerKind, Refusal, Verdict, Way};
-use nb_lookup::{acl_number, duplicate_if, wants_owner};
-use nb_tables::Records;
+use nb_find::{acl_number, duplicate_if, wants_owner};
+use nb_records::{Edit, OwnerKind, Refusal, Verdict, Way};
+use nb_store::Records;
 use nv_base::Name;
 
 /// `acl-add`: the owner is there, and has no ACL like it, or may have.

@@ -1,11 +1,11 @@
 //! The tests of the edits of switches and routers.
 ghost use Rattle.std.specs.Prelude.{IfOk, IfErr};
-ghost use Rattle.nb_core.specs.declared.edit.Edit.TheVariants as edit;
-ghost use Rattle.nb_members.specs.Tested.{Passes, Refuses};
+ghost use Rattle.nb_records.specs.declared.edit.Edit.TheVariants as edit;
+ghost use Rattle.nb_valid.specs.Tested.{Passes, Refuses};
 
-use nb_core::{Edit, Refusal};
-use nb_lookup::{free, is_datapath, is_router, is_switch, may_want_router, may_want_switch};
-use nb_tables::Records;
+use nb_find::{free, is_datapath, is_router, is_switch, may_want_router, may_want_switch};
+use nb_records::{Edit, Refusal};
+use nb_store::Records;
 use nv_base::Name;
 
 /// `ls-add`: the name is free, or that of a switch which may exist.

@@ -1,14 +1,14 @@
 //! The tests of the edits of the ports of switches.
 ghost use Rattle.std.specs.Prelude.{IfOk, IfErr};
-ghost use Rattle.nb_core.specs.declared.edit.Edit.TheVariants as edit;
-ghost use Rattle.nb_members.specs.Tested.{Passes, Refuses};
+ghost use Rattle.nb_records.specs.declared.edit.Edit.TheVariants as edit;
+ghost use Rattle.nb_valid.specs.Tested.{Passes, Refuses};
 
-use nb_core::{Addr, Edit, Guard, PortKind, Refusal};
-use nb_lookup::{
+use nb_find::{
     free, is_any_port, is_port_in_place, is_router_port_in_place, may_want_port,
     may_want_router_port, wants_port, wants_router, wants_router_port, wants_switch,
 };
-use nb_tables::Records;
+use nb_records::{Addr, Edit, Guard, PortKind, Refusal};
+use nb_store::Records;
 use nv_base::{Items, Mac, Name, Prefix};
 
 /// `lsp-add`: a switch has the name, and the port's is free, or that of a port there which may exist.

@@ -1,15 +1,15 @@
 //! The tests of the edits of routes, NAT rules and static bindings.
 ghost use Rattle.std.specs.Prelude.{IfOk, IfErr, None, Some};
-ghost use Rattle.nb_core.specs.declared.edit.Edit.TheVariants as edit;
-ghost use Rattle.nb_net.specs.Sound.{IsSound};
-ghost use Rattle.nb_members.specs.Tested.{Passes, Refuses};
+ghost use Rattle.nb_records.specs.declared.edit.Edit.TheVariants as edit;
+ghost use Rattle.nb_model.specs.Sound.{IsSound};
+ghost use Rattle.nb_valid.specs.Tested.{Passes, Refuses};
 
-use nb_core::{Edit, NatKind, Refusal, RouteBy};
-use nb_lookup::{
+use nb_find::{
     binding_like, has_nat, has_route, may_name_router_port, nat_like, no_duplicate, policy_or,
     route_like, wants_router, wants_router_port, with_some,
 };
-use nb_tables::Records;
+use nb_records::{Edit, NatKind, Refusal, RouteBy};
+use nb_store::Records;
 use nv_base::{Ip4, Mac, Name, Prefix};
 
 /// `lr-route-add`: the router is there, and a port that is named, and no route like it.

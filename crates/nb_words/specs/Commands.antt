@@ -2,8 +2,8 @@
 use Rattle.std.specs.Prelude.{ℕ, ◌+◌, ◌^◌, Bool, true, not, ◌&&◌, ◌==◌, if◌then◌else◌, List, [], ◌∷◌, length, Option, Some, None, Result, Ok, Err, codes, nat_lt}
 use Rattle.std.specs.List.{list_all, slice_split}
 use Rattle.std.specs.Str.{bytes_eq, is_utf8}
-use Rattle.nb_core.specs.declared.refusal.Refusal.{Refusal}
-use Rattle.nb_core.specs.declared.refusal.Refusal.TheVariants.{NotUtf8, LineTooLong, WrongWords}
+use Rattle.nb_records.specs.declared.refusal.Refusal.{Refusal}
+use Rattle.nb_records.specs.declared.refusal.Refusal.TheVariants.{NotUtf8, LineTooLong, WrongWords}
 use Rattle.nb_words.specs.declared.word.Word.{Word}
 use Rattle.nb_words.specs.declared.command.Command.{Command}
 use Rattle.nb_words.specs.Words.{is_separator, words_of}

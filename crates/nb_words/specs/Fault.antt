@@ -1,6 +1,6 @@
 -- What a fault says of a reading.
 use Rattle.std.specs.Prelude.{◌≡◌, Result, Err}
-use Rattle.nb_core.specs.declared.refusal.Refusal.{Refusal}
+use Rattle.nb_records.specs.declared.refusal.Refusal.{Refusal}
 use Rattle.nb_words.specs.declared.fault.LineFault.{LineFault}
 use Rattle.nb_words.specs.declared.fault.LineFault.TheVariants.{Refused, Memory}
 

@@ -7,7 +7,7 @@ ghost use Rattle.nb_words.specs.Fault.{IsFaultOf};
 
 use crate::LineFault;
 use crate::word::{Word, is_separator, words_of};
-use nb_core::Refusal;
+use nb_records::Refusal;
 use nv_base::{Items, OutOfMemory};
 use std::alloc::Global;
 

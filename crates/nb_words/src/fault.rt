@@ -1,4 +1,4 @@
-use nb_core::Refusal;
+use nb_records::Refusal;
 use nv_base::OutOfMemory;
 
 /// Why nothing was read of a line.

@@ -5,12 +5,12 @@ use Rattle.std.proofs.lemmas.Bool.{eqb-true, eq-eqb}
 use Rattle.std.specs.List.{Contains, flat_map}
 use Rattle.std.proofs.lemmas.List.{map-append}
 use Rattle.nv_base.specs.declared.object.ObjId.{ObjId}
-use Rattle.nb_core.specs.declared.acl.Acl.{Acl}
-use Rattle.nb_core.specs.declared.switch.Port.{Port}
-use Rattle.nb_core.specs.declared.switch.Switch.{Switch}
-use Rattle.nb_net.specs.Belongs.{is_among}
-use Rattle.nb_net.specs.Network.{Network, same}
-use Rattle.nb_net.specs.Sound.{IsSound}
+use Rattle.nb_records.specs.declared.acl.Acl.{Acl}
+use Rattle.nb_records.specs.declared.switch.Port.{Port}
+use Rattle.nb_records.specs.declared.switch.Switch.{Switch}
+use Rattle.nb_model.specs.Belongs.{is_among}
+use Rattle.nb_model.specs.Network.{Network, same}
+use Rattle.nb_model.specs.Sound.{IsSound}
 use Rattle.net_meaning.specs.Applies.{applies, tracks}
 use Rattle.net_rows.specs.Acls.{acl_on_rules, switch_acl_rules}
 use Rattle.net_rows.specs.Build.{acl_on_input, acl_on_rows, acl_rows, all_rows, port_l2_input, port_rows, port_sec_input, switch_acl_input, switch_l2_input, switch_rows}

@@ -5,7 +5,7 @@ use Rattle.std.specs.List.{Contains, list_any}
 use Rattle.std.proofs.lemmas.Bool.Decides.{nat_tests}
 use Rattle.std.proofs.lemmas.List.Elements.{All-contains, filter_passes}
 use Rattle.nv_base.specs.declared.object.ObjId.{ObjId}
-use Rattle.nb_net.specs.Network.{same}
+use Rattle.nb_model.specs.Network.{same}
 use Rattle.net_rows.proofs.Elements.{any_from, any_gives}
 
 -- two tests of which each passes where the other does are one

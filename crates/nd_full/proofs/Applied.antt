@@ -7,13 +7,13 @@ use Rattle.std.proofs.lemmas.Bool.{and_parts}
 use Rattle.std.proofs.lemmas.Bool.Decides.{nat_tests}
 use Rattle.std.proofs.lemmas.Option.{same_Some}
 use Rattle.nv_base.specs.declared.object.ObjId.{ObjId}
-use Rattle.nb_core.specs.declared.acl.Acl.{Acl}
-use Rattle.nb_core.specs.declared.sets.Group.{Group}
-use Rattle.nb_core.specs.declared.switch.Port.{Port}
-use Rattle.nb_core.specs.declared.switch.Switch.{Switch}
-use Rattle.nb_net.specs.Belongs.{is_among}
-use Rattle.nb_net.specs.Network.{Network, same}
-use Rattle.nb_table.specs.Table.{NumbersRise, record_after, record_of}
+use Rattle.nb_records.specs.declared.acl.Acl.{Acl}
+use Rattle.nb_records.specs.declared.sets.Group.{Group}
+use Rattle.nb_records.specs.declared.switch.Port.{Port}
+use Rattle.nb_records.specs.declared.switch.Switch.{Switch}
+use Rattle.nb_model.specs.Belongs.{is_among}
+use Rattle.nb_model.specs.Network.{Network, same}
+use Rattle.nv_table.specs.Table.{NumbersRise, record_after, record_of}
 use Rattle.net_meaning.specs.Applies.{applies, balances, is_empty, is_related}
 use Rattle.net_meaning.specs.Switches.{is_open, takes_unknown}
 use Rattle.net_rows.specs.Build.{has_unknown, switch_acl_input}
@@ -21,7 +21,7 @@ use Rattle.net_rows.specs.declared.inputs.SwitchAclInput.{SwitchAclInput}
 use Rattle.net_rows.proofs.Elements.{any_from, any_gives, Contains-filter, Contains-flat_map, Contains-from_filter, Contains-from_flat_map, Contains-from_map, Contains-map}
 use Rattle.nd_full.specs.inner.Made.{has_related}
 use Rattle.nd_full.specs.inner.Owners.{acls_of, groups_of_port, groups_on, groups_with, ports_on, AreOwners}
-use Rattle.nb_table.proofs.Through.{all_left, none_left}
+use Rattle.nv_table.proofs.Through.{all_left, none_left}
 use Rattle.nd_full.proofs.Any.{any_agree, any_kept, any_members, both_ways, kept_passes, same_turned}
 
 -- two tests that pass

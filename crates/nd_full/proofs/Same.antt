@@ -4,7 +4,7 @@ use Rattle.std.specs.Prelude.{Option, Some, None}
 use Rattle.std.specs.List.{Contains, flat_map}
 use Rattle.std.proofs.lemmas.List.Elements.{Contains-append_cases, Contains-append_left, Contains-append_right}
 use Rattle.nv_base.specs.declared.object.ObjId.{ObjId}
-use Rattle.nb_table.specs.Table.{NumbersRise, record_after}
+use Rattle.nv_table.specs.Table.{NumbersRise, record_after}
 use Rattle.sb_model.specs.declared.row.Row.{Row}
 use Rattle.sb_rows.proofs.AllAtOnce.{put_members}
 use Rattle.net_rows.specs.Unit.{said_by, unit_rows}
@@ -12,7 +12,7 @@ use Rattle.net_rows.specs.declared.rule.Rule.{Rule}
 use Rattle.net_rows.specs.declared.rule.Unit.{Unit}
 use Rattle.net_rows.proofs.Elements.{Contains-flat_map, Contains-from_flat_map}
 use Rattle.nd_full.specs.inner.Members.{HaveSameRows}
-use Rattle.nb_table.proofs.Through.{is_whole, left_after, with_next}
+use Rattle.nv_table.proofs.Through.{is_whole, left_after, with_next}
 
 pub same_itself : (xs : List Row) → HaveSameRows xs xs
 same_itself xs = record { members = λ r. (λ at. at, λ at. at) }

@@ -1,7 +1,7 @@
 -- An enabled port without guards has no rows of port security.
 use Rattle.std.proofs.Common.{◌≡◌, Bool, true, List, [], ◌++◌, append-nil, sym, ap, ◌∙◌}
-use Rattle.nb_core.specs.declared.switch.Guard.{Guard}
-use Rattle.nb_core.specs.declared.switch.Port.{Port}
+use Rattle.nb_records.specs.declared.switch.Guard.{Guard}
+use Rattle.nb_records.specs.declared.switch.Port.{Port}
 use Rattle.net_rows.specs.Build.{port_sec_input}
 use Rattle.net_rows.specs.PortSecurity.{port_sec_rules, disabled_rules, guarded_rules}
 use Rattle.net_rows.specs.Unit.{unit_of, unit_rows, said_by}

@@ -1,16 +1,16 @@
 //! The inputs of units, read from the records.
 ghost use Rattle.std.specs.Prelude.{◌≡◌, ◌&&◌, not, Some, IfOk};
 ghost use Rattle.std.specs.List.{list_any};
-ghost use Rattle.nb_net.specs.Sound.{IsSound};
-ghost use Rattle.nb_table.specs.Table.{record_of};
+ghost use Rattle.nb_model.specs.Sound.{IsSound};
+ghost use Rattle.nv_table.specs.Table.{record_of};
 ghost use Rattle.net_meaning.specs.Applies.{is_empty, is_related};
 ghost use Rattle.net_meaning.specs.Switches.{takes_unknown};
 ghost use Rattle.net_rows.specs.Build.{peer_mac, port_l2_input, port_sec_input, switch_acl_input};
 ghost use Rattle.nd_full.specs.inner.Made.{has_related, input_on};
 ghost use Rattle.nd_full.specs.inner.Owners.{AreOwners};
 
-use nb_core::{Acl, Addr, Port, Switch, Verdict};
-use nb_tables::Records;
+use nb_records::{Acl, Addr, Port, Switch, Verdict};
+use nb_store::Records;
 use net_rows::{AclOnInput, PortL2Input, PortSecInput, SwitchAclInput};
 use nv_base::{Kept, Mac, Name, ObjId, OutOfMemory};
 use std::alloc::Global;

@@ -13,7 +13,7 @@ use ls_acl::{AclOn, SwitchAcl};
 use ls_l2::{PortL2, SwitchL2};
 use ls_lb::SwitchLb;
 use ls_sec::{PortSec, SwitchSec};
-use nb_core::Acl;
+use nb_records::Acl;
 use net_rows::{PortL2Input, PortSecInput, SwitchAclInput, SwitchL2Input};
 use nv_base::{ObjId, OutOfMemory};
 use sb_rows::NewRows;

@@ -1,9 +1,9 @@
 //! Which owners have the ACLs that apply to a switch.
 ghost use Rattle.std.specs.Prelude.{◌≡◌, ◌++◌, IfOk, OnOk};
-ghost use Rattle.nb_net.specs.Sound.{IsSound};
+ghost use Rattle.nb_model.specs.Sound.{IsSound};
 ghost use Rattle.nd_full.specs.inner.Owners.{AreOwners, groups_of_port, groups_on};
 
-use nb_tables::Records;
+use nb_store::Records;
 use nv_base::{ObjId, OutOfMemory};
 use std::alloc::Global;
 

@@ -1,7 +1,7 @@
 //! The rows of a port of a switch.
 ghost use Rattle.std.specs.Prelude.{◌≡◌, Some, ◌++◌, IfOk, OnOk};
-ghost use Rattle.nb_net.specs.Sound.{IsSound};
-ghost use Rattle.nb_table.specs.Table.{record_of};
+ghost use Rattle.nb_model.specs.Sound.{IsSound};
+ghost use Rattle.nv_table.specs.Table.{record_of};
 ghost use Rattle.net_rows.specs.Build.{port_sec_input};
 ghost use Rattle.net_rows.specs.PortSecurity.{port_sec_rules};
 ghost use Rattle.net_rows.specs.Unit.{unit_of, unit_rows};
@@ -9,8 +9,8 @@ ghost use Rattle.nd_full.specs.inner.Made.{port_units};
 
 use crate::inputs::{port_l2_input, port_sec_input};
 use crate::made::MadeRows;
-use nb_core::Port;
-use nb_tables::Records;
+use nb_records::Port;
+use nb_store::Records;
 use nv_base::{Kept, Name, OutOfMemory};
 use std::alloc::Global;
 

@@ -1,7 +1,7 @@
 //! The rows of a switch, and of the ACLs that apply to it.
 ghost use Rattle.std.specs.Prelude.{◌≡◌, Some, ◌++◌, OnOk};
-ghost use Rattle.nb_net.specs.Sound.{IsSound};
-ghost use Rattle.nb_table.specs.Table.{record_of};
+ghost use Rattle.nb_model.specs.Sound.{IsSound};
+ghost use Rattle.nv_table.specs.Table.{record_of};
 ghost use Rattle.net_rows.specs.Build.{has_unknown};
 ghost use Rattle.nd_full.specs.inner.Made.{acl_units, rows_at};
 ghost use Rattle.nd_full.specs.inner.Members.{HaveSameRows};
@@ -9,8 +9,8 @@ ghost use Rattle.nd_full.specs.inner.Members.{HaveSameRows};
 use crate::inputs::switch_acl_input;
 use crate::made::MadeRows;
 use crate::owners::owners_on;
-use nb_core::Switch;
-use nb_tables::Records;
+use nb_records::Switch;
+use nb_store::Records;
 use net_rows::SwitchL2Input;
 use nv_base::{ObjId, OutOfMemory};
 use std::alloc::Global;

@@ -7,15 +7,15 @@ use Rattle.std.proofs.lemmas.Bool.Decides.{nat_tests}
 use Rattle.nv_base.specs.declared.object.ObjId.{ObjId}
 use Rattle.pkt_core.specs.Packet.{Values}
 use Rattle.expr_eval.specs.MatchMeaning.{holds}
-use Rattle.nb_core.specs.declared.acl.Acl.{Acl}
-use Rattle.nb_core.specs.declared.acl.Way.{Way}
-use Rattle.nb_core.specs.declared.sets.Group.{Group}
-use Rattle.nb_core.specs.declared.switch.Port.{Port}
-use Rattle.nb_net.specs.Belongs.{is_among, same_way}
-use Rattle.nb_net.specs.Names.{names}
-use Rattle.nb_net.specs.Network.{Network, same}
-use Rattle.nb_net.specs.Sound.{IsSound}
-use Rattle.nb_table.proofs.Tagged.{any_is, any_there}
+use Rattle.nb_records.specs.declared.acl.Acl.{Acl}
+use Rattle.nb_records.specs.declared.acl.Way.{Way}
+use Rattle.nb_records.specs.declared.sets.Group.{Group}
+use Rattle.nb_records.specs.declared.switch.Port.{Port}
+use Rattle.nb_model.specs.Belongs.{is_among, same_way}
+use Rattle.nb_model.specs.Names.{names}
+use Rattle.nb_model.specs.Network.{Network, same}
+use Rattle.nb_model.specs.Sound.{IsSound}
+use Rattle.nv_table.proofs.Tagged.{any_is, any_there}
 use Rattle.net_meaning.specs.AclVerdict.{deciding}
 use Rattle.net_meaning.specs.Applies.{acls, applies}
 use Rattle.net_choice.specs.inner.Acls.{acls_of, first, first_of, first_on, first_taking, first_with, groups_with, ports_on, takes}

@@ -3,7 +3,7 @@ use Rattle.std.proofs.Common.{◌≡◌, Bool, true, false, cond, List, [], ◌�
 use Rattle.std.specs.Prelude.{fold, option_map}
 use Rattle.std.specs.List.{Contains}
 use Rattle.nv_map.proofs.Members.{here, there, here_or_there, none_in}
-use Rattle.nb_core.specs.declared.acl.Acl.{Acl}
+use Rattle.nb_records.specs.declared.acl.Acl.{Acl}
 use Rattle.net_choice.specs.inner.Acls.{first, is_before}
 use Rattle.net_choice.proofs.Order.{not_before, not_itself, one_number}
 

@@ -6,7 +6,7 @@ use Rattle.std.proofs.lemmas.Bool.{false≢true}
 use Rattle.std.proofs.lemmas.List.Elements.{All-contains, filter_passes}
 use Rattle.nv_base.specs.declared.object.ObjId.{ObjId}
 use Rattle.nv_map.proofs.Members.{here, there, here_or_there, none_in}
-use Rattle.nb_table.specs.Table.{NumbersRise}
+use Rattle.nv_table.specs.Table.{NumbersRise}
 
 module _ {X : Type 0} (p : X → Bool) where
   -- it passes the test

@@ -3,8 +3,8 @@ use Rattle.std.proofs.Common.{◌≡◌, ◌<◌, Bool, true, false, cond, nat_l
 use Rattle.std.specs.Prelude.{fold, ⊤}
 use Rattle.std.specs.List.{AllByRecursion}
 use Rattle.std.proofs.lemmas.Bool.Decides.{nat_tests}
-use Rattle.nb_core.specs.declared.acl.Acl.{Acl}
-use Rattle.nb_table.specs.Table.{NumbersRise}
+use Rattle.nb_records.specs.declared.acl.Acl.{Acl}
+use Rattle.nv_table.specs.Table.{NumbersRise}
 use Rattle.net_meaning.specs.AclVerdict.{higher}
 use Rattle.net_choice.specs.inner.Acls.{first, is_before}
 

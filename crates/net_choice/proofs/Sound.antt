@@ -1,11 +1,11 @@
 -- The numbers of the records of a sound network rise.
-use Rattle.nb_core.specs.declared.acl.Acl.{Acl}
-use Rattle.nb_core.specs.declared.sets.Group.{Group}
-use Rattle.nb_core.specs.declared.switch.Port.{Port}
-use Rattle.nb_net.specs.Network.{Network}
-use Rattle.nb_net.specs.Sound.{IsSound}
-use Rattle.nb_net.proofs.Rising.{rises}
-use Rattle.nb_table.specs.Table.{NumbersRise}
+use Rattle.nb_records.specs.declared.acl.Acl.{Acl}
+use Rattle.nb_records.specs.declared.sets.Group.{Group}
+use Rattle.nb_records.specs.declared.switch.Port.{Port}
+use Rattle.nb_model.specs.Network.{Network}
+use Rattle.nb_model.specs.Sound.{IsSound}
+use Rattle.nb_model.proofs.Rising.{rises}
+use Rattle.nv_table.specs.Table.{NumbersRise}
 
 module _ (net : Network) (sound : IsSound net) where
   pub ports_rise : NumbersRise (λ (p : Port). p.id) net.ports

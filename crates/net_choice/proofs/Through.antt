@@ -5,7 +5,7 @@ use Rattle.std.specs.List.{AllByRecursion}
 use Rattle.std.proofs.lemmas.Bool.{and_parts, lt-ltb}
 use Rattle.std.proofs.lemmas.Bool.Decides.{nat_tests}
 use Rattle.nv_base.specs.declared.object.ObjId.{ObjId}
-use Rattle.nb_table.specs.Table.{NumbersRise, is_after}
+use Rattle.nv_table.specs.Table.{NumbersRise, is_after}
 
 not_above : (a b : ℕ) → a < b → nat_lt b a ≡ false
 not_above a b less = grind (arith, nat_tests, less)

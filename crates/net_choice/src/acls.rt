@@ -1,13 +1,13 @@
 //! The ACL that decides on a packet.
 ghost use Rattle.std.specs.Prelude.{◌≡◌, option_map};
 ghost use Rattle.std.specs.Option.{option_copied};
-ghost use Rattle.nb_net.specs.Sound.{IsSound};
+ghost use Rattle.nb_model.specs.Sound.{IsSound};
 ghost use Rattle.net_meaning.specs.AclVerdict.{deciding};
 ghost use Rattle.net_choice.specs.inner.Acls.{first, first_of, first_on, first_with, is_before, takes};
 
 use expr_eval::holds;
-use nb_core::{Acl, Way};
-use nb_tables::{Records, is_same_way};
+use nb_records::{Acl, Way};
+use nb_store::{Records, is_same_way};
 use nv_base::ObjId;
 use pkt_core::Packet;
 

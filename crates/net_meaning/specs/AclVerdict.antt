@@ -3,12 +3,12 @@ use Rattle.std.specs.Prelude.{filter, fold, Option, Some, None, nat_lt, if◌the
 use Rattle.nv_base.specs.declared.object.ObjId.{ObjId}
 use Rattle.pkt_core.specs.Packet.{Values}
 use Rattle.expr_eval.specs.MatchMeaning.{holds}
-use Rattle.nb_core.specs.declared.acl.Acl.{Acl}
-use Rattle.nb_core.specs.declared.acl.Verdict.{Verdict}
-use Rattle.nb_core.specs.declared.acl.Verdict.TheVariants.{Allow, AllowRelated, AllowStateless, Drop, Reject}
-use Rattle.nb_core.specs.declared.acl.Way.{Way}
-use Rattle.nb_net.specs.Names.{names}
-use Rattle.nb_net.specs.Network.{Network}
+use Rattle.nb_records.specs.declared.acl.Acl.{Acl}
+use Rattle.nb_records.specs.declared.acl.Verdict.{Verdict}
+use Rattle.nb_records.specs.declared.acl.Verdict.TheVariants.{Allow, AllowRelated, AllowStateless, Drop, Reject}
+use Rattle.nb_records.specs.declared.acl.Way.{Way}
+use Rattle.nb_model.specs.Names.{names}
+use Rattle.nb_model.specs.Network.{Network}
 use Rattle.net_meaning.specs.Applies.{acls}
 
 -- of two ACLs the one of the higher priority; of equals the earlier, whose number is lower

@@ -6,8 +6,8 @@ use Rattle.nv_base.specs.declared.field.Field.TheVariants.{EthSrc, EthDst, EthTy
 use Rattle.nv_base.specs.declared.field.Prerequisite.TheVariants.{Ip4, Arp, Udp}
 use Rattle.pkt_core.specs.Packet.{Values, value}
 use Rattle.pkt_core.specs.Prerequisite.{meets}
-use Rattle.nb_core.specs.declared.switch.Guard.{Guard}
-use Rattle.nb_core.specs.declared.switch.Port.{Port}
+use Rattle.nb_records.specs.declared.switch.Guard.{Guard}
+use Rattle.nb_records.specs.declared.switch.Port.{Port}
 use Rattle.net_meaning.specs.Address.{is_multicast}
 use Rattle.net_meaning.specs.Applies.{is_empty}
 

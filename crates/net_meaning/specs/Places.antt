@@ -2,12 +2,12 @@
 use Rattle.std.specs.Prelude.{Option, Some, None, option_map, unwrap_or}
 use Rattle.std.specs.List.{find}
 use Rattle.nv_base.specs.declared.object.ObjId.{ObjId}
-use Rattle.nb_core.specs.declared.router.RouterPort.{RouterPort}
-use Rattle.nb_core.specs.declared.switch.Port.{Port}
-use Rattle.nb_core.specs.declared.switch.PortKind.{PortKind}
-use Rattle.nb_core.specs.declared.switch.PortKind.TheVariants as kind
-use Rattle.nb_net.specs.Belongs.{either, peer_port, peer_router_port}
-use Rattle.nb_net.specs.Network.{Network, same}
+use Rattle.nb_records.specs.declared.router.RouterPort.{RouterPort}
+use Rattle.nb_records.specs.declared.switch.Port.{Port}
+use Rattle.nb_records.specs.declared.switch.PortKind.{PortKind}
+use Rattle.nb_records.specs.declared.switch.PortKind.TheVariants as kind
+use Rattle.nb_model.specs.Belongs.{either, peer_port, peer_router_port}
+use Rattle.nb_model.specs.Network.{Network, same}
 
 -- the port of a switch, or of a router, of this number
 abbrev pub switch_port : Network → ObjId → Option Port

@@ -1,8 +1,8 @@
 -- Networks of switches that track no connections and lead to no router.
 use Rattle.std.specs.Prelude.{not, IsTrue}
 use Rattle.std.specs.List.{list_all}
-use Rattle.nb_net.specs.Belongs.{is_to_router}
-use Rattle.nb_net.specs.Network.{Network}
+use Rattle.nb_model.specs.Belongs.{is_to_router}
+use Rattle.nb_model.specs.Network.{Network}
 use Rattle.net_meaning.specs.Applies.{tracks}
 
 -- no switch tracks connections, and no port leads to a router

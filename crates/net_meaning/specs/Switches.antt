@@ -9,15 +9,15 @@ use Rattle.pkt_core.specs.Packet.{Values, value, with_values}
 use Rattle.pkt_core.specs.Prerequisite.{meets}
 use Rattle.pkt_core.specs.Replies.{is_answerable, reset, icmp_error, arp_reply}
 use Rattle.pkt_core.specs.declared.replies.IcmpReason.TheVariants.{PortUnreachable}
-use Rattle.nb_core.specs.declared.acl.Way.TheVariants.{From, To}
-use Rattle.nb_core.specs.declared.router.RouterPort.{RouterPort}
-use Rattle.nb_core.specs.declared.switch.Addr.{Addr}
-use Rattle.nb_core.specs.declared.switch.Addr.TheVariants as addr
-use Rattle.nb_core.specs.declared.switch.Port.{Port}
-use Rattle.nb_net.specs.Addresses.{macs}
-use Rattle.nb_net.specs.Belongs.{is_to_router, peer_router_port}
-use Rattle.nb_net.specs.Network.{Network, same}
-use Rattle.nb_net.specs.Readable.{ips_of}
+use Rattle.nb_records.specs.declared.acl.Way.TheVariants.{From, To}
+use Rattle.nb_records.specs.declared.router.RouterPort.{RouterPort}
+use Rattle.nb_records.specs.declared.switch.Addr.{Addr}
+use Rattle.nb_records.specs.declared.switch.Addr.TheVariants as addr
+use Rattle.nb_records.specs.declared.switch.Port.{Port}
+use Rattle.nb_model.specs.Addresses.{macs}
+use Rattle.nb_model.specs.Belongs.{is_to_router, peer_router_port}
+use Rattle.nb_model.specs.Network.{Network, same}
+use Rattle.nb_model.specs.Readable.{ips_of}
 use Rattle.net_meaning.specs.AclVerdict.{Decision, decision}
 use Rattle.net_meaning.specs.AclVerdict.Decision.{Allowed, Dropped, Rejected}
 use Rattle.net_meaning.specs.Address.{is_multicast}

@@ -7,7 +7,7 @@ use Rattle.nv_base.specs.declared.object.ObjId.{ObjId}
 use Rattle.nv_base.specs.declared.field.Field.TheVariants.{Inport, Outport, FlagsLoopback}
 use Rattle.pkt_core.specs.Packet.{Values, value, with_value, with_values, headers}
 use Rattle.pkt_core.specs.Replies.{start}
-use Rattle.nb_net.specs.Network.{Network, same}
+use Rattle.nb_model.specs.Network.{Network, same}
 use Rattle.net_meaning.specs.Places.{Side, side_of, datapath_at}
 use Rattle.net_meaning.specs.Places.Side.{Host, Peer, NoPeer}
 use Rattle.net_meaning.specs.declared.answer.Answer.{Answer}

@@ -5,7 +5,7 @@ use Rattle.std.specs.List.{AllByRecursion, flat_map}
 use Rattle.std.proofs.lemmas.Bool.{ltb-true}
 use Rattle.nv_base.specs.Block.{Block}
 use Rattle.nv_base.specs.Name.{is_object_name}
-use Rattle.nb_core.specs.declared.switch.Guard.{Guard}
+use Rattle.nb_records.specs.declared.switch.Guard.{Guard}
 use Rattle.net_rows.specs.PortSecurity.{closed_rules, disabled_rules, guard_rules, guarded_rules, open_rules, port_sec_rules}
 use Rattle.net_rows.specs.declared.inputs.PortSecInput.{PortSecInput}
 use Rattle.net_rows.specs.declared.rule.Rule.{Rule}

@@ -1,9 +1,9 @@
 -- No two rules of a port of a sound network agree in stage, priority and match.
 use Rattle.std.proofs.Common.{not, ap}
 use Rattle.std.specs.List.{AllByRecursion, Contains}
-use Rattle.nb_core.specs.declared.switch.Port.{Port}
-use Rattle.nb_net.specs.Network.{Network}
-use Rattle.nb_net.specs.Sound.{IsSound}
+use Rattle.nb_records.specs.declared.switch.Port.{Port}
+use Rattle.nb_model.specs.Network.{Network}
+use Rattle.nb_model.specs.Sound.{IsSound}
 use Rattle.net_rows.specs.Build.{port_l2_input, port_rules, port_sec_input}
 use Rattle.net_rows.specs.Lookup.{port_l2_rules}
 use Rattle.net_rows.specs.PortSecurity.{port_sec_rules}

@@ -1,8 +1,8 @@
 -- No two rules of a switch agree in stage and priority.
 use Rattle.std.proofs.Common.{◌≡◌, Bool, true, false, List, ◌++◌, refl}
 use Rattle.nv_base.specs.declared.object.ObjId.{ObjId}
-use Rattle.nb_net.specs.Network.{Network}
-use Rattle.nb_net.specs.Readable.{are_apart}
+use Rattle.nb_model.specs.Network.{Network}
+use Rattle.nb_model.specs.Readable.{are_apart}
 use Rattle.sb_model.specs.Stage.{stage_place}
 use Rattle.net_meaning.specs.Applies.{balances, tracks}
 use Rattle.net_rows.specs.Acls.{switch_acl_rules}

@@ -8,11 +8,11 @@ use Rattle.nv_base.specs.Block.{Block}
 use Rattle.nv_base.specs.Name.{is_object_name}
 use Rattle.nv_base.specs.declared.field.Field.TheVariants.{Inport, Outport, EthSrc, EthDst, EthType, Ip4Src, Ip4Dst, ArpOp, ArpSpa, ArpTpa}
 use Rattle.nv_base.specs.declared.ip4.Ip4.{Ip4}
-use Rattle.nb_core.specs.declared.switch.Addr.{Addr}
-use Rattle.nb_core.specs.declared.switch.Addr.TheVariants as addr
-use Rattle.nb_core.specs.declared.switch.Guard.{Guard}
-use Rattle.nb_net.specs.Belongs.{is_router_kind}
-use Rattle.nb_net.specs.Readable.{ips_of, macs_of}
+use Rattle.nb_records.specs.declared.switch.Addr.{Addr}
+use Rattle.nb_records.specs.declared.switch.Addr.TheVariants as addr
+use Rattle.nb_records.specs.declared.switch.Guard.{Guard}
+use Rattle.nb_model.specs.Belongs.{is_router_kind}
+use Rattle.nb_model.specs.Readable.{ips_of, macs_of}
 use Rattle.expr_core.specs.Formula.{Formula}
 use Rattle.expr_core.specs.declared.comparison.Item.TheVariants.{One, Masked}
 use Rattle.expr_core.specs.declared.typed.TypedAtom.{TypedAtom}

@@ -5,16 +5,16 @@ use Rattle.std.specs.List.{AllByRecursion, Contains, flat_map, list_all}
 use Rattle.std.proofs.lemmas.Bool.{and_parts, ltb-true}
 use Rattle.nv_base.specs.Name.{is_object_name}
 use Rattle.nv_base.specs.declared.object.ObjId.{ObjId}
-use Rattle.nb_core.specs.declared.switch.Port.{Port}
-use Rattle.nb_core.specs.declared.switch.Switch.{Switch}
-use Rattle.nb_net.specs.Addresses.{macs}
-use Rattle.nb_net.specs.Network.{Network}
-use Rattle.nb_net.specs.Readable.{are_addresses, are_apart, are_guards, ips_of, is_ip4, is_mac, may_name, same_number}
-use Rattle.nb_net.specs.Sound.{IsSound}
-use Rattle.nb_net.proofs.Numbered.{are_used}
-use Rattle.nb_net.proofs.Readable.{of_port}
-pub use Rattle.nb_net.proofs.Rising.{rises}
-use Rattle.nb_table.specs.Table.{NumbersRise}
+use Rattle.nb_records.specs.declared.switch.Port.{Port}
+use Rattle.nb_records.specs.declared.switch.Switch.{Switch}
+use Rattle.nb_model.specs.Addresses.{macs}
+use Rattle.nb_model.specs.Network.{Network}
+use Rattle.nb_model.specs.Readable.{are_addresses, are_apart, are_guards, ips_of, is_ip4, is_mac, may_name, same_number}
+use Rattle.nb_model.specs.Sound.{IsSound}
+use Rattle.nb_model.proofs.Numbered.{are_used}
+use Rattle.nb_model.proofs.Readable.{of_port}
+pub use Rattle.nb_model.proofs.Rising.{rises}
+use Rattle.nv_table.specs.Table.{NumbersRise}
 use Rattle.net_rows.proofs.Elements.{one_of, one_of_none}
 
 -- of elements that all pass each one does

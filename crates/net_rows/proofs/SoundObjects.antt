@@ -10,20 +10,20 @@ use Rattle.nv_base.specs.Block.{Block}
 use Rattle.nv_base.specs.Name.{is_object_name}
 use Rattle.nv_base.specs.declared.ip4.Ip4.{Ip4}
 use Rattle.nv_base.specs.declared.object.ObjId.{ObjId}
-use Rattle.nb_core.specs.declared.acl.Acl.{Acl}
-use Rattle.nb_core.specs.declared.router.RouterPort.{RouterPort}
-use Rattle.nb_core.specs.declared.switch.Guard.{Guard}
-use Rattle.nb_core.specs.declared.switch.Port.{Port}
-use Rattle.nb_core.specs.declared.switch.Switch.{Switch}
+use Rattle.nb_records.specs.declared.acl.Acl.{Acl}
+use Rattle.nb_records.specs.declared.router.RouterPort.{RouterPort}
+use Rattle.nb_records.specs.declared.switch.Guard.{Guard}
+use Rattle.nb_records.specs.declared.switch.Port.{Port}
+use Rattle.nb_records.specs.declared.switch.Switch.{Switch}
 use Rattle.nb_read.specs.Lists.{is_base, is_ip}
 use Rattle.nb_read.specs.Readings.{is_unicast, role_of}
-use Rattle.nb_net.specs.Belongs.{peer_router_port, is_port, peer_port}
-use Rattle.nb_net.specs.Network.{Network, same}
-use Rattle.nb_net.specs.Readable.{are_addresses, are_apart, are_guards, ips_of, is_block, is_ip4, is_mac, macs_of, may_name, nets_of, same_number}
-use Rattle.nb_net.specs.Sound.{IsSound, acl_ids, binding_ids, group_ids, lb_ids, nat_ids, port_ids, route_ids, router_ids, router_port_ids, set_ids, switch_ids}
-use Rattle.nb_net.proofs.Numbered.{are_used}
-use Rattle.nb_net.proofs.Readable.{of_port, of_router_port}
-use Rattle.nb_table.specs.Table.{NumbersRise}
+use Rattle.nb_model.specs.Belongs.{peer_router_port, is_port, peer_port}
+use Rattle.nb_model.specs.Network.{Network, same}
+use Rattle.nb_model.specs.Readable.{are_addresses, are_apart, are_guards, ips_of, is_block, is_ip4, is_mac, macs_of, may_name, nets_of, same_number}
+use Rattle.nb_model.specs.Sound.{IsSound, acl_ids, binding_ids, group_ids, lb_ids, nat_ids, port_ids, route_ids, router_ids, router_port_ids, set_ids, switch_ids}
+use Rattle.nb_model.proofs.Numbered.{are_used}
+use Rattle.nb_model.proofs.Readable.{of_port, of_router_port}
+use Rattle.nv_table.specs.Table.{NumbersRise}
 use Rattle.net_rows.specs.Build.{peer_mac}
 use Rattle.net_rows.proofs.Elements.{Contains-map}
 use Rattle.net_rows.proofs.Pairs.{OfPairs, every_member, every_piece, every_weaker, pairs_as, pairs_parts}

@@ -14,13 +14,13 @@ use Rattle.expr_core.specs.declared.role.Role.TheVariants as role
 use Rattle.expr_core.specs.declared.subject.Subject.TheVariants.{Field}
 use Rattle.expr_core.specs.declared.typed.TypedAtom.{TypedAtom}
 use Rattle.expr_core.specs.declared.typed.TypedAtom.TheVariants.{Truth, Bare, Holds, Compare}
-use Rattle.nb_core.specs.declared.acl.Verdict.{Verdict}
-use Rattle.nb_core.specs.declared.acl.Verdict.TheVariants.{Allow, AllowRelated, AllowStateless, Drop, Reject}
-use Rattle.nb_core.specs.declared.acl.Way.{Way}
+use Rattle.nb_records.specs.declared.acl.Verdict.{Verdict}
+use Rattle.nb_records.specs.declared.acl.Verdict.TheVariants.{Allow, AllowRelated, AllowStateless, Drop, Reject}
+use Rattle.nb_records.specs.declared.acl.Way.{Way}
 use Rattle.nb_read.specs.Readings.{role_of}
-use Rattle.nb_net.specs.Network.{Network}
-use Rattle.nb_net.specs.Readable.{is_priority}
-use Rattle.nb_net.specs.Sound.{IsSound}
+use Rattle.nb_model.specs.Network.{Network}
+use Rattle.nb_model.specs.Readable.{is_priority}
+use Rattle.nb_model.specs.Sound.{IsSound}
 use Rattle.sb_model.specs.declared.row.Row.{Row}
 use Rattle.sb_model.specs.declared.stage.Stage.{Stage}
 use Rattle.sb_rows.specs.Row.{HasTypedMatch}

@@ -11,11 +11,11 @@ use Rattle.act_core.specs.declared.action.Action.{Action}
 use Rattle.act_core.specs.declared.action.Action.TheVariants as action
 use Rattle.act_core.specs.declared.step.Step.{Step}
 use Rattle.act_core.specs.declared.step.Step.TheVariants as step
-use Rattle.nb_core.specs.declared.acl.Verdict.{Verdict}
-use Rattle.nb_core.specs.declared.acl.Verdict.TheVariants.{Allow, AllowRelated, AllowStateless, Drop, Reject}
-use Rattle.nb_core.specs.declared.acl.Way.{Way}
-use Rattle.nb_core.specs.declared.acl.Way.TheVariants.{From, To}
-use Rattle.nb_net.specs.Readable.{is_priority}
+use Rattle.nb_records.specs.declared.acl.Verdict.{Verdict}
+use Rattle.nb_records.specs.declared.acl.Verdict.TheVariants.{Allow, AllowRelated, AllowStateless, Drop, Reject}
+use Rattle.nb_records.specs.declared.acl.Way.{Way}
+use Rattle.nb_records.specs.declared.acl.Way.TheVariants.{From, To}
+use Rattle.nb_model.specs.Readable.{is_priority}
 use Rattle.sb_model.specs.Make.{takes_each, is_predicate, in_decimal, bit_is_set, all_of, one_of, steps, goes_on, drops, turns_back}
 use Rattle.sb_model.specs.declared.stage.Stage.{Stage}
 use Rattle.sb_model.specs.declared.stage.Stage.TheVariants.{LsInPreAcl, LsInPreStateful, LsInAclEval, LsInStateful, LsOutPreAcl, LsOutPreStateful, LsOutAclEval, LsOutStateful}
@@ -23,6 +23,8 @@ use Rattle.net_rows.specs.Unit.{rule}
 use Rattle.net_rows.specs.declared.inputs.AclOnInput.{AclOnInput}
 use Rattle.net_rows.specs.declared.inputs.SwitchAclInput.{SwitchAclInput}
 use Rattle.net_rows.specs.declared.rule.Rule.{Rule}
+use Rattle.sb_model.specs.Stage.{last_table}
+use Rattle.sb_model.specs.declared.stage.DatapathKind.TheVariants.{Switch}
 
 -- `reg0[0] = 1`: the packet is to be tracked; `reg0[1] = 1`: its connection is to be kept
 abbrev pub asks_to_track : Step
@@ -84,13 +86,9 @@ abbrev pub stage_of : Way → Stage
 stage_of From = LsInAclEval
 stage_of To = LsOutAclEval
 
--- the number of the last table of egress, by which packets go out that are made
-abbrev pub last_table : ℕ
-last_table = 4
-
 -- the packet is rejected: what answers it goes back by the port that it came in by
 abbrev pub rejects : Action
-rejects = action.Reject (turns_back ++ step.Jump true last_table ∷ [])
+rejects = action.Reject (turns_back ++ step.Jump true (last_table Switch) ∷ [])
 
 -- what becomes of the packet
 abbrev pub ending : Verdict → List Action

@@ -1,5 +1,6 @@
 -- The rows of ARP replies and of the lookup of destinations (ovn-northd(8), 'Ingress Table: ARP/ND responder' and 'Destination
 -- Lookup').
+use Rattle.nv_base.specs.Name.{flood_group, unknown_group}
 use Rattle.std.specs.Prelude.{ℕ, Bool, ◌&&◌, ◌==◌, if◌then◌else◌, List, [], ◌∷◌, ◌++◌, map, Option, Some, None}
 use Rattle.std.specs.List.{flat_map, list_any}
 use Rattle.nv_base.specs.declared.ip4.Ip4.{Ip4}
@@ -10,11 +11,11 @@ use Rattle.expr_core.specs.declared.predicate.Pred.TheVariants.{EthMcast}
 use Rattle.expr_core.specs.declared.typed.TypedAtom.{TypedAtom}
 use Rattle.act_core.specs.declared.step.Step.{Step}
 use Rattle.act_core.specs.declared.step.Step.TheVariants as step
-use Rattle.nb_core.specs.declared.switch.Addr.{Addr}
-use Rattle.nb_core.specs.declared.switch.Addr.TheVariants as addr
-use Rattle.nb_net.specs.Belongs.{is_router_kind}
-use Rattle.nb_net.specs.Readable.{macs_of}
-use Rattle.sb_model.specs.Make.{takes_each, is_predicate, equals, is_port, in_decimal, as_mac, as_ip4, all_of, steps, goes_on, drops, goes_out_by, flood_group, unknown_group, turns_back}
+use Rattle.nb_records.specs.declared.switch.Addr.{Addr}
+use Rattle.nb_records.specs.declared.switch.Addr.TheVariants as addr
+use Rattle.nb_model.specs.Belongs.{is_router_kind}
+use Rattle.nb_model.specs.Readable.{macs_of}
+use Rattle.sb_model.specs.Make.{takes_each, is_predicate, equals, is_port, in_decimal, as_mac, as_ip4, all_of, steps, goes_on, drops, goes_out_by, turns_back}
 use Rattle.sb_model.specs.declared.stage.Stage.TheVariants.{LsInArpRsp, LsInL2Lkup, LsInL2Unknown}
 use Rattle.net_meaning.specs.Switches.{is_router_word}
 use Rattle.net_rows.specs.Unit.{rule}

@@ -9,7 +9,7 @@ use Rattle.expr_core.specs.declared.comparison.Item.{Item}
 use Rattle.expr_core.specs.declared.comparison.Item.TheVariants.{One, Masked}
 use Rattle.expr_core.specs.declared.predicate.Pred.TheVariants.{EthMcast}
 use Rattle.expr_core.specs.declared.typed.TypedAtom.{TypedAtom}
-use Rattle.nb_core.specs.declared.switch.Guard.{Guard}
+use Rattle.nb_records.specs.declared.switch.Guard.{Guard}
 use Rattle.sb_model.specs.Make.{takes_each, bit, is_predicate, equals, is_port, in_decimal, in_hexadecimal, as_mac, as_ip4, is_one_of, differs, is_none_of, all_of, one_of, goes_on, drops, goes_out}
 use Rattle.sb_model.specs.declared.stage.Stage.TheVariants.{LsInCheckPortSec, LsOutCheckPortSec}
 use Rattle.net_meaning.specs.Applies.{is_empty}

@@ -1,6 +1,6 @@
 //! The inputs of units: all that their rows depend on beside their keys.
 use expr_core::Typed;
-use nb_core::{Addr, Guard, PortKind, Verdict, Way};
+use nb_records::{Addr, Guard, PortKind, Verdict, Way};
 use nv_base::{Items, Mac, Name, ObjId};
 
 /// The port security of a switch port. The key is the port.

@@ -1,8 +1,8 @@
 //! Laws of the rows of a network: which they are, and in which order; and of the rows of a sound one.
 ghost use Rattle.std.specs.Prelude.{◌↔◌};
 ghost use Rattle.std.specs.List.{All, Contains};
-ghost use Rattle.nb_net.specs.Network.{Network};
-ghost use Rattle.nb_net.specs.Sound.{IsSound};
+ghost use Rattle.nb_model.specs.Network.{Network};
+ghost use Rattle.nb_model.specs.Sound.{IsSound};
 ghost use Rattle.sb_model.specs.declared.row.Row.{Row};
 ghost use Rattle.sb_rows.specs.Row.{AreApart, HasTypedMatch, IsInRowOrder};
 ghost use Rattle.net_rows.specs.Build.{all_rows, rows};

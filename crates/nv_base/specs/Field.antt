@@ -21,6 +21,10 @@ pub record Known : Type 0 where
 abbrev pub known : ℕ → ℕ → List ℕ → Printed → Prerequisite → Known
 known number width name printed prerequisite = record { number = number; width = width; name = name; printed = printed; prerequisite = prerequisite }
 
+-- how many fields there are
+abbrev pub field_count : ℕ
+field_count = 36
+
 -- the table of the fields
 abbrev pub field_table : Field → Known
 field_table Inport = known 1 32 (codes "inport") PortName Nothing

@@ -6,6 +6,7 @@ pub mod Ip4
 pub mod Mac
 pub mod Name
 pub mod Number
+pub mod Object
 pub mod Prefix
 pub mod Text
 pub mod inner

@@ -18,6 +18,13 @@ is_object_name bytes =
     nat_lt 0 (length bytes) && nat_le (length bytes) 127 && list_all is_name_byte bytes
     && not (starts_with nat_eq bytes (codes "-")) && not (starts_with nat_eq bytes (codes "_MC_"))
 
+-- the names of the multicast groups of a switch: each port, and each port for unknown addresses (ovn-northd(8))
+abbrev pub flood_group : List ℕ
+flood_group = codes "_MC_flood"
+
+abbrev pub unknown_group : List ℕ
+unknown_group = codes "_MC_unknown"
+
 -- a string of a match or of an action may hold the name of a port or of a multicast group
 abbrev pub is_quotable : List ℕ → Bool
-is_quotable name = is_object_name name || pointwise nat_eq name (codes "_MC_flood") || pointwise nat_eq name (codes "_MC_unknown")
+is_quotable name = is_object_name name || pointwise nat_eq name flood_group || pointwise nat_eq name unknown_group

@@ -1,6 +1,6 @@
 //! The fields of a packet, and the one table of what is known of each.
 ghost use Rattle.std.specs.Prelude.{◌≡◌, ◌≤◌, ◌++◌, OnOk, OnErr};
-ghost use Rattle.nv_base.specs.Field.{field_number, field_width, field_name, field_printed, field_prerequisite, is_header, all_fields, is_named, field_of};
+ghost use Rattle.nv_base.specs.Field.{field_count, field_number, field_width, field_name, field_printed, field_prerequisite, is_header, all_fields, is_named, field_of};
 
 use crate::OutOfMemory;
 use Prerequisite::{Arp, Icmp4, IcmpError, Ip4, Nothing, Tcp, Udp};
@@ -127,8 +127,11 @@ struct Facts {
     prerequisite: Prerequisite,
 }
 
+/// How many fields there are.
+pub const FIELD_COUNT: usize = 36;
+
 // All the fields, in the order of their numbers.
-static ALL: [Field; 36] = [
+static ALL: [Field; FIELD_COUNT] = [
     Field::Inport,
     Field::Outport,
     Field::FlagsLoopback,
@@ -169,7 +172,7 @@ static ALL: [Field; 36] = [
 
 // The table of the fields, in the order of their numbers: the width of each, its name, how its numbers are written,
 // and its prerequisite.
-static FACTS: [(u8, &str, Printed, Prerequisite); 36] = [
+static FACTS: [(u8, &str, Printed, Prerequisite); FIELD_COUNT] = [
     (32, "inport", PortName, Nothing),
     (32, "outport", PortName, Nothing),
     (1, "flags.loopback", Decimal, Nothing),
@@ -211,7 +214,7 @@ static FACTS: [(u8, &str, Printed, Prerequisite); 36] = [
 impl Field {
     /// All the fields, in the order of their numbers.
     #[tactic(auto, unfolding(crate::specs::Field::all_fields))]
-    pub fn all() -> &'static [Field; 36]
+    pub fn all() -> &'static [Field; FIELD_COUNT]
         ensures { result.now ≡ all_fields }
     {
         &ALL
@@ -238,7 +241,7 @@ impl Field {
     pub fn number(self) -> u8
         ensures value { result ≡ field_number self }
         ensures first { 1 ≤ result }
-        ensures last { result ≤ 36 }
+        ensures last { result ≤ field_count }
     {
         self as u8 + 1
     }

@@ -6,7 +6,7 @@ ghost use Rattle.nv_base.specs.Number.{number_of, hexadecimal};
 ghost use Rattle.nv_base.specs.Ip4.{address, ip4_of, ip4_text};
 ghost use Rattle.nv_base.specs.Mac.{mac_of, mac_text};
 ghost use Rattle.nv_base.specs.Prefix.{block, prefix_of, prefix_text};
-ghost use Rattle.nv_base.specs.Field.{field_number, field_name, field_of, all_fields};
+ghost use Rattle.nv_base.specs.Field.{field_count, field_number, field_name, field_of, all_fields};
 ghost use Rattle.nv_base.specs.declared.field.Field.{Field};
 
 /// A number that is written in decimal is read again.
@@ -44,8 +44,8 @@ pub fn field_names_are_read()
     ensures { (field : Field) → field_of (field_name field) ≡ Some field }
 {}
 
-/// There are 36 fields, and each has the place of its number in the list of all of them.
+/// Each field has the place of its number in the list of all of them.
 pub fn fields_are_at_their_numbers()
-    ensures order { map field_number all_fields ≡ range_with_len 1 36 }
+    ensures order { map field_number all_fields ≡ range_with_len 1 field_count }
     ensures each { (field : Field) → slice_get all_fields (field_number field - 1) ≡ Some field }
 {}

@@ -16,7 +16,7 @@ mod object;
 mod prefix;
 mod text;
 
-pub use field::{Field, Prerequisite, Printed, field_of, put_field};
+pub use field::{FIELD_COUNT, Field, Prerequisite, Printed, field_of, put_field};
 pub use ip4::{Ip4, put_ip4, read_ip4};
 pub use items::Items;
 pub use kept::Kept;
@@ -27,8 +27,8 @@ pub use laws::{
 };
 pub use mac::{Mac, mac_text, put_mac, read_mac};
 pub use memory::OutOfMemory;
-pub use name::{Name, is_object_name, is_quotable};
+pub use name::{FLOOD_GROUP, Name, UNKNOWN_GROUP, is_object_name, is_quotable};
 pub use number::{put_dec, put_hex, read_number};
-pub use object::ObjId;
+pub use object::{FLOOD_NUMBER, NUMBER_LIMIT, ObjId, UNKNOWN_NUMBER};
 pub use prefix::{Prefix, put_prefix, read_prefix};
 pub use text::BadText;

@@ -7,6 +7,12 @@ use std::alloc::Global;
 use std::cmp::Ordering;
 use std::marker::Model;
 
+/// The name of the multicast group of all ports of a switch (ovn-northd(8)).
+pub const FLOOD_GROUP: &[u8; 9] = b"_MC_flood";
+
+/// The name of the multicast group of its ports for unknown addresses (ovn-northd(8)).
+pub const UNKNOWN_GROUP: &[u8; 11] = b"_MC_unknown";
+
 /// The name of an object. A clause sees its bytes.
 #[derive(Drop)]
 pub struct Name(Vec<u8>);
@@ -114,7 +120,7 @@ pub fn is_object_name(bytes: &[u8]) -> bool
 pub fn is_quotable(name: &[u8]) -> bool
     ensures { result ≡ is_quotable name.now }
 {
-    is_object_name(name) || name == b"_MC_flood".as_slice() || name == b"_MC_unknown".as_slice()
+    is_object_name(name) || name == FLOOD_GROUP.as_slice() || name == UNKNOWN_GROUP.as_slice()
 }
 
 fn all_name_bytes(bytes: &[u8]) -> bool

@@ -6,7 +6,7 @@ use Rattle.std.proofs.lemmas.Bool.{cases_lt, lt-ltb, eqb-true}
 use Rattle.std.proofs.lemmas.Str.{is_utf8-from_IsUtf8, IsUtf8-nil}
 use Rattle.std.proofs.lemmas.List.{append-nil, length-append, length-take, length-take-le, take_all, take-append-le, nil_from_length}
 use Rattle.std.proofs.Math.Seq.{take-append-add}
-use Rattle.nb_core.specs.declared.refusal.Refusal.TheVariants.{NotUtf8, LineTooLong}
+use Rattle.nb_records.specs.declared.refusal.Refusal.TheVariants.{NotUtf8, LineTooLong}
 use Rattle.nb_words.specs.Commands.{line_limit, says_nothing, commands_of}
 use Rattle.nb_words.specs.Words.{words_of}
 use Rattle.nb_read.specs.Then.{and_then}

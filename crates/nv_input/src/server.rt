@@ -6,6 +6,7 @@ ghost use Rattle.nv_input.specs.inner.Pieces.{IsDue, BeginsOutput};
 ghost use Rattle.nv_input.specs.inner.StateAfter.{IsKeptAfter, and_kept};
 ghost use Rattle.nv_io.specs.Writing.{Wrote, PutFailed};
 ghost use Rattle.nv_reply.specs.Stops.{StopsWithin};
+ghost use Rattle.nv_base.specs.Object.{number_limit};
 
 use crate::cut::cut_line;
 use nv_base::{ObjId, OutOfMemory};
@@ -41,7 +42,7 @@ impl Server {
     /// Runs the line, puts its reply, and begins the next (not from OVN). `Stop` where the sink fails or memory runs out:
     /// a front of the reply was put.
     pub fn answer<K: Sink>(&mut self, alloc: Global, sink: &mut K) -> Result<(), Stop>
-        requires { self.old.session.network.next + length self.old.line.items < 4294967294 }
+        requires { self.old.session.network.next + length self.old.line.items < number_limit }
         ensures session { OnOk result (self.new.session ≡ (reply self.old.session self.old.line.items).after) }
         ensures line { OnOk result (self.new.line.items ≡ []) }
         ensures refused { OnOk result (self.new.some_refused
@@ -86,7 +87,7 @@ impl Server {
 
     // Runs the line that ends with these bytes, puts its reply, and begins the next.
     fn end_line<K: Sink>(&mut self, alloc: Global, bytes: &[u8], sink: &mut K) -> Result<(), Stop>
-        requires { self.old.session.network.next + length self.old.line.items + length bytes.now < 4294967294 }
+        requires { self.old.session.network.next + length self.old.line.items + length bytes.now < number_limit }
         ensures session { OnOk result (self.new.session
             ≡ (reply self.old.session (and_kept self.old.line.items bytes.now)).after) }
         ensures line { OnOk result (self.new.line.items ≡ []) }
@@ -108,7 +109,7 @@ impl Server {
     /// Takes the next bytes of the input, and answers each line that they end (not from OVN). `Stop` where the sink fails
     /// or memory runs out: a front of the replies was put.
     pub fn feed<K: Sink>(&mut self, alloc: Global, bytes: &[u8], sink: &mut K) -> Result<(), Stop>
-        requires { self.old.session.network.next + length self.old.line.items + length bytes.now < 4294967294 }
+        requires { self.old.session.network.next + length self.old.line.items + length bytes.now < number_limit }
         ensures next { OnOk result (self.new.session.network.next + length self.new.line.items
             ≤ self.old.session.network.next + length self.old.line.items + length bytes.now) }
         ensures fed { OnOk result ((first : spec.Session) (before : List ℕ)

@@ -1,14 +1,14 @@
 -- What a reply keeps of a session.
 use Rattle.std.proofs.Common.{◌≡◌, ℕ, List, Some, None, Result, Ok, Err, refl}
-use Rattle.nb_core.specs.declared.edit.Edit.{Edit}
-use Rattle.nb_core.specs.declared.refusal.Refusal.{Refusal}
+use Rattle.nb_records.specs.declared.edit.Edit.{Edit}
+use Rattle.nb_records.specs.declared.refusal.Refusal.{Refusal}
 use Rattle.nb_cmds.specs.Lines.{read_line}
 use Rattle.nb_cmds.specs.declared.line.Line.{Line}
 use Rattle.nb_cmds.specs.declared.line.Line.TheVariants as line
 use Rattle.nb_cmds.specs.declared.query.Query.{Query}
 use Rattle.nb_cmds.specs.declared.query.Query.TheVariants as query
-use Rattle.nb_net.specs.Network.{Network}
-use Rattle.nb_net.specs.Transactions.{edited}
+use Rattle.nb_model.specs.Network.{Network}
+use Rattle.nb_model.specs.Transactions.{edited}
 use Rattle.nv_reply.specs.Session.{Session}
 use Rattle.nv_reply.specs.Reply.{Reply, answered, wanted_datapath, traced_port, reply_to, reply_to_query, reply}
 

@@ -6,12 +6,12 @@ use Rattle.std.proofs.lemmas.List.{append-nil}
 use Rattle.nv_base.specs.declared.object.ObjId.{ObjId}
 use Rattle.nv_io.specs.State.{SinkState}
 use Rattle.nv_io.specs.declared.sink.SinkFailed.{SinkFailed}
-use Rattle.nb_core.specs.declared.switch.Switch.{Switch}
-use Rattle.nb_table.specs.Table.{NumbersRise, record_after}
+use Rattle.nb_records.specs.declared.switch.Switch.{Switch}
+use Rattle.nv_table.specs.Table.{NumbersRise, record_after}
 use Rattle.sb_model.specs.declared.row.Row.{Row}
 use Rattle.sb_rows.specs.Row.{rows_of}
 use Rattle.sb_rows.specs.Listing.{datapath_listing, is_asked_for, listing}
-use Rattle.nb_table.proofs.Through.{left_after, all_left, none_left, one_left}
+use Rattle.nv_table.proofs.Through.{left_after, all_left, none_left, one_left}
 use Rattle.nv_reply.specs.declared.stop.Stop.{Stop}
 use Rattle.nv_reply.specs.declared.stop.Stop.TheVariants.{OutOfMemory}
 use Rattle.nv_reply.specs.Reply.{datapaths}

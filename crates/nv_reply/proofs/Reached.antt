@@ -3,28 +3,29 @@ use Rattle.std.proofs.Common.{◌≡◌, ℕ, ◌+◌, ◌<◌, ◌≤◌, ◌�
 use Rattle.std.specs.List.{AllByRecursion}
 use Rattle.std.proofs.lemmas.List.Sums.{sum_by-cons}
 use Rattle.std.proofs.lemmas.Result.{IfOk-at_ok, IfOk-weaker}
-use Rattle.nb_core.specs.declared.edit.Edit.{Edit}
-use Rattle.nb_core.specs.declared.refusal.Refusal.{Refusal}
-use Rattle.nb_net.specs.Effect.{effect}
-use Rattle.nb_net.specs.Network.{Network, empty_network}
-use Rattle.nb_net.specs.Readable.{IsReadable}
-use Rattle.nb_net.specs.Sound.{IsSound}
-use Rattle.nb_net.specs.Tests.{refusal}
-use Rattle.nb_net.specs.Transactions.{unless, applied, edited}
-use Rattle.nb_net.proofs.Drawn.{edit_draws}
-use Rattle.nb_net.proofs.Reading.{goes_on}
-use Rattle.nb_net.proofs.Whole.{edit_sound}
+use Rattle.nb_records.specs.declared.edit.Edit.{Edit}
+use Rattle.nb_records.specs.declared.refusal.Refusal.{Refusal}
+use Rattle.nb_model.specs.Effect.{effect}
+use Rattle.nb_model.specs.Network.{Network, empty_network}
+use Rattle.nb_model.specs.Readable.{IsReadable}
+use Rattle.nb_model.specs.Sound.{IsSound}
+use Rattle.nb_model.specs.Tests.{refusal}
+use Rattle.nb_model.specs.Transactions.{unless, applied, edited}
+use Rattle.nb_model.proofs.Drawn.{edit_draws}
+use Rattle.nb_model.proofs.Reading.{goes_on}
+use Rattle.nb_model.proofs.Whole.{edit_sound}
 use Rattle.nb_cmds.proofs.ReadableLines.{line_readable}
 use Rattle.nb_cmds.proofs.ShortLines.{line_short}
 use Rattle.nb_cmds.proofs.BuiltLines.{line_built}
-use Rattle.nb_plain.specs.Plain.{IsBuilt, IsPlain}
-use Rattle.nb_plain.proofs.Plain.{edited_plain, empty_plain}
+use Rattle.nb_model.specs.Plain.{IsBuilt, IsPlain}
+use Rattle.nb_model.proofs.Plain.{edited_plain, empty_plain}
 use Rattle.net_meaning.proofs.Stateless as plain_networks
 use Rattle.tr_walk.specs.Refined.{IsRefined}
 use Rattle.tr_walk.proofs.Refinement.{stateless_refined}
 use Rattle.nv_reply.specs.Reply.{reply, session_after}
 use Rattle.nv_reply.specs.Session.{Session, new_session}
 use Rattle.nv_reply.proofs.Keeping.{reply_keeps}
+use Rattle.nv_base.specs.Object.{number_limit}
 
 -- an edit draws a number, or none
 one_more : (net : Network) (edit : Edit) → (effect net edit).next ≤ net.next + 1
@@ -52,7 +53,7 @@ record IsLeft (next : ℕ) (net : Network) : Type 0 where
   pub drawn : net.next ≤ next + 1
 
 -- edits leave a sound network sound
-edited_sound : (net : Network) (list : List Edit) → IsSound net → AllByRecursion IsReadable list → net.next + length list < 4294967294 → IfOk (edited net list) IsSound
+edited_sound : (net : Network) (list : List Edit) → IsSound net → AllByRecursion IsReadable list → net.next + length list < number_limit → IfOk (edited net list) IsSound
 edited_sound net [] sound readable room = sound
 edited_sound net (edit ∷ list) sound readable room =
     goes_on (IsLeft net.next) IsSound (applied net edit) (λ one. edited one list)
@@ -66,12 +67,12 @@ reply_next session line =
     reply_keeps (λ after. after.network.next ≤ session.network.next + length line) session line (omega arith) (λ list net said done.
     omega (arith, line_short line list said, IfOk-at_ok (λ (after : Network). after.next ≤ session.network.next + length list) done (edited_next session.network list)))
 
-reply_sound : (session : Session) (line : List ℕ) → IsSound session.network → session.network.next + length line < 4294967294 → IsSound (reply session line).after.network
+reply_sound : (session : Session) (line : List ℕ) → IsSound session.network → session.network.next + length line < number_limit → IsSound (reply session line).after.network
 reply_sound session line sound room =
     reply_keeps (λ after. IsSound after.network) session line sound (λ list net said done.
     IfOk-at_ok IsSound done (edited_sound session.network list sound (line_readable line list said) (omega (arith, line_short line list said, room))))
 
-lines_sound : (session : Session) (lines : List (List ℕ)) → IsSound session.network → session.network.next + sum_by length lines < 4294967294 → IsSound (session_after session lines).network
+lines_sound : (session : Session) (lines : List (List ℕ)) → IsSound session.network → session.network.next + sum_by length lines < number_limit → IsSound (session_after session lines).network
 lines_sound session [] sound room = sound
 lines_sound session (line ∷ lines) sound room =
     let bytes = sum_by-cons length line lines in
@@ -119,7 +120,7 @@ empty_sound = record {
 }
 
 -- each network that lines leave is sound, as long as the lines are no longer
-pub sound_after : (hops : ℕ) (lines : List (List ℕ)) → 1 + sum_by length lines < 4294967294 → IsSound (session_after (new_session hops) lines).network
+pub sound_after : (hops : ℕ) (lines : List (List ℕ)) → 1 + sum_by length lines < number_limit → IsSound (session_after (new_session hops) lines).network
 sound_after hops lines room = lines_sound (new_session hops) lines empty_sound room
 
 -- built edits leave a plain network plain
@@ -145,5 +146,5 @@ pub plain_refined : (net : Network) → IsSound net → IsPlain net → IsRefine
 plain_refined net sound plain = stateless_refined net sound (plain_networks.stateless net plain)
 
 -- and so do those of each network that lines leave
-pub each_refined : (hops : ℕ) (lines : List (List ℕ)) → 1 + sum_by length lines < 4294967294 → IsRefined (session_after (new_session hops) lines).network
+pub each_refined : (hops : ℕ) (lines : List (List ℕ)) → 1 + sum_by length lines < number_limit → IsRefined (session_after (new_session hops) lines).network
 each_refined hops lines room = plain_refined (session_after (new_session hops) lines).network (sound_after hops lines room) (plain_after hops lines)

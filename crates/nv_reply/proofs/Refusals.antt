@@ -3,14 +3,14 @@ use Rattle.std.proofs.Common.{◌≡◌, ℕ, Bool, true, false, Some, None, Res
 use Rattle.std.specs.Prelude.{codes, filter, nat_eq, Option}
 use Rattle.std.specs.List.{starts_with, flat_map}
 use Rattle.nv_base.specs.declared.object.ObjId.{ObjId}
-use Rattle.nb_core.specs.declared.refusal.Refusal.{Refusal}
+use Rattle.nb_records.specs.declared.refusal.Refusal.{Refusal}
 use Rattle.nb_cmds.specs.Lines.{read_line}
 use Rattle.nb_cmds.specs.declared.line.Line.{Line}
 use Rattle.nb_cmds.specs.declared.line.Line.TheVariants as line
 use Rattle.nb_cmds.specs.declared.query.Query.{Query}
 use Rattle.nb_cmds.specs.declared.query.Query.TheVariants as query
-use Rattle.nb_net.specs.Network.{Network}
-use Rattle.nb_net.specs.Transactions.{edited}
+use Rattle.nb_model.specs.Network.{Network}
+use Rattle.nb_model.specs.Transactions.{edited}
 use Rattle.sb_model.specs.declared.row.Row.{Row}
 use Rattle.sb_rows.specs.Row.{rows_of}
 use Rattle.sb_rows.specs.Listing.{datapath_listing, is_asked_for}

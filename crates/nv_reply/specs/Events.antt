@@ -3,9 +3,9 @@ use Rattle.std.specs.Prelude.{ℕ, Bool, true, false, ◌&&◌, List, [], ◌++�
 use Rattle.std.specs.List.{flat_map}
 use Rattle.nv_base.specs.declared.object.ObjId.{ObjId}
 use Rattle.pkt_core.specs.Text.{packet_text}
-use Rattle.nb_net.specs.Belongs.{either}
-use Rattle.nb_net.specs.Network.{Network}
-use Rattle.nb_table.specs.Table.{record_of}
+use Rattle.nb_model.specs.Belongs.{either}
+use Rattle.nb_model.specs.Network.{Network}
+use Rattle.nv_table.specs.Table.{record_of}
 use Rattle.sb_model.specs.Stage.{stage_name}
 use Rattle.net_meaning.specs.Cause.{cause_name}
 use Rattle.tr_walk.specs.declared.event.Event.{Event}

@@ -2,20 +2,20 @@
 use Rattle.std.specs.Prelude.{ℕ, Bool, true, false, ◌||◌, List, [], ◌∷◌, ◌++◌, map, Option, Some, None, ok_or, Result, Ok, Err, if◌then◌else◌, codes}
 use Rattle.nv_base.specs.declared.object.ObjId.{ObjId}
 use Rattle.pkt_core.specs.Packet.{Values}
-use Rattle.nb_core.specs.declared.refusal.Refusal.{Refusal}
-use Rattle.nb_core.specs.declared.refusal.Refusal.TheVariants.{NoSuchObject, NotOnDatapath}
-use Rattle.nb_core.specs.declared.switch.Switch.{Switch}
-use Rattle.nb_core.specs.Refusal.{refusal_line}
+use Rattle.nb_records.specs.declared.refusal.Refusal.{Refusal}
+use Rattle.nb_records.specs.declared.refusal.Refusal.TheVariants.{NoSuchObject, NotOnDatapath}
+use Rattle.nb_records.specs.declared.switch.Switch.{Switch}
+use Rattle.nb_records.specs.Refusal.{refusal_line}
 use Rattle.nb_cmds.specs.Lines.{read_line}
 use Rattle.nb_cmds.specs.declared.line.Line.{Line}
 use Rattle.nb_cmds.specs.declared.line.Line.TheVariants.{Nothing, Edits, Query}
 use Rattle.nb_cmds.specs.declared.query.Query as query
 use Rattle.nb_cmds.specs.declared.query.Query.TheVariants.{FlowList, Dump, Trace}
 use Rattle.nb_read.specs.Then.{and_then}
-use Rattle.nb_net.specs.Belongs.{is_number}
-use Rattle.nb_net.specs.Network.{Network}
-use Rattle.nb_net.specs.Transactions.{edited}
-use Rattle.nb_tables.specs.Places.{datapath_of, on_datapath, port_of}
+use Rattle.nb_model.specs.Belongs.{is_number}
+use Rattle.nb_model.specs.Network.{Network}
+use Rattle.nb_model.specs.Transactions.{edited}
+use Rattle.nb_store.specs.Places.{datapath_of, on_datapath, port_of}
 use Rattle.nb_dump.specs.Dump.{dump}
 use Rattle.sb_rows.specs.Listing.{listing}
 use Rattle.net_rows.specs.Build.{rows}

@@ -1,6 +1,6 @@
 -- What a run keeps from line to line.
 use Rattle.std.specs.Prelude.{ℕ}
-use Rattle.nb_net.specs.Network.{Network, empty_network}
+use Rattle.nb_model.specs.Network.{Network, empty_network}
 
 -- the network, and how many hops a traced packet may take
 pub record Session : Type 0 where

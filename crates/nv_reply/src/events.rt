@@ -2,7 +2,7 @@ ghost use Rattle.std.specs.Prelude.{◌≡◌, ◌++◌, List, ℕ, OnOk};
 ghost use Rattle.nv_reply.specs.Events.{datapath_name, port_name, event_line, is_hit, told_line, event_lines};
 ghost use Rattle.tr_walk.specs.declared.event.Event.TheVariants.{Hit, Output, Drop, Reject, HopLimit};
 
-use nb_tables::Records;
+use nb_store::Records;
 use net_meaning::Cause;
 use nv_base::{ObjId, OutOfMemory, put_dec};
 use pkt_core::{Packet, put_packet};

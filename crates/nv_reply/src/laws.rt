@@ -1,13 +1,14 @@
 ghost use Rattle.std.specs.Prelude.{◌≡◌, ◌+◌, ◌<◌, ℕ, List, codes, length, nat_eq, sum_by};
 ghost use Rattle.std.specs.List.{starts_with};
-ghost use Rattle.nb_net.specs.Sound.{IsSound};
-ghost use Rattle.nb_plain.specs.Plain.{IsPlain};
+ghost use Rattle.nb_model.specs.Sound.{IsSound};
+ghost use Rattle.nb_model.specs.Plain.{IsPlain};
 ghost use Rattle.nv_reply.specs.Reply.{reply, session_after};
 ghost use Rattle.nv_reply.specs.Session.{Session, new_session};
+ghost use Rattle.nv_base.specs.Object.{number_limit};
 
 /// Each network that lines leave is sound, as long as the lines have fewer than 4,294,967,293 bytes together.
 pub fn lines_leave_sound_networks()
-    ensures { (hops : ℕ) (lines : List (List ℕ)) → 1 + sum_by length lines < 4294967294
+    ensures { (hops : ℕ) (lines : List (List ℕ)) → 1 + sum_by length lines < number_limit
         → IsSound (session_after (new_session hops) lines).network }
 {}
 

@@ -6,10 +6,10 @@ ghost use Rattle.nv_io.specs.Writing.{Wrote, PutFailed};
 ghost use Rattle.nv_reply.specs.Stops.{StopsWithin};
 
 use crate::stop::Stop;
-use nb_core::Switch;
-use nb_table::Table;
+use nb_records::Switch;
 use nv_base::{Kept, Name, ObjId, OutOfMemory};
 use nv_io::{Sink, put_all};
+use nv_table::Table;
 use sb_rows::{Rows, put_listing};
 use std::alloc::Global;
 

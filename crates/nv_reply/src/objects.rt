@@ -1,7 +1,7 @@
 ghost use Rattle.std.specs.Prelude.{◌≡◌};
 
 use nb_dump::Objects;
-use nb_tables::Records;
+use nb_store::Records;
 
 /// The objects of the network, as they are dumped (not from OVN).
 pub fn objects(records: &Records) -> Objects<'_>

@@ -1,22 +1,23 @@
 ghost use Rattle.std.specs.Prelude.{◌≡◌, ◌++◌, ◌+◌, ◌<◌, IfOk, OnOk, length, true, false};
 ghost use Rattle.std.specs.List.{AllByRecursion};
-ghost use Rattle.nb_core.specs.Refusal.{refusal_line};
-ghost use Rattle.nb_net.specs.Belongs.{is_number};
-ghost use Rattle.nb_net.specs.Readable.{IsReadable};
-ghost use Rattle.nb_plain.specs.Plain.{IsBuilt};
-ghost use Rattle.nb_tables.specs.Places.{on_datapath};
+ghost use Rattle.nb_records.specs.Refusal.{refusal_line};
+ghost use Rattle.nb_model.specs.Belongs.{is_number};
+ghost use Rattle.nb_model.specs.Readable.{IsReadable};
+ghost use Rattle.nb_model.specs.Plain.{IsBuilt};
+ghost use Rattle.nb_store.specs.Places.{on_datapath};
 ghost use Rattle.nv_reply.specs.declared.answer.Answer.TheVariants as answers;
 ghost use Rattle.nv_reply.specs.Reply.{accept, ok_line, trace_lines, traced_port, reply_to_query, reply_to, reply};
 ghost use Rattle.nv_reply.specs.Answer.{IsAnswered};
+ghost use Rattle.nv_base.specs.Object.{number_limit};
 
 use crate::answer::Answer;
 use crate::events::put_events;
 use crate::objects::objects;
 use crate::session::Session;
 use nb_cmds::{Line, Query, read_line};
-use nb_core::{Edit, Refusal};
 use nb_dump::put_dump;
-use nb_tables::Records;
+use nb_records::{Edit, Refusal};
+use nb_store::Records;
 use nb_words::LineFault;
 use nv_base::{Items, Name, ObjId, OutOfMemory};
 use pkt_core::Packet;
@@ -32,7 +33,7 @@ pub fn run_line(
     line: &[u8],
     out: &mut Vec<u8>,
 ) -> Result<Answer, OutOfMemory>
-    requires { session.old.network.next + length line.now < 4294967294 }
+    requires { session.old.network.next + length line.now < number_limit }
     ensures answer { IfOk result (λ answer. IsAnswered (reply session.old line.now) out.old.items out.new.items answer) }
     ensures after { OnOk result (session.new ≡ (reply session.old line.now).after) }
 {
@@ -53,7 +54,7 @@ fn run_edits(
 ) -> Result<Answer, OutOfMemory>
     requires readable { AllByRecursion IsReadable edits }
     requires built { AllByRecursion IsBuilt edits }
-    requires room { session.old.network.next + length edits < 4294967294 }
+    requires room { session.old.network.next + length edits < number_limit }
     ensures answer { IfOk result (λ answer. IsAnswered (reply_to session.old (Line.Edits edits)) out.old.items out.new.items answer) }
     ensures after { OnOk result (session.new ≡ (reply_to session.old (Line.Edits edits)).after) }
 {

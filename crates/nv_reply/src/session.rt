@@ -1,22 +1,23 @@
 ghost use Rattle.std.specs.Prelude.{◌≡◌, ◌+◌, ◌<◌, Ok, OnOk, OnErr, IfOk, IfErr, length};
 ghost use Rattle.std.specs.List.{AllByRecursion};
 ghost use Rattle.nb_words.specs.Fault.{IsFaultOf};
-ghost use Rattle.nb_net.specs.Readable.{IsReadable};
-ghost use Rattle.nb_net.specs.Sound.{IsSound};
-ghost use Rattle.nb_net.specs.Transactions.{edited};
-ghost use Rattle.nb_plain.specs.Plain.{IsBuilt, IsPlain};
+ghost use Rattle.nb_model.specs.Readable.{IsReadable};
+ghost use Rattle.nb_model.specs.Sound.{IsSound};
+ghost use Rattle.nb_model.specs.Transactions.{edited};
+ghost use Rattle.nb_model.specs.Plain.{IsBuilt, IsPlain};
 ghost use Rattle.tr_walk.specs.Refined.{IsRefined};
 ghost use Rattle.nv_reply.specs.Reply.{flows, traced};
 ghost use Rattle.nv_reply.specs.Session.{new_session};
 ghost use Rattle.nv_reply.specs.inner.KeptRows.{AreRowsOf};
 ghost use Rattle.nv_io.specs.Writing.{Wrote, PutFailed};
 ghost use Rattle.nv_reply.specs.Stops.{StopsWithin};
+ghost use Rattle.nv_base.specs.Object.{number_limit};
 
 use crate::listing::put_datapaths;
 use crate::stop::Stop;
 use nb_check::Tables;
-use nb_core::Edit;
-use nb_tables::Records;
+use nb_records::Edit;
+use nb_store::Records;
 use nb_words::LineFault;
 use nd_full::full;
 use nv_base::{Items, ObjId, OutOfMemory};
@@ -38,9 +39,9 @@ pub struct Session {
 
 impl Model for Session {
     ghost use Rattle.std.specs.Coded.{codes};
-    ghost use Rattle.nb_core.specs.contracts.acl.Acl as acl;
+    ghost use Rattle.nb_records.specs.contracts.acl.Acl as acl;
     ghost use Rattle.nv_reply.specs.Session as value;
-    ghost use Rattle.nb_plain.specs.Plain.{IsPlain};
+    ghost use Rattle.nb_model.specs.Plain.{IsPlain};
     ghost use Rattle.nv_reply.specs.inner.KeptRows.{AreKept};
 
     ghost Value = { value.Session };
@@ -55,7 +56,7 @@ impl Model for Session {
 impl Session {
     /// The session before the first line: the network without objects, where a traced packet may take so many hops (not
     /// from OVN). It takes no memory.
-    #[tactic(auto, using(nb_plain::proofs::Plain::empty_plain))]
+    #[tactic(auto, using(nb_model::proofs::Plain::empty_plain))]
     pub fn new(hops: u8) -> Self
         ensures { result ≡ new_session hops }
     {
@@ -80,7 +81,7 @@ impl Session {
     pub fn apply_all(&mut self, alloc: Global, edits: Items<Edit>) -> Result<(), LineFault>
         requires readable { AllByRecursion IsReadable edits }
         requires built { AllByRecursion IsBuilt edits }
-        requires room { self.old.network.next + length edits < 4294967294 }
+        requires room { self.old.network.next + length edits < number_limit }
         ensures done { OnOk result (edited self.old.network edits ≡ Ok self.new.network) }
         ensures hops { self.new.hops ≡ self.old.hops }
         ensures refused { IfErr result (λ fault. IsFaultOf (edited self.old.network edits) fault) }

@@ -3,7 +3,7 @@ use Rattle.std.proofs.Common.{◌≡◌, ℕ, ◌+◌, ◌<◌, Bool, Ok, List, 
 use Rattle.std.specs.Prelude.{map}
 use Rattle.clap.specs.Words.{Text}
 use Rattle.nv_options.specs.Options.{hops_in}
-use Rattle.nb_core.specs.declared.switch.Port.{Port}
+use Rattle.nb_records.specs.declared.switch.Port.{Port}
 use Rattle.nb_cmds.specs.Lines.{read_line}
 use Rattle.nb_cmds.specs.declared.line.Line.TheVariants.{Query}
 use Rattle.nb_cmds.specs.declared.query.Query.TheVariants.{Trace}
@@ -22,6 +22,7 @@ use Rattle.nv_reply.specs.Session.{Session}
 use Rattle.nv_serve.specs.Traced.{TellsMeaning, TracesAreMeant}
 use Rattle.nv_serve.proofs.Lengths.{before_longer}
 use Rattle.nv_reply.proofs.Reached.{each_refined}
+use Rattle.nv_base.specs.Object.{number_limit}
 
 -- what becomes of a packet is an event without a hit
 of_plain_is : (event : PlainEvent) → plain_event (of_plain event) ≡ Some event
@@ -43,7 +44,7 @@ tells session line minimal dp micro arrival is rest =
     subst (λ text. TellsMeaning session minimal arrival micro.packet text) (sym (ap (λ read. (answered session read (reply_to session)).text) is)) rest
 
 -- each trace that begins at a port of a switch is answered by what the network does with the packet
-pub traces_meant : (words : List Text) (lines : List (List ℕ)) → 1 + sum_by length lines < 4294967294 → TracesAreMeant words lines
+pub traces_meant : (words : List Text) (lines : List (List ℕ)) → 1 + sum_by length lines < number_limit → TracesAreMeant words lines
 traces_meant words lines room before line later all minimal dp micro is arrival there port =
     let session = session_after (opened words) before in
     let alike = each_refined (hops_in words) before (omega (arith, room, before_longer lines before line later all)) session.hops arrival micro.packet tt there (query_well_read line (Trace minimal dp micro) is).2 in

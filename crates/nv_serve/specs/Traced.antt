@@ -3,7 +3,7 @@ use Rattle.std.specs.Prelude.{◌≡◌, ℕ, Bool, List, ◌∷◌, ◌++◌, O
 use Rattle.clap.specs.Words.{Text}
 use Rattle.pkt_core.specs.Packet.{Values}
 use Rattle.pkt_micro.specs.declared.microflow.Micro.{Micro}
-use Rattle.nb_core.specs.declared.switch.Port.{Port}
+use Rattle.nb_records.specs.declared.switch.Port.{Port}
 use Rattle.nb_cmds.specs.Lines.{read_line}
 use Rattle.nb_cmds.specs.declared.line.Line.TheVariants.{Query}
 use Rattle.nb_cmds.specs.declared.query.Query.TheVariants.{Trace}

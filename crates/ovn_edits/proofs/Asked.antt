@@ -1,10 +1,10 @@
 -- What commands ask for is readable.
 use Rattle.std.proofs.Common.{◌≡◌, ◌&&◌, Bool, true, false, ℕ, zero, suc, List, [], ◌∷◌, ◌++◌, drop, Result, Ok, Err, IfOk, refl}
 use Rattle.std.specs.List.{AllByRecursion, list_all}
-use Rattle.nb_core.specs.declared.edit.Edit.{Edit}
+use Rattle.nb_records.specs.declared.edit.Edit.{Edit}
 use Rattle.nb_edit.specs.Commands.{read_command}
-use Rattle.nb_net.specs.Readable.{IsReadable}
-use Rattle.nb_readable.proofs.CommandReadings.{command_readable}
+use Rattle.nb_model.specs.Readable.{IsReadable}
+use Rattle.nb_cmds.proofs.CommandReadings.{command_readable}
 use Rattle.nb_words.specs.Commands.{is_small}
 use Rattle.nb_words.specs.declared.command.Command.{Command}
 

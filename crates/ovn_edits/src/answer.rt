@@ -4,7 +4,7 @@ use crate::edits::readable_edits;
 use crate::room::has_room;
 use nb_check::Tables;
 use nb_dump::{Objects, put_dump};
-use nb_tables::Records;
+use nb_store::Records;
 use nb_words::{Command, LineFault, Word, read_commands};
 use nv_base::OutOfMemory;
 use std::alloc::Global;

@@ -1,5 +1,5 @@
 use nb_check::Tables;
-use nb_core::{Refusal, Way};
+use nb_records::{Refusal, Way};
 use nb_words::{LineFault, Word};
 use net_choice::acl_first;
 use nv_base::{Field, Mac, Name, OutOfMemory, put_dec, read_mac};

@@ -1,5 +1,5 @@
 use nb_check::Tables;
-use nb_core::Kind;
+use nb_records::Kind;
 use nv_base::{OutOfMemory, put_dec};
 use std::alloc::Global;
 

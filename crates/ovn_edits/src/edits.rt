@@ -1,10 +1,10 @@
 ghost use Rattle.std.specs.Prelude.{◌≡◌, true, IfOk};
 ghost use Rattle.std.specs.List.{AllByRecursion, list_all};
-ghost use Rattle.nb_net.specs.Readable.{IsReadable};
+ghost use Rattle.nb_model.specs.Readable.{IsReadable};
 ghost use Rattle.nb_words.specs.Commands.{is_small};
 
-use nb_core::Edit;
 use nb_edit::read_command;
+use nb_records::Edit;
 use nb_words::{Command, LineFault};
 use nv_base::Items;
 use std::alloc::Global;

@@ -3,8 +3,8 @@ ghost use Rattle.std.specs.List.{list_all};
 ghost use Rattle.nb_words.specs.Commands.{is_small};
 
 use crate::edit::put_edit;
-use nb_core::Edit;
 use nb_edit::read_command;
+use nb_records::Edit;
 use nb_words::{Command, LineFault, read_commands};
 use nv_base::{Items, OutOfMemory};
 use std::alloc::Global;

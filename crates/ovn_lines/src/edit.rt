@@ -4,7 +4,7 @@ use crate::parts::{
     put_name, put_names, put_nat_kind, put_net, put_nets, put_owner_kind, put_policy, put_proto,
     put_rule, put_spaced_ip, put_spaced_mac, put_verdict, put_way,
 };
-use nb_core::{Edit, Member, OwnerKind, PortKind, Verdict};
+use nb_records::{Edit, Member, OwnerKind, PortKind, Verdict};
 use nv_base::{Mac, Name, OutOfMemory, Prefix};
 
 // A variant, and the name of what it edits.

@@ -1,6 +1,6 @@
 //! The parts of edits as text, each after a space.
 use expr_core::{Typed, put_tree};
-use nb_core::{
+use nb_records::{
     Addr, Backend, Frontend, Guard, Member, NatKind, OwnerKind, Proto, RouteBy, Verdict, Way,
 };
 use nv_base::{Ip4, Mac, Name, OutOfMemory, Prefix, put_dec, put_ip4, put_mac, put_prefix};

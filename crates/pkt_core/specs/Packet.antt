@@ -1,15 +1,11 @@
 -- A packet: a number for each field.
 use Rattle.std.specs.Prelude.{◌≡◌, ℕ, ◌-◌, ◌<◌, ◌^◌, length, Bool, not, if◌then◌else◌, List, [], ◌∷◌, map, slice_index, slice_set, replicate}
 use Rattle.nv_base.specs.declared.field.Field.{Field}
-use Rattle.nv_base.specs.Field.{field_number, field_width, is_header, all_fields}
+use Rattle.nv_base.specs.Field.{field_count, field_number, field_width, is_header, all_fields}
 
 -- a packet's numbers, in the order of the fields
 abbrev pub Values : Type 0
 Values = List ℕ
-
--- how many fields there may be
-abbrev pub field_count : ℕ
-field_count = 36
 
 -- the place of a field's number
 abbrev pub place : Field → ℕ

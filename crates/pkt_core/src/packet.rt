@@ -1,13 +1,10 @@
 ghost use Rattle.std.specs.Prelude.{◌≡◌, ◌≢◌, ◌<◌, ◌^◌};
-ghost use Rattle.nv_base.specs.Field.{field_width};
-ghost use Rattle.pkt_core.specs.Packet.{field_count, place, value, with_value, exchanged, zero_packet, IsPacket};
+ghost use Rattle.nv_base.specs.Field.{field_count, field_width};
+ghost use Rattle.pkt_core.specs.Packet.{place, value, with_value, exchanged, zero_packet, IsPacket};
 ghost use Rattle.nv_base.specs.declared.field.Field.{Field};
 
-use nv_base::Field;
+use nv_base::{FIELD_COUNT, Field};
 use std::marker::Model;
-
-// How many fields there are.
-const FIELD_COUNT: usize = 36;
 
 /// A packet: a number for each field, which fits the field's width. A clause sees the list of the numbers, in the
 /// order of the fields. Packets are ordered by their numbers, in that order.

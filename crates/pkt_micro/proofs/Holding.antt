@@ -14,7 +14,7 @@ use Rattle.nv_base.specs.declared.field.Prerequisite.{Prerequisite}
 use Rattle.nv_base.specs.declared.field.Prerequisite.TheVariants as needs
 use Rattle.nv_base.specs.declared.object.ObjId.{ObjId}
 use Rattle.nv_base.specs.inner.Exact as tells
-use Rattle.nv_base.specs.Field.{field_prerequisite, all_fields}
+use Rattle.nv_base.specs.Field.{field_count, field_prerequisite, all_fields}
 use Rattle.pkt_core.proofs.Only.{place_within, field_at}
 use Rattle.pkt_core.specs.Packet.{Values, place, value, with_value, with_values, zero_packet}
 use Rattle.pkt_core.specs.Prerequisite.{meets}
@@ -109,7 +109,7 @@ each_three : (A B C : Equality → Type 0) (es : List Equality) → Each A es �
 each_three A B C [] a b c = tt
 each_three A B C (e ∷ es) a b c = ((a.0, b.0, c.0), each_three A B C es a.1 b.1 c.1)
 
-module _ (net : Lookup) (packet : Values) (inport : List ℕ) (port : ObjId) (known : net.port inport ≡ Some port) (long : length packet ≡ 36) where
+module _ (net : Lookup) (packet : Values) (inport : List ℕ) (port : ObjId) (known : net.port inport ≡ Some port) (long : length packet ≡ field_count) where
   -- the packet where its port has its number
   abbrev at_port : Values
   at_port = with_value packet Inport port.0
@@ -215,7 +215,7 @@ long_with (p ∷ ps) packet = long_with ps (with_value packet p.0 p.1) ∙ lengt
 
 module _ (net : Lookup) (t : Formula TypedAtom) (m : Micro) (es : List Equality) (port : ObjId) (typed : IsTyped role.Micro t) (says : said t ≡ Some es) (made : microflow t ≡ Ok m)
     (known : net.port m.inport ≡ Some port) (quotes : All (λ e. is_quote e.field ≡ true → meets (with_value m.packet Inport port.0) needs.IcmpError ≡ true) es) where
-  long : length m.packet ≡ 36
+  long : length m.packet ≡ field_count
   long = ap length (sym (parts t m es says made).1) ∙ long_with (map numbered es) zero_packet
 
   named : Each (λ e. is_of Inport e ≡ true → NameIs m.inport e.value) es

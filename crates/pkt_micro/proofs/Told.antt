@@ -5,7 +5,7 @@ use Rattle.std.proofs.lemmas.Bool.{eqb-true, eqb-false, eq-eqb, or_parts, not-fa
 use Rattle.std.proofs.lemmas.List.{get_or-set_same, get_or-set_other, length-set}
 use Rattle.nv_base.specs.declared.field.Field.{Field}
 use Rattle.nv_base.specs.declared.field.Field.TheVariants.{Inport}
-use Rattle.nv_base.specs.Field.{field_number, all_fields}
+use Rattle.nv_base.specs.Field.{field_count, field_number, all_fields}
 use Rattle.nv_base.proofs.Fields.{counted}
 use Rattle.pkt_core.specs.Packet.{Values, place, value, with_value, with_values, zero_packet}
 use Rattle.pkt_core.proofs.Only.{place_within, field_at}
@@ -28,7 +28,7 @@ abbrev last_number : ℕ → Field → List Equality → ℕ
 last_number n field [] = n
 last_number n field (e ∷ es) = last_number (if is_of field e then number_of e.value else n) field es
 
-set_where : (packet : Values) (field : Field) (e : Equality) (b : Bool) → is_of field e ≡ b → length packet ≡ 36
+set_where : (packet : Values) (field : Field) (e : Equality) (b : Bool) → is_of field e ≡ b → length packet ≡ field_count
     → value (with_value packet e.field (number_of e.value)) field ≡ (if b then number_of e.value else value packet field)
 set_where packet field e true is long =
     let same : place e.field ≡ place field = ap (λ n. n - 1) (eqb-true (field_number e.field) (field_number field) is) in
@@ -39,7 +39,7 @@ set_where packet field e false is long =
     get_or-set_other packet (place e.field) (place field) (number_of e.value) 0 other
 
 -- which number a field has at the end
-at_the_end : (es : List Equality) (packet : Values) (field : Field) → length packet ≡ 36 → value (with_values packet (map numbered es)) field ≡ last_number (value packet field) field es
+at_the_end : (es : List Equality) (packet : Values) (field : Field) → length packet ≡ field_count → value (with_values packet (map numbered es)) field ≡ last_number (value packet field) field es
 at_the_end [] packet field long = refl
 at_the_end (e ∷ es) packet field long =
     at_the_end es (with_value packet e.field (number_of e.value)) field (length-set packet (place e.field) (number_of e.value) ∙ long)

@@ -98,13 +98,6 @@ goes_out = steps (step.Output ∷ [])
 abbrev pub goes_out_by : List ℕ → List Action
 goes_out_by name = steps (step.SetOutport name ∷ step.Output ∷ [])
 
--- the names of the multicast groups: each port, and each port for unknown addresses
-abbrev pub flood_group : List ℕ
-flood_group = codes "_MC_flood"
-
-abbrev pub unknown_group : List ℕ
-unknown_group = codes "_MC_unknown"
-
 -- the packet goes back by the port that it came in by
 abbrev pub turns_back : List Step
 turns_back = step.Copy Outport Whole Inport ∷ step.Set FlagsLoopback Whole (in_decimal 1) ∷ []

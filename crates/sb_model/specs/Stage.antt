@@ -106,6 +106,15 @@ first_stage kind pipeline = stage_at kind pipeline 0
 unfoldable pub next_stage : Stage → Option Stage
 next_stage stage = stage_at (stage_table stage).kind (stage_table stage).pipeline ((stage_table stage).table + 1)
 
+-- the last stage of egress of a datapath of the kind
+abbrev pub last_stage : DatapathKind → Stage
+last_stage Switch = LsOutCheckPortSec
+last_stage Router = LrOutDelivery
+
+-- the number of its table, by which packets go out that are made
+abbrev pub last_table : DatapathKind → ℕ
+last_table kind = (stage_table (last_stage kind)).table
+
 -- whether the stage is the last of its pipeline
 abbrev pub is_last : Stage → Bool
 is_last stage = not (is_some (next_stage stage))

@@ -1,6 +1,6 @@
 //! The stages of the pipelines, and the one table of what is known of each.
-ghost use Rattle.std.specs.Prelude.{◌≡◌, Some};
-ghost use Rattle.sb_model.specs.Stage.{stage_table, stage_name, table_number, pipeline_of, stage_place, all_stages, is_same_kind, is_same_pipeline, is_at, stage_at, first_stage, next_stage};
+ghost use Rattle.std.specs.Prelude.{◌≡◌, Some, IsTrue};
+ghost use Rattle.sb_model.specs.Stage.{stage_table, stage_name, table_number, pipeline_of, stage_place, all_stages, is_same_kind, is_same_pipeline, is_at, stage_at, first_stage, next_stage, is_last, last_stage, last_table};
 ghost use Rattle.sb_model.specs.inner.Beside.{is_beside, if_beside};
 ghost use Rattle.sb_model.specs.inner.Facts.{facts_of};
 
@@ -130,6 +130,28 @@ static STAGES: [Stage; 26] = [
     Stage::LrOutSnat,
     Stage::LrOutDelivery,
 ];
+
+impl DatapathKind {
+    // The last stage of egress.
+    #[tactic(auto, unfolding(crate::specs::Stage::next_stage, crate::specs::Stage::stage_at, crate::specs::Stage::all_stages))]
+    fn last_stage(self) -> Stage
+        ensures stage { result ≡ last_stage self }
+        ensures last { IsTrue (is_last result) }
+    {
+        match self {
+            DatapathKind::Switch => Stage::LsOutCheckPortSec,
+            DatapathKind::Router => Stage::LrOutDelivery,
+        }
+    }
+
+    /// The number of the last table of egress, by which packets go out that are made (not from OVN).
+    #[tactic(auto, unfolding(crate::specs::Stage::table_number))]
+    pub fn last_table(self) -> u8
+        ensures { result ≡ last_table self }
+    {
+        self.last_stage().table()
+    }
+}
 
 impl Stage {
     /// All the stages, in the order in which rows of one datapath are listed.

@@ -29,6 +29,8 @@ use Rattle.tr_stage.specs.declared.outcome.Hit.{Hit}
 use Rattle.tr_stage.specs.declared.outcome.Outcome.{Outcome}
 use Rattle.tr_stage.specs.declared.outcome.Outcome.TheVariants as outcomes
 use Rattle.tr_stage.specs.Part.{with_part}
+use Rattle.nv_base.specs.Object.{flood_number, unknown_number}
+use Rattle.nv_base.specs.Name.{flood_group, unknown_group}
 
 -- a datapath, the rows that its pipelines go by, and what the names in these mean
 pub record Flows : Type 0 where
@@ -51,8 +53,8 @@ cause_at _ = None
 -- what `outport` becomes for a name: the number of the multicast group, each port or each port for unknown addresses, or of the port
 abbrev pub number_of : Lookup → List ℕ → Option ℕ
 number_of net name =
-    if bytes_eq name (codes "_MC_flood") then Some 4294967295
-    else if bytes_eq name (codes "_MC_unknown") then Some 4294967294
+    if bytes_eq name flood_group then Some flood_number
+    else if bytes_eq name unknown_group then Some unknown_number
     else option_map (λ port. port.0) (net.port name)
 
 -- what becomes of a packet that goes out: from ingress to table 0 of egress, from egress to its port

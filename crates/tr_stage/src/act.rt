@@ -15,15 +15,9 @@ use crate::cause::cause_at;
 use crate::part::set_part;
 use act_core::{Action, Step};
 use expr_core::Env;
-use nv_base::{Field, Name};
+use nv_base::{FLOOD_GROUP, FLOOD_NUMBER, Field, Name, UNKNOWN_GROUP, UNKNOWN_NUMBER};
 use pkt_core::Packet;
 use sb_model::{Pipeline, Stage};
-
-// The number of the multicast group `_MC_flood`, which is each port of the datapath.
-const FLOOD_GROUP: u32 = 4_294_967_295;
-
-// The number of the multicast group `_MC_unknown`, which is each port for unknown addresses.
-const UNKNOWN_GROUP: u32 = 4_294_967_294;
 
 /// How a packet's step through a stage ends, but for the packet.
 #[derive(Clone, Copy)]
@@ -128,10 +122,10 @@ fn end_step(stage: Stage, step: &Step) -> Ending
 fn number_of<E: Env>(env: &E, name: &Name) -> Option<u32>
     ensures { result ≡ number_of (E.lookup env.now) name.now }
 {
-    if name.as_slice() == b"_MC_flood".as_slice() {
-        Some(FLOOD_GROUP)
-    } else if name.as_slice() == b"_MC_unknown".as_slice() {
-        Some(UNKNOWN_GROUP)
+    if name.as_slice() == FLOOD_GROUP.as_slice() {
+        Some(FLOOD_NUMBER)
+    } else if name.as_slice() == UNKNOWN_GROUP.as_slice() {
+        Some(UNKNOWN_NUMBER)
     } else {
         env.port(name).map(|port| port.0)
     }

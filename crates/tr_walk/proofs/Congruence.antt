@@ -6,8 +6,8 @@ use Rattle.nv_base.specs.declared.object.ObjId.{ObjId}
 use Rattle.nv_base.specs.declared.field.Field.TheVariants.{Inport, Outport}
 use Rattle.pkt_core.specs.Packet.{Values, IsPacket, value, with_value, headers}
 use Rattle.pkt_core.specs.Replies.{start}
-use Rattle.nb_core.specs.declared.switch.Port.{Port}
-use Rattle.nb_net.specs.Network.{Network, same}
+use Rattle.nb_records.specs.declared.switch.Port.{Port}
+use Rattle.nb_model.specs.Network.{Network, same}
 use Rattle.net_meaning.specs.declared.answer.Answer.TheVariants as answer
 use Rattle.net_meaning.specs.declared.cause.Cause.TheVariants as cause
 use Rattle.net_meaning.specs.declared.event.PlainEvent.{PlainEvent}

@@ -9,23 +9,23 @@ use Rattle.nv_base.specs.Name.{is_object_name, is_quotable}
 use Rattle.expr_core.specs.Lookup.{Lookup}
 use Rattle.act_core.specs.WellFormed.{is_well_formed}
 use Rattle.act_core.specs.declared.action.Action.{Action}
-use Rattle.nb_core.specs.declared.acl.Verdict.{Verdict}
-use Rattle.nb_core.specs.declared.acl.Verdict.TheVariants.{Allow, AllowRelated, AllowStateless, Drop, Reject}
-use Rattle.nb_core.specs.declared.acl.Way.{Way}
-use Rattle.nb_core.specs.declared.acl.Way.TheVariants.{From, To}
-use Rattle.nb_core.specs.declared.switch.Addr.{Addr}
-use Rattle.nb_core.specs.declared.switch.Addr.TheVariants as addr
-use Rattle.nb_core.specs.declared.switch.Guard.{Guard}
-use Rattle.nb_core.specs.declared.switch.Port.{Port}
-use Rattle.nb_core.specs.declared.switch.Switch.{Switch}
-use Rattle.nb_net.specs.Belongs.{is_router_kind}
-use Rattle.nb_net.specs.Names.{names}
-use Rattle.nb_net.specs.Network.{Network}
+use Rattle.nb_records.specs.declared.acl.Verdict.{Verdict}
+use Rattle.nb_records.specs.declared.acl.Verdict.TheVariants.{Allow, AllowRelated, AllowStateless, Drop, Reject}
+use Rattle.nb_records.specs.declared.acl.Way.{Way}
+use Rattle.nb_records.specs.declared.acl.Way.TheVariants.{From, To}
+use Rattle.nb_records.specs.declared.switch.Addr.{Addr}
+use Rattle.nb_records.specs.declared.switch.Addr.TheVariants as addr
+use Rattle.nb_records.specs.declared.switch.Guard.{Guard}
+use Rattle.nb_records.specs.declared.switch.Port.{Port}
+use Rattle.nb_records.specs.declared.switch.Switch.{Switch}
+use Rattle.nb_model.specs.Belongs.{is_router_kind}
+use Rattle.nb_model.specs.Names.{names}
+use Rattle.nb_model.specs.Network.{Network}
 use Rattle.nb_read.specs.Lists.{is_ip}
-use Rattle.nb_net.specs.Addresses.{macs}
-use Rattle.nb_net.specs.Readable.{are_addresses, are_apart, are_guards, ips_of, is_ip4, is_mac, macs_of, may_name, same_number}
-use Rattle.nb_net.specs.Sound.{IsSound}
-use Rattle.nb_net.proofs.Readable.{of_port}
+use Rattle.nb_model.specs.Addresses.{macs}
+use Rattle.nb_model.specs.Readable.{are_addresses, are_apart, are_guards, ips_of, is_ip4, is_mac, macs_of, may_name, same_number}
+use Rattle.nb_model.specs.Sound.{IsSound}
+use Rattle.nb_model.proofs.Readable.{of_port}
 use Rattle.net_meaning.specs.Applies.{applies, balances, is_empty}
 use Rattle.net_meaning.specs.Stateless.{IsStateless}
 use Rattle.net_rows.specs.Acls.{ending, stage_of, switch_acl_rules}

@@ -12,21 +12,21 @@ use Rattle.expr_core.specs.Lookup.{Lookup}
 use Rattle.expr_eval.specs.MatchMeaning.{holds}
 use Rattle.act_core.specs.declared.action.Action.{Action}
 use Rattle.act_core.specs.declared.step.Step.TheVariants as step
-use Rattle.nb_core.specs.declared.acl.Verdict.{Verdict}
-use Rattle.nb_core.specs.declared.acl.Verdict.TheVariants.{Allow, AllowRelated, AllowStateless, Drop, Reject}
-use Rattle.nb_core.specs.declared.acl.Way.{Way}
-use Rattle.nb_core.specs.declared.switch.Addr.{Addr}
-use Rattle.nb_core.specs.declared.switch.Addr.TheVariants as addr
-use Rattle.nb_core.specs.declared.switch.Guard.{Guard}
-use Rattle.nb_core.specs.declared.switch.Port.{Port}
-use Rattle.nb_core.specs.declared.switch.Switch.{Switch}
-use Rattle.nb_net.specs.Belongs.{is_router_kind}
-use Rattle.nb_net.specs.Names.{names}
-use Rattle.nb_net.specs.Network.{Network}
-use Rattle.nb_net.specs.Sound.{IsSound}
+use Rattle.nb_records.specs.declared.acl.Verdict.{Verdict}
+use Rattle.nb_records.specs.declared.acl.Verdict.TheVariants.{Allow, AllowRelated, AllowStateless, Drop, Reject}
+use Rattle.nb_records.specs.declared.acl.Way.{Way}
+use Rattle.nb_records.specs.declared.switch.Addr.{Addr}
+use Rattle.nb_records.specs.declared.switch.Addr.TheVariants as addr
+use Rattle.nb_records.specs.declared.switch.Guard.{Guard}
+use Rattle.nb_records.specs.declared.switch.Port.{Port}
+use Rattle.nb_records.specs.declared.switch.Switch.{Switch}
+use Rattle.nb_model.specs.Belongs.{is_router_kind}
+use Rattle.nb_model.specs.Names.{names}
+use Rattle.nb_model.specs.Network.{Network}
+use Rattle.nb_model.specs.Sound.{IsSound}
 use Rattle.net_meaning.specs.Applies.{applies, balances, is_empty}
 use Rattle.net_meaning.specs.Stateless.{IsStateless}
-use Rattle.net_rows.specs.Acls.{ending, last_table, stage_of, switch_acl_rules}
+use Rattle.net_rows.specs.Acls.{ending, stage_of, switch_acl_rules}
 use Rattle.net_rows.specs.Build.{acl_on_input, has_unknown, port_l2_input, port_rules, port_sec_input, switch_rules}
 use Rattle.net_rows.specs.Lookup.{answers, arp_rules, arp_rules_of, lookup_rule, looked_up, port_l2_rules, requests, switch_l2_rules}
 use Rattle.net_rows.specs.PortSecurity.{closed_rules, disabled_rules, guard_rules, guarded_rules, open_rules, port_sec_rules}
@@ -46,6 +46,8 @@ use Rattle.ls_laws.proofs.Packets.{other_value}
 use Rattle.ls_laws.proofs.RuleStages.{acl_rule-gives, switch_rules-untracked, untracked_rule, untracked_rules}
 use Rattle.tr_walk.specs.Reads.{FindsWhatItReads, FindWhatTheyRead, actions_find, answer_finds, once_changed}
 use Rattle.tr_walk.proofs.Ends.{every_image, every_piece}
+use Rattle.sb_model.specs.Stage.{last_table}
+use Rattle.sb_model.specs.declared.stage.DatapathKind.TheVariants.{Switch}
 
 -- a packet is ARP where it was before another field changed
 still_arp : (before packet : Values) → value packet EthType ≡ value before EthType → is_there before ArpOp ≡ true → is_there packet ArpSha ≡ true
@@ -72,7 +74,7 @@ module _ (known : Lookup) where
   -- ---- those of ACLs
 
   -- what answers a rejected packet came in by a port, as each packet did
-  rejected : (stage : Stage) (answer : Option Values) → answer_finds known stage (turns_back ++ step.Jump true last_table ∷ []) answer ≡ true
+  rejected : (stage : Stage) (answer : Option Values) → answer_finds known stage (turns_back ++ step.Jump true (last_table Switch) ∷ []) answer ≡ true
   rejected stage None = refl
   rejected stage (Some packet) = refl
 

@@ -12,18 +12,18 @@ use Rattle.pkt_core.specs.Packet.{Values, IsPacket, value, with_value, headers}
 use Rattle.pkt_core.specs.Prerequisite.{meets}
 use Rattle.pkt_core.specs.Replies.{is_answerable, reset, icmp_error, arp_reply}
 use Rattle.pkt_core.specs.declared.replies.IcmpReason.TheVariants.{PortUnreachable}
-use Rattle.nb_core.specs.declared.acl.Way.TheVariants.{From, To}
-use Rattle.nb_core.specs.declared.switch.Addr.{Addr}
-use Rattle.nb_core.specs.declared.switch.Addr.TheVariants as addr
-use Rattle.nb_core.specs.declared.switch.Port.{Port}
-use Rattle.nb_core.specs.declared.switch.PortKind.{PortKind}
-use Rattle.nb_core.specs.declared.switch.PortKind.TheVariants as kind
-use Rattle.nb_net.specs.Belongs.{is_router_kind, is_to_router}
-use Rattle.nb_net.specs.Network.{Network, same}
-use Rattle.nb_net.specs.Readable.{is_mac, macs_of}
-use Rattle.nb_net.specs.Sound.{IsSound}
-use Rattle.nb_net.proofs.Lists.{same_self}
-use Rattle.nb_net.proofs.Numbered.{are_used}
+use Rattle.nb_records.specs.declared.acl.Way.TheVariants.{From, To}
+use Rattle.nb_records.specs.declared.switch.Addr.{Addr}
+use Rattle.nb_records.specs.declared.switch.Addr.TheVariants as addr
+use Rattle.nb_records.specs.declared.switch.Port.{Port}
+use Rattle.nb_records.specs.declared.switch.PortKind.{PortKind}
+use Rattle.nb_records.specs.declared.switch.PortKind.TheVariants as kind
+use Rattle.nb_model.specs.Belongs.{is_router_kind, is_to_router}
+use Rattle.nb_model.specs.Network.{Network, same}
+use Rattle.nb_model.specs.Readable.{is_mac, macs_of}
+use Rattle.nb_model.specs.Sound.{IsSound}
+use Rattle.nb_model.proofs.Lists.{same_self}
+use Rattle.nb_model.proofs.Numbered.{are_used}
 use Rattle.net_meaning.specs.AclVerdict.{Decision, decision}
 use Rattle.net_meaning.specs.AclVerdict.Decision.{Allowed, Dropped, Rejected}
 use Rattle.net_meaning.specs.Address.{is_multicast}
@@ -42,6 +42,7 @@ use Rattle.net_rows.proofs.Sound.{each_passes, port_of_sound, ports_rise, PortsR
 use Rattle.tr_walk.proofs.Congruence.{IsPort, IsInside, IsKept, ArePackets}
 use Rattle.tr_walk.proofs.Formed.{Fit, Others, fits_values, other_values, started, started_inport, replied, replied_inport, reset_is, reset_inport, error_is, error_inport}
 use Rattle.ls_laws.proofs.Packets.{set_value, other_value, fits_with, fits_only}
+use Rattle.nv_base.specs.Object.{number_limit}
 
 -- ---- what a packet carries
 
@@ -216,16 +217,16 @@ module _ (net : Network) where
 -- ---- packets at ports
 
 -- numbers of ports are below those of multicast groups
-pub number_below : (net : Network) → IsSound net → (port : Port) → Contains net.ports port → port.id.0 < 4294967294
+pub number_below : (net : Network) → IsSound net → (port : Port) → Contains net.ports port → port.id.0 < number_limit
 number_below net sound port there = below net.ports (are_used net sound.numbered.below).ports there
   where
-    below : (ports : List Port) → IsTrue (list_all (λ n. nat_lt 0 n.0 && nat_lt n.0 net.next) (map (λ (p : Port). p.id) ports)) → Contains ports port → port.id.0 < 4294967294
+    below : (ports : List Port) → IsTrue (list_all (λ n. nat_lt 0 n.0 && nat_lt n.0 net.next) (map (λ (p : Port). p.id) ports)) → Contains ports port → port.id.0 < number_limit
     below [] all there' = absurd (one_of_none port there')
     below (p ∷ ports) all there' =
         let parts = and_parts (nat_lt 0 p.id.0 && nat_lt p.id.0 net.next) (list_all (λ n. nat_lt 0 n.0 && nat_lt n.0 net.next) (map (λ (q : Port). q.id) ports)) all in
         by (one_of p ports port there') (ltb-true p.id.0 net.next (and_parts (nat_lt 0 p.id.0) (nat_lt p.id.0 net.next) parts.0).1) (below ports parts.1)
       where
-        by : (p ≡ port) ⊎ Contains ports port → p.id.0 < net.next → (Contains ports port → port.id.0 < 4294967294) → port.id.0 < 4294967294
+        by : (p ≡ port) ⊎ Contains ports port → p.id.0 < net.next → (Contains ports port → port.id.0 < number_limit) → port.id.0 < number_limit
         by (inl one) used rest = let used_port = subst (λ (q : Port). q.id.0 < net.next) one used in omega (arith, used_port, sound.numbered.room)
         by (inr later) used rest = rest later
 

@@ -10,13 +10,13 @@ use Rattle.pkt_core.specs.Packet.{Values, IsPacket, value, with_value}
 use Rattle.pkt_core.specs.Prerequisite.{meets}
 use Rattle.pkt_core.specs.Replies.{is_answerable, reset, icmp_error, arp_reply}
 use Rattle.pkt_core.specs.declared.replies.IcmpReason.TheVariants.{PortUnreachable}
-use Rattle.nb_core.specs.declared.acl.Way.TheVariants.{From, To}
-use Rattle.nb_core.specs.declared.switch.Port.{Port}
-use Rattle.nb_core.specs.declared.switch.Switch.{Switch}
-use Rattle.nb_net.specs.Belongs.{is_among}
-use Rattle.nb_net.specs.Network.{Network, same}
-use Rattle.nb_net.specs.Sound.{IsSound, switch_ids}
-use Rattle.nb_net.proofs.Lists.{same_is, same_self}
+use Rattle.nb_records.specs.declared.acl.Way.TheVariants.{From, To}
+use Rattle.nb_records.specs.declared.switch.Port.{Port}
+use Rattle.nb_records.specs.declared.switch.Switch.{Switch}
+use Rattle.nb_model.specs.Belongs.{is_among}
+use Rattle.nb_model.specs.Network.{Network, same}
+use Rattle.nb_model.specs.Sound.{IsSound, switch_ids}
+use Rattle.nb_model.proofs.Lists.{same_is, same_self}
 use Rattle.sb_model.specs.declared.stage.DatapathKind.TheVariants as kinds
 use Rattle.sb_model.specs.declared.stage.Pipeline.TheVariants.{Ingress, Egress}
 use Rattle.sb_model.specs.declared.stage.Stage.{Stage}
@@ -42,13 +42,15 @@ use Rattle.tr_stage.specs.declared.outcome.Outcome.TheVariants.{Leave, Deliver, 
 use Rattle.tr_stage.specs.Machine.{Flows, PipelineRun, StageEnd, go_on, kind_of, run_from, run_pipeline, step}
 use Rattle.tr_stage.specs.Machine.StageEnd.{On, Ends}
 use Rattle.tr_stage.proofs.Steps.{pipeline_begins}
-use Rattle.ls_laws.specs.Steps.{flows_at, flood_number, unknown_number, last_table, sent_back, decided, answered_for, found_at, sent_unknown, leaves_by, IsOn, IsPortOf, Does, Passes, ChecksIn, ChecksOut, DecidesIn, DecidesOut, Answers, LooksUp, FindsNone}
+use Rattle.ls_laws.specs.Steps.{flows_at, sent_back, decided, answered_for, found_at, sent_unknown, leaves_by, IsOn, IsPortOf, Does, Passes, ChecksIn, ChecksOut, DecidesIn, DecidesOut, Answers, LooksUp, FindsNone}
 use Rattle.ls_laws.proofs.Packets.{set_value}
 use Rattle.tr_walk.specs.Machine.{State, numbered, target_of, after_ingress, after_egress, ingress, egress}
 use Rattle.tr_walk.specs.Refined.{IsIngress, IsEgress, IsLate}
 use Rattle.tr_walk.proofs.Carried.{carried_outport, carried_back, back_outport}
 use Rattle.tr_walk.proofs.Formed.{replied, replied_inport, reset_is, reset_inport, error_is, error_inport}
 use Rattle.tr_walk.proofs.Kept.{at_its_number, find_gives, mac_fits, number_below}
+use Rattle.sb_model.specs.Stage.{last_table}
+use Rattle.nv_base.specs.Object.{flood_number, unknown_number}
 
 -- what the stages do
 pub record Laws : Type 0 where
@@ -215,7 +217,7 @@ module _ (laws : Laws) (net : Network) (sound : IsSound net) (stateless : IsStat
     acl_in : sees (run_from flows 125 LsInAclEval packet).outcome ≡ Some (carrying (means.decided (decision net dp From packet) packet (asked net port packet)))
     acl_in = ap sees (taken flows 124 LsInAclEval packet _ (here LsInAclEval (λ d. decided (decision net d From packet) LsInLb packet) (laws.decides_in net of.0 packet on))) ∙ by (decision net dp From packet)
       where
-        answer : (may : Bool) → sees (go_on (run_from flows 124) (cond may (Ends (Some (Made (sent_back (rejection packet)) last_table Reject))) (Ends (Some (Drop Acl))))).outcome
+        answer : (may : Bool) → sees (go_on (run_from flows 124) (cond may (Ends (Some (Made (sent_back (rejection packet)) (last_table Switch) Reject))) (Ends (Some (Drop Acl))))).outcome
             ≡ Some (carrying (cond may (Makes Reject (numbered (value packet Inport)) (turned_back (rejection packet))) (Drops Acl)))
         answer true = rw (back_outport (rejection packet) rejection_is ∙ rejection_inport, carried_back (rejection packet) rejection_is) refl
         answer false = refl
@@ -255,9 +257,9 @@ module _ (laws : Laws) (net : Network) (sound : IsSound net) (stateless : IsStat
     unfolding stage_at all_stages
     begins_out = ap (λ (w : PipelineRun). w.outcome) (pipeline_begins flows Egress 0 packet LsOutPreAcl (ap (λ kind. stage_at kind Egress 0) of_switch))
 
-    begins_late : (run_pipeline flows Egress last_table packet).outcome ≡ (run_from flows 128 LsOutCheckPortSec packet).outcome
+    begins_late : (run_pipeline flows Egress (last_table Switch) packet).outcome ≡ (run_from flows 128 LsOutCheckPortSec packet).outcome
     unfolding stage_at all_stages
-    begins_late = ap (λ (w : PipelineRun). w.outcome) (pipeline_begins flows Egress last_table packet LsOutCheckPortSec (ap (λ kind. stage_at kind Egress last_table) of_switch))
+    begins_late = ap (λ (w : PipelineRun). w.outcome) (pipeline_begins flows Egress (last_table Switch) packet LsOutCheckPortSec (ap (λ kind. stage_at kind Egress (last_table Switch)) of_switch))
 
     -- the last step
     checked_out : (budget : ℕ) → sees_out (run_from flows (suc budget) LsOutCheckPortSec packet).outcome ≡ Some (carrying (let_out port packet))
@@ -280,7 +282,7 @@ module _ (laws : Laws) (net : Network) (sound : IsSound net) (stateless : IsStat
         rejection_inport' true = reset_inport packet
         rejection_inport' false = error_inport packet
 
-        answer : (may : Bool) → sees_out (go_on (run_from flows 125) (cond may (Ends (Some (Made (sent_back (rejection packet)) last_table Reject))) (Ends (Some (Drop Acl))))).outcome
+        answer : (may : Bool) → sees_out (go_on (run_from flows 125) (cond may (Ends (Some (Made (sent_back (rejection packet)) (last_table Switch) Reject))) (Ends (Some (Drop Acl))))).outcome
             ≡ Some (carrying (cond may (Makes Reject (numbered (value packet Inport)) (turned_back (rejection packet))) (Drops Acl)))
         answer true = rw (back_outport (rejection packet) (rejection_is' (meets packet Tcp)) ∙ rejection_inport' (meets packet Tcp), carried_back (rejection packet) (rejection_is' (meets packet Tcp))) refl
         answer false = refl
@@ -299,7 +301,7 @@ module _ (laws : Laws) (net : Network) (sound : IsSound net) (stateless : IsStat
     pub egress_is : option_map carrying (egress {S = State} net 0 port.id packet tt).passed ≡ Some (carrying (leaving_by net port packet))
     egress_is = rw at_dp egress_at
 
-    pub late_is : option_map carrying (egress {S = State} net last_table port.id packet tt).passed ≡ Some (carrying (let_out port packet))
+    pub late_is : option_map carrying (egress {S = State} net (last_table Switch) port.id packet tt).passed ≡ Some (carrying (let_out port packet))
     late_is = rw at_dp (ap sees_out begins_late ∙ checked_out 127)
 
 module _ (laws : Laws) (net : Network) (sound : IsSound net) (stateless : IsStateless net) where

@@ -3,13 +3,13 @@ use Rattle.std.proofs.Common.{◌≡◌, Bool, true, false, cond, ◌&&◌, List
 use Rattle.std.specs.Prelude.{Option, Some, None, option_map, unwrap_or, filter}
 use Rattle.std.specs.List.{flat_map}
 use Rattle.nv_base.specs.declared.object.ObjId.{ObjId}
-use Rattle.nb_core.specs.declared.router.RouterPort.{RouterPort}
-use Rattle.nb_core.specs.declared.switch.Port.{Port}
-use Rattle.nb_net.specs.Belongs.{peer_port}
-use Rattle.nb_net.specs.Network.{Network, same}
-use Rattle.nb_table.specs.Table.{has_number, record_of}
-use Rattle.nb_tables.specs.Places.{on_datapath, peer_by, peer_of_router_port}
-use Rattle.nb_tables.proofs.Found.{same_found, turned}
+use Rattle.nb_records.specs.declared.router.RouterPort.{RouterPort}
+use Rattle.nb_records.specs.declared.switch.Port.{Port}
+use Rattle.nb_model.specs.Belongs.{peer_port}
+use Rattle.nb_model.specs.Network.{Network, same}
+use Rattle.nv_table.specs.Table.{has_number, record_of}
+use Rattle.nb_store.specs.Places.{on_datapath, peer_by, peer_of_router_port}
+use Rattle.nb_store.proofs.Found.{same_found, turned}
 use Rattle.net_meaning.specs.Places.{datapath_at, peer_side, router_port, side_of, side_of_router_port, switch_port}
 use Rattle.net_meaning.specs.Switches.{takes_unknown}
 use Rattle.tr_walk.specs.declared.ports.Group.{Group}

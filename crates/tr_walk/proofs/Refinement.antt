@@ -5,14 +5,13 @@ use Rattle.std.specs.List.{Contains}
 use Rattle.nv_base.specs.declared.object.ObjId.{ObjId}
 use Rattle.nv_base.specs.declared.field.Field.TheVariants.{Inport, Outport}
 use Rattle.pkt_core.specs.Packet.{Values, value}
-use Rattle.nb_core.specs.declared.switch.Port.{Port}
-use Rattle.nb_net.specs.Network.{Network}
-use Rattle.nb_net.specs.Sound.{IsSound}
+use Rattle.nb_records.specs.declared.switch.Port.{Port}
+use Rattle.nb_model.specs.Network.{Network}
+use Rattle.nb_model.specs.Sound.{IsSound}
 use Rattle.net_meaning.specs.Places.{switch_port}
 use Rattle.net_meaning.specs.Stateless.{IsStateless}
 use Rattle.net_meaning.specs.Switches.{arriving_at, leaving_by, let_out, at_port, direct_parts}
 use Rattle.net_meaning.specs.Walk.{Passed, carrying}
-use Rattle.ls_laws.specs.Steps.{last_table}
 use Rattle.tr_stage.specs.declared.outcome.Hit.{Hit}
 use Rattle.tr_walk.specs.Machine.{ingress, egress, pipelines}
 use Rattle.tr_walk.specs.Refined.{IsIngress, IsEgress, IsLate, IsRefined}
@@ -20,6 +19,8 @@ use Rattle.tr_walk.proofs.Congruence.{IsPort, IsKept, SamePart, SameParts, walks
 use Rattle.tr_walk.proofs.Pipelines as pipes
 use Rattle.tr_walk.proofs.StageLaws.{stage_laws}
 use Rattle.tr_walk.proofs.Kept.{arriving_kept, leaving_kept, let_out_kept, at_its_number, are_packets}
+use Rattle.sb_model.specs.Stage.{last_table}
+use Rattle.sb_model.specs.declared.stage.DatapathKind.TheVariants.{Switch}
 
 module _ (net : Network) (sound : IsSound net) (stateless : IsStateless net) where
   -- the port of a number, where the packet came in by it
@@ -50,7 +51,7 @@ module _ (net : Network) (sound : IsSound net) (stateless : IsStateless net) whe
               kept = subst (IsKept net) (sym (at_port_is (leaving_by net) is.port packet is.among)) (leaving_kept net sound packet inside.formed inside.by is.port is.among);
             });
         late = λ port packet state is inside.
-            subst (λ (number : ObjId). value packet Outport ≡ number.0 → SamePart net (egress net last_table number packet state) (at_port {N = Unit {0}} net let_out number packet state)) is.is
+            subst (λ (number : ObjId). value packet Outport ≡ number.0 → SamePart net (egress net (last_table Switch) number packet state) (at_port {N = Unit {0}} net let_out number packet state)) is.is
             (λ to. record {
               passed = of_late is.port packet is.among inside.formed to ∙ sym (at_port_is let_out is.port packet is.among);
               state = refl;

@@ -7,10 +7,10 @@ use borrow.Author.Tests.{eqb-true}
 use Rattle.nv_base.specs.declared.object.ObjId.{ObjId}
 use Rattle.pkt_core.specs.Packet.{Values}
 use Rattle.expr_eval.specs.MatchMeaning.{holds}
-use Rattle.nb_core.specs.declared.switch.Switch.{Switch}
-use Rattle.nb_net.specs.Names.{names}
-use Rattle.nb_net.specs.Network.{Network, same}
-use Rattle.nb_net.specs.Sound.{IsSound}
+use Rattle.nb_records.specs.declared.switch.Switch.{Switch}
+use Rattle.nb_model.specs.Names.{names}
+use Rattle.nb_model.specs.Network.{Network, same}
+use Rattle.nb_model.specs.Sound.{IsSound}
 use Rattle.net_meaning.specs.Applies.{applies}
 use Rattle.net_rows.specs.Build as build
 use Rattle.net_rows.proofs.Elements.{one_first, one_later, Contains-from_filter}

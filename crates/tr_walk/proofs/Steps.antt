@@ -6,7 +6,7 @@ use Rattle.nv_base.specs.declared.object.ObjId.{ObjId}
 use Rattle.nv_base.specs.declared.field.Field.TheVariants.{Outport}
 use Rattle.pkt_core.specs.Packet.{Values, value, with_value}
 use Rattle.pkt_core.specs.Replies.{start}
-use Rattle.nb_net.specs.Network.{Network, same}
+use Rattle.nb_model.specs.Network.{Network, same}
 use Rattle.sb_model.specs.Stage.{all_stages, stage_at}
 use Rattle.sb_model.specs.declared.stage.DatapathKind.TheVariants as kinds
 use Rattle.sb_model.specs.declared.stage.Pipeline.TheVariants.{Ingress, Egress}
@@ -20,12 +20,13 @@ use Rattle.net_meaning.specs.declared.answer.Answer.TheVariants.{Reject, Arp}
 use Rattle.tr_stage.specs.Machine.{run_pipeline}
 use Rattle.tr_stage.specs.declared.outcome.Hit.{Hit}
 use Rattle.tr_stage.specs.declared.outcome.Outcome.{Outcome}
-use Rattle.ls_laws.specs.Steps.{flows_at, last_table}
+use Rattle.ls_laws.specs.Steps.{flows_at}
 use Rattle.tr_walk.specs.declared.event.Event.{Event}
 use Rattle.tr_walk.specs.declared.event.Event.TheVariants as events
 use Rattle.tr_walk.specs.Events.{event_of}
 use Rattle.tr_walk.specs.Machine.{State, numbered, after_ingress, after_egress, egress, part_of, pipelines}
 use Rattle.tr_walk.specs.inner.Telling.{told, onward, table_for, entering, arriving, sending, leaving, going_out, delivering, answering}
+use Rattle.sb_model.specs.Stage.{last_table}
 
 -- ---- events
 
@@ -124,8 +125,8 @@ module _ (net : Network) (arrival : ObjId) (packet : Values) (old mid : List Eve
       → mid ++ leaving net (hops - 1) arrival (numbered (value packet Outport)) (table_for answer) (carried packet) ≡ old ++ answering net hops arrival answer packet
   made_leaves zero answer some first = absurd (some refl)
   made_leaves (suc hops) Reject some first =
-      ap (λ (n : ℕ). mid ++ leaving net n arrival (numbered (value packet Outport)) last_table (carried packet)) (one_less hops)
-      ∙ ap (λ front. front ++ leaving net hops arrival (numbered (value packet Outport)) last_table (carried packet)) first ∙ append_assoc old (events.Reject arrival ∷ []) _
+      ap (λ (n : ℕ). mid ++ leaving net n arrival (numbered (value packet Outport)) (last_table Switch) (carried packet)) (one_less hops)
+      ∙ ap (λ front. front ++ leaving net hops arrival (numbered (value packet Outport)) (last_table Switch) (carried packet)) first ∙ append_assoc old (events.Reject arrival ∷ []) _
   made_leaves (suc hops) Arp some first =
       ap (λ (n : ℕ). mid ++ leaving net n arrival (numbered (value packet Outport)) 0 (carried packet)) (one_less hops)
       ∙ ap (λ front. front ++ leaving net hops arrival (numbered (value packet Outport)) 0 (carried packet)) first ∙ append_assoc old [] _

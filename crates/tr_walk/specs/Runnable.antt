@@ -1,7 +1,7 @@
 -- Networks by whose rows each packet comes to an end.
 use Rattle.std.specs.Prelude.{Contains}
-use Rattle.nb_core.specs.declared.switch.Switch.{Switch}
-use Rattle.nb_net.specs.Network.{Network}
+use Rattle.nb_records.specs.declared.switch.Switch.{Switch}
+use Rattle.nb_model.specs.Network.{Network}
 use Rattle.tr_stage.specs.Runnable.{IsRunnable}
 use Rattle.ls_laws.specs.Steps.{flows_at}
 

@@ -1,6 +1,6 @@
 ghost use Rattle.std.specs.Prelude.{◌≡◌, List, map};
-ghost use Rattle.nb_net.specs.Network.{Network};
-ghost use Rattle.nb_net.specs.Sound.{IsSound};
+ghost use Rattle.nb_model.specs.Network.{Network};
+ghost use Rattle.nb_model.specs.Sound.{IsSound};
 ghost use Rattle.net_meaning.specs.Stateless.{IsStateless};
 ghost use Rattle.net_meaning.specs.Walk.{Told, events};
 ghost use Rattle.tr_stage.specs.declared.outcome.Hit.{Hit};

@@ -3,8 +3,8 @@ ghost use Rattle.std.specs.Prelude.{◌≡◌};
 ghost use Rattle.net_meaning.specs.Places.{datapath_at, peer_side, side_of};
 ghost use Rattle.tr_walk.specs.inner.Sides.{side};
 
-use nb_core::PortKind;
-use nb_tables::Records;
+use nb_records::PortKind;
+use nb_store::Records;
 use nv_base::ObjId;
 
 /// What is at the other side of a port.

@@ -1,21 +1,15 @@
 //! The multicast groups of a switch.
 ghost use Rattle.std.specs.Prelude.{◌≡◌, ◌++◌, IfOk, OnOk};
-ghost use Rattle.nb_net.specs.Network.{Network};
-ghost use Rattle.nb_net.specs.Sound.{IsSound};
+ghost use Rattle.nb_model.specs.Network.{Network};
+ghost use Rattle.nb_model.specs.Sound.{IsSound};
 ghost use Rattle.net_meaning.specs.Switches.{takes_unknown};
 ghost use Rattle.tr_walk.specs.Machine.{target_of};
 ghost use Rattle.tr_walk.specs.inner.Sides.{is_member, numbers_in, ports_of, target};
 
-use nb_core::{Addr, Port};
-use nb_tables::Records;
-use nv_base::{ObjId, OutOfMemory};
+use nb_records::{Addr, Port};
+use nb_store::Records;
+use nv_base::{FLOOD_NUMBER, ObjId, OutOfMemory, UNKNOWN_NUMBER};
 use std::alloc::Global;
-
-// What `outport` is for all ports of a switch.
-const FLOOD_GROUP: u32 = 4_294_967_295;
-
-// What it is for those that take packets for unknown addresses.
-const UNKNOWN_GROUP: u32 = 4_294_967_294;
 
 /// A multicast group of a switch.
 #[derive(Clone, Copy)]
@@ -31,8 +25,8 @@ pub(crate) fn group_of(number: ObjId) -> Option<Group>
     ensures { (net : Network) (switch : ObjId) → target_of net switch number.0 ≡ target net switch number result }
 {
     match number.0 {
-        FLOOD_GROUP => Some(Group::Flood),
-        UNKNOWN_GROUP => Some(Group::Unknown),
+        FLOOD_NUMBER => Some(Group::Flood),
+        UNKNOWN_NUMBER => Some(Group::Unknown),
         _ => None,
     }
 }

@@ -11,7 +11,7 @@ ghost use Rattle.tr_walk.specs.inner.Telling.{AreRowsOf};
 use crate::Event;
 use crate::places::datapath_at;
 use expr_core::Env;
-use nb_tables::Records;
+use nb_store::Records;
 use nv_base::{ObjId, OutOfMemory};
 use pkt_core::Packet;
 use sb_model::Pipeline;

@@ -5,8 +5,8 @@ ghost use Rattle.pkt_core.specs.Packet.{value};
 ghost use Rattle.sb_model.specs.Stage.{stage_at};
 ghost use Rattle.sb_model.specs.declared.stage.DatapathKind.TheVariants as kinds;
 ghost use Rattle.sb_model.specs.declared.stage.Pipeline.TheVariants as pipelines;
-ghost use Rattle.nb_net.specs.Network.{same};
-ghost use Rattle.nb_net.specs.Sound.{IsSound};
+ghost use Rattle.nb_model.specs.Network.{same};
+ghost use Rattle.nb_model.specs.Sound.{IsSound};
 ghost use Rattle.net_meaning.specs.Places.{datapath_at};
 ghost use Rattle.net_meaning.specs.Stateless.{IsStateless};
 ghost use Rattle.net_meaning.specs.Walk.{carried, told_of};
@@ -22,17 +22,14 @@ use crate::Event;
 use crate::places::{Side, datapath_at, side_of};
 use crate::ports::{group_of, ports_of};
 use crate::run::{Flows, run};
-use nb_tables::Records;
+use nb_store::Records;
 use net_meaning::{Answer, Cause};
 use nv_base::{Field, ObjId, OutOfMemory};
 use pkt_core::Packet;
-use sb_model::Pipeline;
+use sb_model::{DatapathKind, Pipeline};
 use sb_rows::Rows;
 use std::alloc::Global;
 use tr_stage::Outcome;
-
-// The last table of egress.
-const LAST_TABLE: u8 = 4;
 
 // For so many events there is room from the start: as many as most walks have.
 const FEW: usize = 32;
@@ -103,7 +100,7 @@ fn arrive(
             send(flows, hops, arrival, packet, events)
         }
         Some(Outcome::Made(packet, table, answer)) => {
-            if *table != LAST_TABLE {
+            if *table != DatapathKind::Switch.last_table() {
                 return Ok(());
             }
             reply(flows, hops, arrival, *answer, packet, events)
@@ -208,7 +205,7 @@ fn go_out(
     match outcome {
         Some(Outcome::Deliver(packet)) => deliver(flows, hops, port, &carried(packet), events),
         Some(Outcome::Made(packet, table, answer)) => {
-            if *table != LAST_TABLE {
+            if *table != DatapathKind::Switch.last_table() {
                 return Ok(());
             }
             reply(flows, hops, arrival, *answer, packet, events)
@@ -301,7 +298,7 @@ fn table_for(answer: Answer) -> u8
     ensures there { IsSome (stage_at kinds.Switch pipelines.Egress result) }
 {
     match answer {
-        Answer::Reject => LAST_TABLE,
+        Answer::Reject => DatapathKind::Switch.last_table(),
         Answer::Arp => 0,
     }
 }

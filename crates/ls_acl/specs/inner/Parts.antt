@@ -6,7 +6,7 @@ use Rattle.expr_core.specs.declared.predicate.Pred.TheVariants.{EthMcast, Ip4, C
 use Rattle.act_core.specs.declared.action.Action.{Action}
 use Rattle.act_core.specs.declared.action.Action.TheVariants as action
 use Rattle.act_core.specs.declared.step.Step.TheVariants as step
-use Rattle.nb_core.specs.declared.acl.Verdict.{Verdict}
+use Rattle.nb_records.specs.declared.acl.Verdict.{Verdict}
 use Rattle.sb_model.specs.Make.{takes_each, is_predicate, bit_is_set, all_of, steps, goes_on, drops}
 use Rattle.sb_model.specs.declared.stage.Stage.{Stage}
 use Rattle.sb_model.specs.declared.stage.Stage.TheVariants.{LsInPreAcl, LsInPreStateful, LsInAclEval, LsInStateful, LsOutPreAcl, LsOutPreStateful, LsOutAclEval, LsOutStateful}

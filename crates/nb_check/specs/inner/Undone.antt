@@ -1,8 +1,8 @@
 -- Edits undone.
 use Rattle.std.specs.Prelude.{List, [], ◌∷◌}
-use Rattle.nb_net.specs.Network.{Network}
-use Rattle.nb_tables.specs.Undo.{back}
-use Rattle.nb_tables.specs.declared.undo.Undo.{Undo}
+use Rattle.nb_model.specs.Network.{Network}
+use Rattle.nb_store.specs.Undo.{back}
+use Rattle.nb_store.specs.declared.undo.Undo.{Undo}
 
 -- edits undone, the last one first
 abbrev pub back_all : List Undo → Network → Network

@@ -2,8 +2,8 @@
 use Rattle.std.specs.Prelude.{◌≡◌, ℕ, ◌<◌, List, [], None, map}
 use Rattle.std.specs.List.{flat_map, range_with_len}
 use Rattle.nv_base.specs.declared.object.ObjId.{ObjId}
-use Rattle.nb_core.specs.declared.edit.Edit.{Edit}
-use Rattle.nb_net.specs.Network.{Network}
+use Rattle.nb_records.specs.declared.edit.Edit.{Edit}
+use Rattle.nb_model.specs.Network.{Network}
 use Rattle.nb_dump.specs.Edits.{object_edits, edits_for, members_edits, switch_lb_edits, router_lb_edits, switch_of, port_of, router_of, router_port_of, route_of, nat_of, lb_of, acl_of, set_of, group_of, binding_of}
 use Rattle.nb_dump.specs.declared.parts.Part.{Part}
 use Rattle.nb_dump.specs.declared.parts.Part.TheVariants as part

@@ -1,7 +1,7 @@
 -- Which ports are neighbours.
 use Rattle.std.specs.Prelude.{Bool, ◌&&◌, not}
-use Rattle.nb_core.specs.declared.switch.Port.{Port}
-use Rattle.nb_net.specs.Network.{same}
+use Rattle.nb_records.specs.declared.switch.Port.{Port}
+use Rattle.nb_model.specs.Network.{same}
 
 -- a port of the peer's switch is enabled and is another than the peer
 abbrev pub is_across : Port → Port → Bool

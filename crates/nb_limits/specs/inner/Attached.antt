@@ -1,9 +1,9 @@
 -- The VIPs of a load balancer, each counted once for each datapath that has it.
 use Rattle.std.specs.Prelude.{ℕ, ◌+◌, length, filter}
-use Rattle.nb_core.specs.declared.balancer.Lb.{Lb}
-use Rattle.nb_net.specs.Amounts.{total}
-use Rattle.nb_net.specs.Belongs.{is_among}
-use Rattle.nb_net.specs.Network.{Network}
+use Rattle.nb_records.specs.declared.balancer.Lb.{Lb}
+use Rattle.nb_model.specs.Amounts.{total}
+use Rattle.nb_model.specs.Belongs.{is_among}
+use Rattle.nb_model.specs.Network.{Network}
 
 -- once for each switch
 abbrev pub vips_on_switches : Network → Lb → ℕ

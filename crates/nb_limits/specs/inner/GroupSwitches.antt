@@ -2,9 +2,9 @@
 use Rattle.std.specs.Prelude.{ℕ, Bool, ◌&&◌, length, filter}
 use Rattle.std.specs.List.{list_any}
 use Rattle.nv_base.specs.declared.object.ObjId.{ObjId}
-use Rattle.nb_core.specs.declared.sets.Group.{Group}
-use Rattle.nb_net.specs.Belongs.{is_among}
-use Rattle.nb_net.specs.Network.{Network, same}
+use Rattle.nb_records.specs.declared.sets.Group.{Group}
+use Rattle.nb_model.specs.Belongs.{is_among}
+use Rattle.nb_model.specs.Network.{Network, same}
 
 -- a port of the group is on the switch of this number
 abbrev pub has_port_on : Network → Group → ObjId → Bool

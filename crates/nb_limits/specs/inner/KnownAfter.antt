@@ -4,15 +4,15 @@ use Rattle.expr_core.specs.Formula.{Formula}
 use Rattle.expr_core.specs.Text.{typed_text}
 use Rattle.expr_core.specs.declared.typed.TypedAtom.{TypedAtom}
 use Rattle.nv_base.specs.declared.object.ObjId.{ObjId}
-use Rattle.nb_core.specs.declared.balancer.Lb.{Lb}
-use Rattle.nb_core.specs.declared.edit.Edit.{Edit}
-use Rattle.nb_core.specs.declared.edit.Edit.TheVariants as edit
-use Rattle.nb_core.specs.declared.refusal.Kind.TheVariants as kind
-use Rattle.nb_core.specs.declared.sets.Group.{Group}
-use Rattle.nb_net.specs.Amounts.{bound}
-use Rattle.nb_net.specs.Belongs.{owner_id}
-use Rattle.nb_net.specs.Network.{Network, lb_named}
-use Rattle.nb_table.specs.Table.{record_of}
+use Rattle.nb_records.specs.declared.balancer.Lb.{Lb}
+use Rattle.nb_records.specs.declared.edit.Edit.{Edit}
+use Rattle.nb_records.specs.declared.edit.Edit.TheVariants as edit
+use Rattle.nb_records.specs.declared.refusal.Kind.TheVariants as kind
+use Rattle.nb_records.specs.declared.sets.Group.{Group}
+use Rattle.nb_model.specs.Amounts.{bound}
+use Rattle.nb_model.specs.Belongs.{owner_id}
+use Rattle.nb_model.specs.Network.{Network, lb_named}
+use Rattle.nv_table.specs.Table.{record_of}
 use Rattle.nb_limits.specs.declared.ceilings.Ceilings.{Ceilings}
 use Rattle.nb_limits.specs.inner.GroupSwitches.{switch_count}
 use Rattle.nb_limits.specs.inner.Within.{up_to}

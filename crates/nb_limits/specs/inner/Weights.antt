@@ -1,12 +1,12 @@
 -- What an ACL counts for.
 use Rattle.std.specs.Prelude.{ℕ, ◌*◌, length, filter, Option, Some, None}
 use Rattle.expr_core.specs.Text.{typed_text}
-use Rattle.nb_core.specs.declared.acl.Acl.{Acl}
-use Rattle.nb_core.specs.declared.sets.Group.{Group}
-use Rattle.nb_net.specs.Amounts.{total}
-use Rattle.nb_net.specs.Belongs.{switches_of_acl}
-use Rattle.nb_net.specs.Network.{Network, same}
-use Rattle.nb_table.specs.Table.{record_of}
+use Rattle.nb_records.specs.declared.acl.Acl.{Acl}
+use Rattle.nb_records.specs.declared.sets.Group.{Group}
+use Rattle.nb_model.specs.Amounts.{total}
+use Rattle.nb_model.specs.Belongs.{switches_of_acl}
+use Rattle.nb_model.specs.Network.{Network, same}
+use Rattle.nv_table.specs.Table.{record_of}
 use Rattle.nb_limits.specs.inner.GroupSwitches.{switch_count}
 use Rattle.nb_limits.specs.declared.acl_limits.Measure.{Measure}
 use Rattle.nb_limits.specs.declared.acl_limits.Measure.TheVariants.{Count, Text}

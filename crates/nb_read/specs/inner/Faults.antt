@@ -3,7 +3,7 @@ use Rattle.expr_parse.specs.declared.fault.MatchFault.{MatchFault}
 use Rattle.expr_parse.specs.declared.fault.MatchFault.TheVariants as match
 use Rattle.expr_check.specs.declared.fault.TypeFault.{TypeFault}
 use Rattle.expr_check.specs.declared.fault.TypeFault.TheVariants as rule
-use Rattle.nb_core.specs.declared.refusal.Refusal.TheVariants.{MatchSyntax}
+use Rattle.nb_records.specs.declared.refusal.Refusal.TheVariants.{MatchSyntax}
 use Rattle.nb_words.specs.declared.fault.LineFault.{LineFault}
 use Rattle.nb_words.specs.declared.fault.LineFault.TheVariants.{Refused, Memory}
 use Rattle.nb_read.specs.Readings.{rule_broken}

@@ -2,11 +2,11 @@
 use Rattle.std.specs.Prelude.{◌≡◌, List, map, filter}
 use Rattle.std.specs.List.{flat_map}
 use Rattle.nv_base.specs.declared.object.ObjId.{ObjId}
-use Rattle.nb_core.specs.declared.acl.Acl.{Acl}
-use Rattle.nb_core.specs.declared.sets.Group.{Group}
-use Rattle.nb_core.specs.declared.switch.Port.{Port}
-use Rattle.nb_net.specs.Belongs.{is_among}
-use Rattle.nb_net.specs.Network.{Network, same}
+use Rattle.nb_records.specs.declared.acl.Acl.{Acl}
+use Rattle.nb_records.specs.declared.sets.Group.{Group}
+use Rattle.nb_records.specs.declared.switch.Port.{Port}
+use Rattle.nb_model.specs.Belongs.{is_among}
+use Rattle.nb_model.specs.Network.{Network, same}
 use Rattle.net_meaning.specs.Applies.{applies}
 
 -- the ports of a switch

@@ -4,7 +4,7 @@ use Rattle.std.proofs.lemmas.Bool.{and_parts}
 use Rattle.nv_base.specs.inner.Exact as tells
 use Rattle.nv_base.specs.inner.Exact.{Tells}
 use Rattle.expr_core.specs.inner.Exact as of_matches
-use Rattle.nb_core.specs.inner.Exact as of_records
+use Rattle.nb_records.specs.inner.Exact as of_records
 use Rattle.net_rows.specs.contracts.inputs.AclOnInputPartialEq.TheImpl as acl_on_eq
 use Rattle.net_rows.specs.contracts.inputs.PortL2InputPartialEq.TheImpl as port_l2_eq
 use Rattle.net_rows.specs.contracts.inputs.PortSecInputPartialEq.TheImpl as port_sec_eq

@@ -1,9 +1,9 @@
 -- What a session keeps besides the network.
 use Rattle.std.specs.Prelude.{◌≡◌, List, Option, Some, None}
 use Rattle.sb_model.specs.declared.row.Row.{Row}
-use Rattle.nb_net.specs.Network.{Network}
-use Rattle.nb_net.specs.Sound.{IsSound}
-use Rattle.nb_plain.specs.Plain.{IsPlain}
+use Rattle.nb_model.specs.Network.{Network}
+use Rattle.nb_model.specs.Sound.{IsSound}
+use Rattle.nb_model.specs.Plain.{IsPlain}
 use Rattle.net_rows.specs.Build as build
 
 -- the rows of the network, which is sound and plain

@@ -1,8 +1,8 @@
 -- Where packets go: over to the other side of a port, to one port, or to each of several.
 use Rattle.std.specs.Prelude.{Bool, ◌&&◌, if◌then◌else◌, List, [], ◌∷◌, Option, Some, None}
 use Rattle.nv_base.specs.declared.object.ObjId.{ObjId}
-use Rattle.nb_core.specs.declared.switch.Port.{Port}
-use Rattle.nb_net.specs.Network.{Network}
+use Rattle.nb_records.specs.declared.switch.Port.{Port}
+use Rattle.nb_model.specs.Network.{Network}
 use Rattle.net_meaning.specs.Places.{Side}
 use Rattle.net_meaning.specs.Places.Side.{Host, Peer, NoPeer}
 use Rattle.net_meaning.specs.Switches.{open_ports, takes_unknown, unknown_ports}

@@ -3,8 +3,8 @@ use Rattle.std.specs.Prelude.{◌≡◌, ℕ, List, map, Option, option_map}
 use Rattle.nv_base.specs.declared.object.ObjId.{ObjId}
 use Rattle.nv_base.specs.declared.field.Field.TheVariants.{Outport}
 use Rattle.pkt_core.specs.Packet.{Values, value, with_value}
-use Rattle.nb_net.specs.Network.{Network}
-use Rattle.nb_net.specs.Sound.{IsSound}
+use Rattle.nb_model.specs.Network.{Network}
+use Rattle.nb_model.specs.Sound.{IsSound}
 use Rattle.sb_model.specs.declared.row.Row.{Row}
 use Rattle.net_meaning.specs.Places.{datapath_at, side_of}
 use Rattle.net_meaning.specs.Walk.{Target, Walked, Onward, told_of, after_told, carried, carrying, then_part, delivered_to, made, left, sent, arrived, enters, hops_left}
@@ -13,11 +13,12 @@ use Rattle.net_meaning.specs.declared.answer.Answer.TheVariants.{Reject, Arp}
 use Rattle.net_rows.specs.Build as build
 use Rattle.tr_stage.specs.declared.outcome.Hit.{Hit}
 use Rattle.tr_stage.specs.declared.outcome.Outcome.{Outcome}
-use Rattle.ls_laws.specs.Steps.{last_table}
 use Rattle.tr_walk.specs.declared.event.Event.{Event}
 use Rattle.tr_walk.specs.Events.{event_of}
 use Rattle.tr_walk.specs.Machine.{State, numbered, after_ingress, after_egress, egress, pipelines}
 use Rattle.tr_walk.specs.Runnable.{AreRunnable}
+use Rattle.sb_model.specs.Stage.{last_table}
+use Rattle.sb_model.specs.declared.stage.DatapathKind.TheVariants.{Switch}
 
 -- the rows are those of a sound network, and each packet comes to an end in them
 pub record AreRowsOf (net : Network) (rows : List Row) : Type 0 where
@@ -34,7 +35,7 @@ onward net hops = hops_left net (pipelines net) hops
 
 -- the table of egress that an answer leaves by
 abbrev pub table_for : Answer → ℕ
-table_for Reject = last_table
+table_for Reject = last_table Switch
 table_for Arp = 0
 
 module _ (net : Network) (hops : ℕ) where

@@ -1,5 +1,5 @@
 use Rattle.std.proofs.Common.{◌∙◌}
-use Rattle.nb_table.proofs.Undone.{put_back, is_found}
+use Rattle.nv_table.proofs.Undone.{put_back, is_found}
 use Rattle.base_tests.proofs.tables.put_and_undo.Goals as goal
 
 pub returns-clause-loose : goal.returns-clause-loose

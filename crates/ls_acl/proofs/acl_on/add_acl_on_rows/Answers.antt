@@ -1,6 +1,6 @@
 use Rattle.std.proofs.Common.{◌≡◌, true, false, arith, append-nil, sym}
 use Rattle.std.proofs.lemmas.Bool.Decides.{nat_tests}
-use Rattle.nb_net.specs.Readable.{is_priority}
+use Rattle.nb_model.specs.Readable.{is_priority}
 use Rattle.net_rows.specs.Acls.{acl_on_rules}
 use Rattle.ls_acl.proofs.acl_on.add_acl_on_rows.Goals as goal
 

@@ -1,6 +1,6 @@
 use Rattle.std.proofs.Common.{◌≡◌, ◌++◌, map, take}
 use Rattle.std.specs.List.{flat_map}
-use Rattle.nb_net.specs.Readable.{macs_of}
+use Rattle.nb_model.specs.Readable.{macs_of}
 use Rattle.net_rows.specs.Lookup.{lookup_rule}
 use Rattle.net_rows.specs.Unit.{said_by}
 use Rattle.ls_l2.proofs.port_l2.add_own_lookup_rows.Given as goal

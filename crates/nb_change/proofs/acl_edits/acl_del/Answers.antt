@@ -1,6 +1,6 @@
-use Rattle.nb_core.specs.declared.acl.Acl.{Acl}
+use Rattle.nb_records.specs.declared.acl.Acl.{Acl}
 use Rattle.nb_change.proofs.AclEdits.{no_owner_loses}
-use Rattle.nb_tables.proofs.PlacedRecords.{rises}
+use Rattle.nb_store.proofs.PlacedRecords.{rises}
 use Rattle.nb_change.proofs.acl_edits.acl_del.Goals as goal
 
 pub returns-in_default-clause-ok : goal.returns-in_default-clause-ok

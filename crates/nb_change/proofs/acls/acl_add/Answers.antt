@@ -1,11 +1,11 @@
 use Rattle.std.proofs.Common.{ap, sym, ◌∙◌}
 use Rattle.std.specs.Prelude.{is_some}
 use Rattle.std.proofs.lemmas.Result.{on_ok_weaker}
-use Rattle.nb_core.specs.declared.acl.Acl.{Acl}
-use Rattle.nb_net.specs.Network.{Network}
-use Rattle.nb_table.specs.Table.{with_exchanged}
+use Rattle.nb_records.specs.declared.acl.Acl.{Acl}
+use Rattle.nb_model.specs.Network.{Network}
+use Rattle.nv_table.specs.Table.{with_exchanged}
 use Rattle.nb_change.proofs.AclEdits.{no_owner, same_acl_there, added_acl}
-use Rattle.nb_tables.proofs.PlacedRecords.{rises}
+use Rattle.nb_store.proofs.PlacedRecords.{rises}
 use Rattle.nb_change.proofs.acls.acl_add.Goals as goal
 
 pub returns-in_default-clause-ok : goal.returns-in_default-clause-ok

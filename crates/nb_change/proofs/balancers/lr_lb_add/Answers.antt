@@ -1,6 +1,6 @@
 use Rattle.std.proofs.Common.{◌∙◌}
 use Rattle.std.proofs.lemmas.Result.{on_ok_weaker}
-use Rattle.nb_core.specs.declared.router.Router.{Router}
+use Rattle.nb_records.specs.declared.router.Router.{Router}
 use Rattle.nb_change.proofs.BalancerEdits.{attached_to_router, no_router_attached, none_attached_to_router}
 use Rattle.nb_change.proofs.balancers.lr_lb_add.Goals as goal
 

@@ -1,6 +1,6 @@
 use Rattle.std.proofs.Common.{◌∙◌}
 use Rattle.std.proofs.lemmas.Result.{on_ok_weaker}
-use Rattle.nb_core.specs.declared.switch.Switch.{Switch}
+use Rattle.nb_records.specs.declared.switch.Switch.{Switch}
 use Rattle.nb_change.proofs.BalancerEdits.{detached_from_switch, no_switch_detached}
 use Rattle.nb_change.proofs.balancers.ls_lb_del.Goals as goal
 

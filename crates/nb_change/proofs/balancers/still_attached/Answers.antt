@@ -1,5 +1,5 @@
 use Rattle.std.proofs.Common.{rules, ◌≡◌, ◌∙◌, ap, None}
-use Rattle.nb_net.specs.Effect.{is_detached, without}
+use Rattle.nb_model.specs.Effect.{is_detached, without}
 use Rattle.nb_change.proofs.BalancerEdits.{all_detached}
 use Rattle.nb_change.proofs.balancers.still_attached.Goals as goal
 

@@ -1,9 +1,9 @@
 use Rattle.std.proofs.Common.{◌≡◌, ◌∙◌, ap, sym}
 use Rattle.std.proofs.lemmas.Result.{IfOk-weaker}
-use Rattle.nb_net.specs.Belongs.{is_number}
-use Rattle.nb_net.specs.Effect.{without}
-use Rattle.nb_net.specs.Network.{lb_id}
-use Rattle.nb_removal.proofs.Goes.{none_goes}
+use Rattle.nb_model.specs.Belongs.{is_number}
+use Rattle.nb_model.specs.Effect.{without}
+use Rattle.nb_model.specs.Network.{lb_id}
+use Rattle.nb_change.proofs.Goes.{none_goes}
 use Rattle.nb_change.proofs.balancers.without_named.Goals as goal
 
 pub returns-in-None : goal.returns-in-None

@@ -1,9 +1,9 @@
 use Rattle.std.proofs.Common.{ap, ◌∙◌}
 use Rattle.std.proofs.lemmas.Result.{on_ok_weaker}
-use Rattle.nb_core.specs.declared.sets.Group.{Group}
-use Rattle.nb_net.specs.Network.{Network}
-use Rattle.nb_table.specs.Table.{with_exchanged}
-use Rattle.nb_net.specs.Effect.{named_port_ids}
+use Rattle.nb_records.specs.declared.sets.Group.{Group}
+use Rattle.nb_model.specs.Network.{Network}
+use Rattle.nv_table.specs.Table.{with_exchanged}
+use Rattle.nb_model.specs.Effect.{named_port_ids}
 use Rattle.nb_change.proofs.GroupEdits.{added_group}
 use Rattle.nb_change.proofs.groups.pg_add.Goals as goal
 

@@ -1,9 +1,9 @@
 use Rattle.std.proofs.Common.{ap, ◌∙◌}
 use Rattle.std.proofs.lemmas.Result.{on_ok_weaker}
-use Rattle.nb_core.specs.declared.acl.Acl.{Acl}
-use Rattle.nb_net.specs.Network.{Network}
-use Rattle.nb_table.specs.Table.{without_number}
-use Rattle.nb_tables.proofs.PlacedRecords.{rises}
+use Rattle.nb_records.specs.declared.acl.Acl.{Acl}
+use Rattle.nb_model.specs.Network.{Network}
+use Rattle.nv_table.specs.Table.{without_number}
+use Rattle.nb_store.proofs.PlacedRecords.{rises}
 use Rattle.nb_change.proofs.GroupEdits.{group_deleted, no_group_deleted}
 use Rattle.nb_change.proofs.groups.pg_del.Goals as goal
 

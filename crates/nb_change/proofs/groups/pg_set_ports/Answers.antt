@@ -1,7 +1,7 @@
 use Rattle.std.proofs.Common.{ap, ◌∙◌}
 use Rattle.std.proofs.lemmas.Result.{on_ok_weaker}
-use Rattle.nb_core.specs.declared.sets.Group.{Group}
-use Rattle.nb_net.specs.Effect.{named_port_ids}
+use Rattle.nb_records.specs.declared.sets.Group.{Group}
+use Rattle.nb_model.specs.Effect.{named_port_ids}
 use Rattle.nb_change.proofs.GroupEdits.{set_group, no_group_set}
 use Rattle.nb_change.proofs.groups.pg_set_ports.Goals as goal
 

@@ -1,5 +1,5 @@
 use Rattle.std.proofs.Common.{ap, sym, ◌∙◌, take}
-use Rattle.nb_net.specs.Effect.{named_port_ids, with_number}
+use Rattle.nb_model.specs.Effect.{named_port_ids, with_number}
 use Rattle.nb_change.proofs.Once.{named_more, named_same, next_name}
 use Rattle.nb_change.proofs.groups.port_ids.Goals as goal
 use Rattle.nb_change.proofs.groups.port_ids.Goals.{in-Some+in_ok-add_number, in_default}

@@ -1,5 +1,5 @@
 use Rattle.std.proofs.Common.{◌≡◌, take}
-use Rattle.nb_net.specs.Effect.{named_port_ids}
+use Rattle.nb_model.specs.Effect.{named_port_ids}
 use Rattle.nb_change.proofs.groups.port_ids.Given as goal
 
 -- the numbers of the names so far

@@ -1,9 +1,9 @@
 use Rattle.std.proofs.Common.{ap, refl, ◌∙◌, None, true, rules}
 use Rattle.std.proofs.lemmas.Result.{on_ok_weaker}
-use Rattle.nb_core.specs.declared.switch.Port.{Port}
-use Rattle.nb_core.specs.declared.switch.PortKind.TheVariants as port_kind
-use Rattle.nb_net.specs.Network.{Network}
-use Rattle.nb_table.specs.Table.{with_exchanged}
+use Rattle.nb_records.specs.declared.switch.Port.{Port}
+use Rattle.nb_records.specs.declared.switch.PortKind.TheVariants as port_kind
+use Rattle.nb_model.specs.Network.{Network}
+use Rattle.nv_table.specs.Table.{with_exchanged}
 use Rattle.nb_change.proofs.Added.{added_port, no_switch, same_parts}
 use Rattle.nb_change.proofs.ports.lsp_add.Goals as goal
 

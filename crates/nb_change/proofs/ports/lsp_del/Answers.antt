@@ -1,7 +1,7 @@
 use Rattle.std.proofs.Common.{◌∙◌}
 use Rattle.std.proofs.lemmas.Result.{on_ok_weaker}
-use Rattle.nb_core.specs.declared.sets.Group.{Group}
-use Rattle.nb_tables.proofs.PlacedRecords.{rises}
+use Rattle.nb_records.specs.declared.sets.Group.{Group}
+use Rattle.nb_store.proofs.PlacedRecords.{rises}
 use Rattle.nb_change.proofs.Deleted.{port_deleted, no_port_deleted}
 use Rattle.nb_change.proofs.ports.lsp_del.Goals as goal
 

@@ -1,6 +1,6 @@
 use Rattle.std.proofs.Common.{refl, ◌∙◌}
 use Rattle.std.proofs.lemmas.Result.{on_ok_weaker}
-use Rattle.nb_core.specs.declared.switch.Port.{Port}
+use Rattle.nb_records.specs.declared.switch.Port.{Port}
 use Rattle.nb_change.proofs.Added.{changed_port, no_port, same_parts}
 use Rattle.nb_change.proofs.ports.lsp_set_options.Goals as goal
 

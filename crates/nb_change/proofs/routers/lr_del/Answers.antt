@@ -1,6 +1,6 @@
 use Rattle.std.proofs.Common.{◌∙◌}
 use Rattle.std.proofs.lemmas.Result.{on_ok_weaker}
-use Rattle.nb_removal.proofs.RouterRemovals.{router_deleted, no_router_deleted}
+use Rattle.nb_change.proofs.RouterRemovals.{router_deleted, no_router_deleted}
 use Rattle.nb_change.proofs.routers.lr_del.Goals as goal
 
 pub returns-in-Some-clause-ok : goal.returns-in-Some-clause-ok

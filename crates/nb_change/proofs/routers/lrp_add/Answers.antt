@@ -1,8 +1,8 @@
 use Rattle.std.proofs.Common.{ap, ◌∙◌, rules, true}
 use Rattle.std.proofs.lemmas.Result.{on_ok_weaker}
-use Rattle.nb_table.specs.Table.{with_exchanged}
-use Rattle.nb_net.specs.Network.{Network}
-use Rattle.nb_core.specs.declared.router.RouterPort.{RouterPort}
+use Rattle.nv_table.specs.Table.{with_exchanged}
+use Rattle.nb_model.specs.Network.{Network}
+use Rattle.nb_records.specs.declared.router.RouterPort.{RouterPort}
 use Rattle.nb_change.proofs.RouterEdits.{added_router_port}
 use Rattle.nb_change.proofs.routers.lrp_add.Goals as goal
 

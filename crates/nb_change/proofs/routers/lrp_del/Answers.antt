@@ -1,8 +1,8 @@
 use Rattle.std.proofs.Common.{◌∙◌}
 use Rattle.std.proofs.lemmas.Result.{on_ok_weaker}
-use Rattle.nb_tables.proofs.PlacedRecords.{rises}
-use Rattle.nb_core.specs.declared.router.Binding.{Binding}
-use Rattle.nb_removal.proofs.RouterRemovals.{port_deleted, no_port_deleted}
+use Rattle.nb_store.proofs.PlacedRecords.{rises}
+use Rattle.nb_records.specs.declared.router.Binding.{Binding}
+use Rattle.nb_change.proofs.RouterRemovals.{port_deleted, no_port_deleted}
 use Rattle.nb_change.proofs.routers.lrp_del.Goals as goal
 
 pub returns-in-Some-clause-ok : goal.returns-in-Some-clause-ok

@@ -1,6 +1,6 @@
 use Rattle.std.proofs.Common.{refl, ◌∙◌}
 use Rattle.std.proofs.lemmas.Result.{on_ok_weaker}
-use Rattle.nb_core.specs.declared.router.RouterPort.{RouterPort}
+use Rattle.nb_records.specs.declared.router.RouterPort.{RouterPort}
 use Rattle.nb_change.proofs.RouterEdits.{changed_router_port, no_router_port}
 use Rattle.nb_change.proofs.routers.lrp_set_enabled.Goals as goal
 

@@ -1,8 +1,8 @@
 use Rattle.std.proofs.Common.{ap, ◌∙◌}
 use Rattle.std.proofs.lemmas.Result.{on_ok_weaker}
-use Rattle.nb_table.specs.Table.{with_exchanged}
-use Rattle.nb_net.specs.Network.{Network}
-use Rattle.nb_core.specs.declared.sets.AddrSet.{AddrSet}
+use Rattle.nv_table.specs.Table.{with_exchanged}
+use Rattle.nb_model.specs.Network.{Network}
+use Rattle.nb_records.specs.declared.sets.AddrSet.{AddrSet}
 use Rattle.nb_change.proofs.SetEdits.{added_set}
 use Rattle.nb_change.proofs.sets.as_add.Goals as goal
 

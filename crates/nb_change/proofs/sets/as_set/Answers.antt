@@ -1,6 +1,6 @@
 use Rattle.std.proofs.Common.{◌∙◌}
 use Rattle.std.proofs.lemmas.Result.{on_ok_weaker}
-use Rattle.nb_core.specs.declared.sets.AddrSet.{AddrSet}
+use Rattle.nb_records.specs.declared.sets.AddrSet.{AddrSet}
 use Rattle.nb_change.proofs.SetEdits.{changed_set, no_set_changed}
 use Rattle.nb_change.proofs.sets.as_set.Goals as goal
 

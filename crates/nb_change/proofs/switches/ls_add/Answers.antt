@@ -1,7 +1,7 @@
 use Rattle.std.proofs.Common.{ap, ◌∙◌, rules}
 use Rattle.std.proofs.lemmas.Result.{on_ok_weaker}
-use Rattle.nb_table.specs.Table.{with_exchanged}
-use Rattle.nb_net.specs.Network.{Network}
+use Rattle.nv_table.specs.Table.{with_exchanged}
+use Rattle.nb_model.specs.Network.{Network}
 use Rattle.nb_change.proofs.Added.{added_switch}
 use Rattle.nb_change.proofs.switches.ls_add.Goals as goal
 

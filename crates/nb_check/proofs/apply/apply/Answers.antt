@@ -1,8 +1,8 @@
 use Rattle.std.proofs.Common.{◌≡◌, sym, ap, ◌∙◌, subst}
 use Rattle.std.proofs.lemmas.Result.{err_from_is_err_and}
-use Rattle.nb_net.specs.Amounts.{first_over}
-use Rattle.nb_net.specs.Effect.{effect}
-use Rattle.nb_net.specs.Rises.{may_rise}
+use Rattle.nb_model.specs.Amounts.{first_over}
+use Rattle.nb_model.specs.Effect.{effect}
+use Rattle.nb_model.specs.Rises.{may_rise}
 use Rattle.nb_limits.specs.Ceilings.{AreCeilings}
 use Rattle.nb_limits.specs.Limitless.{IsSoundButLimits}
 use Rattle.nb_check.proofs.Edited.{sound_but_limits, few_limits, limits_decide, sound_after, test_refuses, limits_refuse}

@@ -1,12 +1,13 @@
 use Rattle.std.proofs.Common.{◌≡◌, ◌+◌, ◌<◌, length}
 use Rattle.std.specs.List.{AllByRecursion}
 use Rattle.std.specs.Vec.Iter.{into_iter_items, into_iter_len}
-use Rattle.nb_net.specs.Readable.{IsReadable}
-use Rattle.nb_net.specs.Sound.{IsSound}
-use Rattle.nb_net.specs.Transactions.{edited}
+use Rattle.nb_model.specs.Readable.{IsReadable}
+use Rattle.nb_model.specs.Sound.{IsSound}
+use Rattle.nb_model.specs.Transactions.{edited}
 use Rattle.nb_limits.specs.Ceilings.{AreCeilings}
 use Rattle.nb_check.specs.inner.Undone.{back_all}
 use Rattle.nb_check.proofs.apply.apply_each.Given as goal
+use Rattle.nv_base.specs.Object.{number_limit}
 
 -- the edits that are left ask of this network what all asked of the first
 abbrev pub invariant-loop-edit : goal.invariant-loop-edit
@@ -15,7 +16,7 @@ invariant-loop-edit l = record {
   sound : IsSound l.records;
   known : AreCeilings l.records l.known;
   readable : AllByRecursion IsReadable (into_iter_items l.edit-iterator);
-  room : l.records.next + length (into_iter_items l.edit-iterator) < 4294967294;
+  room : l.records.next + length (into_iter_items l.edit-iterator) < number_limit;
   same : edited l.fn.records l.fn.edits.items ≡ edited l.records (into_iter_items l.edit-iterator);
   back : back_all l.undos.items l.records ≡ back_all l.fn.undos.items l.fn.records;
 }

@@ -1,5 +1,5 @@
 use Rattle.std.proofs.Common.{arith, ap, ◌∙◌}
-use Rattle.nb_net.specs.Network.{Network}
+use Rattle.nb_model.specs.Network.{Network}
 use Rattle.nb_check.specs.inner.Undone.{back_all}
 use Rattle.nb_check.proofs.Edited.{next_at_most}
 use Rattle.nb_check.proofs.Undone.{back_last}

@@ -1,4 +1,4 @@
-use Rattle.nb_script.proofs.Lines.{line_of_three}
+use Rattle.nb_text.proofs.Lines.{line_of_three}
 use Rattle.nb_dump.specs.Edits.{port_name}
 use Rattle.nb_dump.proofs.Scripts.{each_of_map}
 use Rattle.nv_base.proofs.Growth.{grown_more, on_err}

@@ -1,6 +1,6 @@
 use Rattle.std.proofs.Common.{◌≡◌, ◌++◌, map, take, false}
-use Rattle.nb_core.specs.declared.edit.Edit.TheVariants as edit
-use Rattle.nb_script.specs.Commands.{script}
+use Rattle.nb_records.specs.declared.edit.Edit.TheVariants as edit
+use Rattle.nb_text.specs.Commands.{script}
 use Rattle.nb_dump.specs.Edits.{lb_name}
 use Rattle.nb_dump.proofs.ends.put_switch_lbs.Given as goal
 

@@ -1,5 +1,5 @@
 use Rattle.std.proofs.Common.{◌≡◌, ap}
-use Rattle.nb_net.specs.Network.{Network}
+use Rattle.nb_model.specs.Network.{Network}
 use Rattle.nb_dump.proofs.Scripts.{scripts}
 use Rattle.nv_base.proofs.Growth.{grown_more, on_err}
 use Rattle.nb_dump.proofs.parts.put_listed.Goals as goal

@@ -1,5 +1,5 @@
 use Rattle.std.proofs.Common.{◌≡◌, ◌-◌, ◌≤◌, ◌++◌}
-use Rattle.nb_script.specs.Commands.{script}
+use Rattle.nb_text.specs.Commands.{script}
 use Rattle.nb_dump.specs.inner.Parts.{edits_at, first_edits}
 use Rattle.nb_dump.proofs.parts.put_part.Given as goal
 

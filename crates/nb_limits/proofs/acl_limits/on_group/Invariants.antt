@@ -1,6 +1,6 @@
 use Rattle.std.proofs.Common.{◌*◌, length}
-use Rattle.nb_core.specs.declared.acl.Acl.{Acl}
-use Rattle.nb_net.specs.Network.{same}
+use Rattle.nb_records.specs.declared.acl.Acl.{Acl}
+use Rattle.nb_model.specs.Network.{same}
 use Rattle.nb_limits.specs.inner.GroupSwitches.{switch_count}
 use Rattle.nb_limits.specs.inner.Weights.{weight, on_group}
 use Rattle.nb_limits.proofs.Rest.{rest}

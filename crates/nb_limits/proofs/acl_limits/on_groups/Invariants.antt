@@ -1,5 +1,5 @@
 use Rattle.std.proofs.Common.{length, true}
-use Rattle.nb_core.specs.declared.sets.Group.{Group}
+use Rattle.nb_records.specs.declared.sets.Group.{Group}
 use Rattle.nb_limits.specs.inner.Weights.{on_group, on_groups}
 use Rattle.nb_limits.proofs.Rest.{rest}
 use Rattle.nb_limits.proofs.Sums.{IsSumSoFar}

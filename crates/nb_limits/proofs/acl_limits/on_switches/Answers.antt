@@ -1,6 +1,6 @@
 use Rattle.std.proofs.Common.{sym, ap}
-use Rattle.nb_core.specs.declared.acl.Acl.{Acl}
-use Rattle.nb_net.specs.Amounts.{total}
+use Rattle.nb_records.specs.declared.acl.Acl.{Acl}
+use Rattle.nb_model.specs.Amounts.{total}
 use Rattle.nb_limits.specs.inner.Weights.{on_switch}
 use Rattle.nb_limits.proofs.Rest.{next_left, none_left, first_left}
 use Rattle.nb_limits.proofs.Sums.{fewer, sum_begins, sum_goes_on, sum_over, sum_ends}

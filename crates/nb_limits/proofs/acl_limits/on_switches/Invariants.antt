@@ -1,5 +1,5 @@
 use Rattle.std.proofs.Common.{length, true}
-use Rattle.nb_core.specs.declared.acl.Acl.{Acl}
+use Rattle.nb_records.specs.declared.acl.Acl.{Acl}
 use Rattle.nb_limits.specs.inner.Weights.{on_switch, on_switches}
 use Rattle.nb_limits.proofs.Rest.{rest}
 use Rattle.nb_limits.proofs.Sums.{IsSumSoFar}

@@ -1,7 +1,7 @@
 use Rattle.std.proofs.Common.{sym, ap, ◌∙◌, subst, take, length, List, [], get_or}
 use Rattle.nv_base.specs.declared.object.ObjId.{ObjId}
-use Rattle.nb_core.specs.declared.switch.Port.{Port}
-use Rattle.nb_table.specs.Table.{record_of}
+use Rattle.nb_records.specs.declared.switch.Port.{Port}
+use Rattle.nv_table.specs.Table.{record_of}
 use Rattle.nb_limits.proofs.Noted.{IsNoted, none_noted, one_noted, no_more_noted, noted_count, take_next, all_taken}
 use Rattle.nb_limits.proofs.acl_limits.switch_count.Goals as goal
 use Rattle.nb_limits.proofs.acl_limits.switch_count.Goals.{in-Some+in_ok-add_number, in_default}

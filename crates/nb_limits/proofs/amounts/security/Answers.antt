@@ -1,6 +1,6 @@
 use Rattle.std.proofs.Common.{ap, ◌∙◌}
 use Rattle.std.specs.Prelude.{sum_by}
-use Rattle.nb_core.specs.Tags.{port_weight}
+use Rattle.nb_records.specs.Tags.{port_weight}
 use Rattle.nb_limits.specs.inner.Within.{up_to}
 use Rattle.nb_limits.proofs.Clipped.{security_up_to}
 use Rattle.nb_limits.proofs.amounts.security.Goals as goal

@@ -1,6 +1,6 @@
 use Rattle.std.proofs.Common.{◌≡◌, max, length, true}
-use Rattle.nb_core.specs.declared.balancer.Lb.{Lb}
-use Rattle.nb_net.specs.Amounts.{greatest}
+use Rattle.nb_records.specs.declared.balancer.Lb.{Lb}
+use Rattle.nb_model.specs.Amounts.{greatest}
 use Rattle.nb_limits.proofs.Rest.{rest}
 use Rattle.nb_limits.proofs.balancer_limits.backend_count.Given as goal
 

@@ -1,5 +1,5 @@
 use Rattle.std.proofs.Common.{ap, ◌∙◌, max, length, List}
-use Rattle.nb_core.specs.declared.balancer.Backend.{Backend}
+use Rattle.nb_records.specs.declared.balancer.Backend.{Backend}
 use Rattle.nb_limits.proofs.Greatest.{greater, most_begins, most_goes_on, most_ends}
 use Rattle.nb_limits.proofs.Rest.{next_dropped, none_dropped}
 use Rattle.nb_limits.proofs.balancer_limits.most_backends.Goals as goal

@@ -1,5 +1,5 @@
 use Rattle.std.proofs.Common.{◌≡◌, max, length, drop}
-use Rattle.nb_net.specs.Amounts.{greatest}
+use Rattle.nb_model.specs.Amounts.{greatest}
 use Rattle.nb_limits.proofs.balancer_limits.most_backends.Given as goal
 
 -- the most so far, with those that are left

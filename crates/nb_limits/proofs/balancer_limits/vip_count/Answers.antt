@@ -1,6 +1,6 @@
 use Rattle.std.proofs.Common.{◌∙◌, ap, max, length}
-use Rattle.nb_core.specs.declared.balancer.Lb.{Lb}
-use Rattle.nb_net.specs.Amounts.{greatest}
+use Rattle.nb_records.specs.declared.balancer.Lb.{Lb}
+use Rattle.nb_model.specs.Amounts.{greatest}
 use Rattle.nb_limits.proofs.Greatest.{greater, most_begins, most_goes_on, most_ends}
 use Rattle.nb_limits.proofs.Rest.{next_left, none_left, first_left}
 use Rattle.nb_limits.proofs.Sums.{fewer}

@@ -1,9 +1,9 @@
 use Rattle.std.proofs.Common.{sym, ap, ◌∙◌}
-use Rattle.nb_core.specs.declared.balancer.Lb.{Lb}
-use Rattle.nb_core.specs.declared.router.Router.{Router}
-use Rattle.nb_core.specs.declared.switch.Switch.{Switch}
-use Rattle.nb_net.specs.Amounts.{total}
-use Rattle.nb_tables.proofs.PlacedRecords.{rises}
+use Rattle.nb_records.specs.declared.balancer.Lb.{Lb}
+use Rattle.nb_records.specs.declared.router.Router.{Router}
+use Rattle.nb_records.specs.declared.switch.Switch.{Switch}
+use Rattle.nb_model.specs.Amounts.{total}
+use Rattle.nb_store.proofs.PlacedRecords.{rises}
 use Rattle.nb_limits.specs.inner.Attached.{attached_vips}
 use Rattle.nb_limits.specs.inner.Within.{up_to}
 use Rattle.nb_limits.proofs.Attached.{all_attached}

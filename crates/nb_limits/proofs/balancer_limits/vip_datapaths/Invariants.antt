@@ -1,6 +1,6 @@
 use Rattle.std.proofs.Common.{length, true}
-use Rattle.nb_core.specs.declared.balancer.Lb.{Lb}
-use Rattle.nb_net.specs.Amounts.{total}
+use Rattle.nb_records.specs.declared.balancer.Lb.{Lb}
+use Rattle.nb_model.specs.Amounts.{total}
 use Rattle.nb_limits.proofs.Rest.{rest}
 use Rattle.nb_limits.proofs.Sums.{IsSumSoFar}
 use Rattle.nb_limits.specs.inner.Attached.{attached_vips}

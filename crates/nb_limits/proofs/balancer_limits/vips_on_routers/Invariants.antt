@@ -1,8 +1,8 @@
 use Rattle.std.proofs.Common.{length}
 use Rattle.std.specs.Prelude.{filter}
-use Rattle.nb_core.specs.declared.router.Router.{Router}
-use Rattle.nb_net.specs.Amounts.{total}
-use Rattle.nb_net.specs.Belongs.{is_among}
+use Rattle.nb_records.specs.declared.router.Router.{Router}
+use Rattle.nb_model.specs.Amounts.{total}
+use Rattle.nb_model.specs.Belongs.{is_among}
 use Rattle.nb_limits.proofs.Rest.{rest}
 use Rattle.nb_limits.proofs.Sums.{IsSumSoFar}
 use Rattle.nb_limits.proofs.balancer_limits.vips_on_routers.Given as goal

@@ -1,6 +1,6 @@
 use Rattle.std.proofs.Common.{sym, ap, ◌∙◌, length}
-use Rattle.nb_core.specs.declared.switch.Switch.{Switch}
-use Rattle.nb_net.specs.Belongs.{is_among}
+use Rattle.nb_records.specs.declared.switch.Switch.{Switch}
+use Rattle.nb_model.specs.Belongs.{is_among}
 use Rattle.nb_limits.proofs.Rest.{next_rest, no_rest}
 use Rattle.nb_limits.proofs.Sums.{fewer, sum_goes_on, sum_over, sum_ends}
 use Rattle.nb_limits.proofs.balancer_limits.vips_on_switches.Goals as goal

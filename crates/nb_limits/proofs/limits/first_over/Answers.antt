@@ -1,6 +1,6 @@
 use Rattle.std.proofs.Common.{sym, ap, ◌∙◌, get_or, Some}
-use Rattle.nb_core.specs.declared.refusal.Kind.TheVariants as kind
-use Rattle.nb_core.specs.declared.refusal.Refusal.TheVariants.{Limit}
+use Rattle.nb_records.specs.declared.refusal.Kind.TheVariants as kind
+use Rattle.nb_records.specs.declared.refusal.Refusal.TheVariants.{Limit}
 use Rattle.nb_limits.proofs.Firsts.{none_first, is_first, later_first}
 use Rattle.nb_limits.proofs.limits.first_over.Goals as goal
 

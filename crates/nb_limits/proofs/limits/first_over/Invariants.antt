@@ -1,5 +1,5 @@
 use Rattle.std.proofs.Common.{◌≡◌, drop}
-use Rattle.nb_net.specs.Amounts.{first_over}
+use Rattle.nb_model.specs.Amounts.{first_over}
 use Rattle.nb_limits.specs.Ceilings.{AreCeilings}
 use Rattle.nb_limits.proofs.limits.first_over.Given as goal
 

@@ -1,5 +1,5 @@
 use Rattle.std.proofs.Common.{sym, ◌∙◌, refl}
-use Rattle.nb_net.specs.Amounts.{ip_count}
+use Rattle.nb_model.specs.Amounts.{ip_count}
 use Rattle.nb_limits.proofs.Rest.{next_dropped, none_dropped}
 use Rattle.nb_limits.proofs.Sums.{sum_begins, sum_goes_on, sum_over, sum_ends}
 use Rattle.nb_limits.proofs.neighbour_limits.ip_counts.Goals as goal

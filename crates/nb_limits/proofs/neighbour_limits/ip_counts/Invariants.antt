@@ -1,5 +1,5 @@
 use Rattle.std.proofs.Common.{drop}
-use Rattle.nb_net.specs.Amounts.{total, ip_count}
+use Rattle.nb_model.specs.Amounts.{total, ip_count}
 use Rattle.nb_limits.proofs.Sums.{IsSumSoFar}
 use Rattle.nb_limits.proofs.neighbour_limits.ip_counts.Given as goal
 

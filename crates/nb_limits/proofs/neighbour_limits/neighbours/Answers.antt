@@ -1,7 +1,7 @@
 use Rattle.std.proofs.Common.{sym, ap, ◌∙◌}
-use Rattle.nb_core.specs.declared.router.RouterPort.{RouterPort}
-use Rattle.nb_net.specs.Amounts.{total, neighbours_across}
-use Rattle.nb_net.specs.Belongs.{peer_port}
+use Rattle.nb_records.specs.declared.router.RouterPort.{RouterPort}
+use Rattle.nb_model.specs.Amounts.{total, neighbours_across}
+use Rattle.nb_model.specs.Belongs.{peer_port}
 use Rattle.nb_limits.specs.inner.Within.{up_to}
 use Rattle.nb_limits.proofs.Rest.{next_left, none_left, first_left}
 use Rattle.nb_limits.proofs.Sums.{fewer, told, sum_begins, sum_goes_on, sum_over, part_over, sum_ends}

@@ -1,7 +1,7 @@
 use Rattle.std.proofs.Common.{length, true}
-use Rattle.nb_core.specs.declared.router.RouterPort.{RouterPort}
-use Rattle.nb_net.specs.Amounts.{total, neighbours_across}
-use Rattle.nb_net.specs.Belongs.{peer_port}
+use Rattle.nb_records.specs.declared.router.RouterPort.{RouterPort}
+use Rattle.nb_model.specs.Amounts.{total, neighbours_across}
+use Rattle.nb_model.specs.Belongs.{peer_port}
 use Rattle.nb_limits.proofs.Rest.{rest}
 use Rattle.nb_limits.proofs.Sums.{IsSumSoFar}
 use Rattle.nb_limits.proofs.neighbour_limits.neighbours.Given as goal

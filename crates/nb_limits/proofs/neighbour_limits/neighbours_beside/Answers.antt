@@ -1,9 +1,9 @@
 use Rattle.std.proofs.Common.{sym, ap, ◌∙◌, ◌&&◌, refl}
-use Rattle.nb_core.specs.declared.switch.Port.{Port}
-use Rattle.nb_net.specs.Network.{same}
-use Rattle.nb_table.specs.Table.{is_after}
-use Rattle.nb_tables.proofs.PlacedRecords.{rises}
-use Rattle.nb_tables.proofs.Peering.{found_is_record}
+use Rattle.nb_records.specs.declared.switch.Port.{Port}
+use Rattle.nb_model.specs.Network.{same}
+use Rattle.nv_table.specs.Table.{is_after}
+use Rattle.nb_store.proofs.PlacedRecords.{rises}
+use Rattle.nb_store.proofs.Peering.{found_is_record}
 use Rattle.nb_limits.specs.inner.Within.{up_to}
 use Rattle.nb_limits.proofs.Neighbours.{pairs_at, all_beside}
 use Rattle.nb_limits.proofs.Rest.{next_rest, no_rest}

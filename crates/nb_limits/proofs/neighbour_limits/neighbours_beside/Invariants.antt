@@ -1,8 +1,8 @@
 use Rattle.std.proofs.Common.{length}
 use Rattle.std.specs.Prelude.{filter}
-use Rattle.nb_core.specs.declared.switch.Port.{Port}
-use Rattle.nb_net.specs.Amounts.{total}
-use Rattle.nb_net.specs.Network.{same}
+use Rattle.nb_records.specs.declared.switch.Port.{Port}
+use Rattle.nb_model.specs.Amounts.{total}
+use Rattle.nb_model.specs.Network.{same}
 use Rattle.nb_limits.proofs.Neighbours.{pairs_at}
 use Rattle.nb_limits.proofs.Rest.{rest}
 use Rattle.nb_limits.proofs.Sums.{IsSumSoFar}

@@ -2,16 +2,16 @@ use Rattle.std.proofs.Common.{◌&&◌, ◌||◌, ◌++◌, ap, refl, sym, ◌�
 use Rattle.std.proofs.Math.Bool.{or-false, or_assoc}
 use Rattle.std.specs.Prelude.{Some}
 use Rattle.std.specs.List.{flat_map, list_any}
-use Rattle.nb_core.specs.declared.switch.Port.{Port}
-use Rattle.nb_net.specs.Network.{same}
+use Rattle.nb_records.specs.declared.switch.Port.{Port}
+use Rattle.nb_model.specs.Network.{same}
 use Rattle.net_meaning.specs.Switches.{takes_unknown}
-use Rattle.nb_table.specs.Table.{is_after}
-use Rattle.nb_tables.proofs.Peering.{found_is_record}
+use Rattle.nv_table.specs.Table.{is_after}
+use Rattle.nb_store.proofs.Peering.{found_is_record}
 use Rattle.nd_full.specs.inner.Made.{port_units}
 use Rattle.nd_full.specs.inner.Owners.{ports_on}
 use Rattle.nd_full.proofs.Applied.{some_unknown}
 use Rattle.nd_full.proofs.Sound.{ports_rise}
-use Rattle.nb_table.proofs.Through.{all_left, these_after, these_fewer, these_next, these_none, these_or, these_whole}
+use Rattle.nv_table.proofs.Through.{all_left, these_after, these_fewer, these_next, these_none, these_or, these_whole}
 use Rattle.nd_full.proofs.build.add_rows_of_ports.Goals as goal
 
 pub add_rows_of_port-requires-clause-there : goal.add_rows_of_port-requires-clause-there

@@ -1,11 +1,11 @@
 use Rattle.std.proofs.Common.{◌≡◌, ◌&&◌, ◌||◌, ◌++◌, length}
 use Rattle.std.specs.List.{flat_map, list_any}
-use Rattle.nb_net.specs.Network.{same}
+use Rattle.nb_model.specs.Network.{same}
 use Rattle.net_meaning.specs.Switches.{takes_unknown}
 use Rattle.net_rows.specs.Build.{has_unknown}
 use Rattle.nd_full.specs.inner.Made.{port_units}
 use Rattle.nd_full.specs.inner.Owners.{ports_on}
-use Rattle.nb_table.proofs.Through.{these_after}
+use Rattle.nv_table.proofs.Through.{these_after}
 use Rattle.nd_full.proofs.build.add_rows_of_ports.Given as goal
 
 -- the rows so far, and then those of the ports that are left, are all; and such a port was there, or is left, where there is one

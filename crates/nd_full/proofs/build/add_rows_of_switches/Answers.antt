@@ -1,12 +1,12 @@
 use Rattle.std.proofs.Common.{◌++◌, ap, sym}
 use Rattle.std.specs.List.{flat_map}
-use Rattle.nb_core.specs.declared.switch.Switch.{Switch}
-use Rattle.nb_table.specs.Table.{is_after}
-use Rattle.nb_tables.proofs.Peering.{found_is_record}
+use Rattle.nb_records.specs.declared.switch.Switch.{Switch}
+use Rattle.nv_table.specs.Table.{is_after}
+use Rattle.nb_store.proofs.Peering.{found_is_record}
 use Rattle.nd_full.specs.inner.Made.{datapath_rows}
 use Rattle.nd_full.proofs.Same.{same_appended, same_equal, same_next, same_whole}
 use Rattle.nd_full.proofs.Sound.{switches_rise}
-use Rattle.nb_table.proofs.Through.{all_left, fewer_left}
+use Rattle.nv_table.proofs.Through.{all_left, fewer_left}
 use Rattle.nd_full.proofs.build.add_rows_of_switches.Goals as goal
 
 pub rows_of_datapath-requires-clause-there : goal.rows_of_datapath-requires-clause-there

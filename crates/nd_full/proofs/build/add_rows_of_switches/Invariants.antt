@@ -2,7 +2,7 @@ use Rattle.std.proofs.Common.{◌++◌, length}
 use Rattle.std.specs.List.{flat_map}
 use Rattle.nd_full.specs.inner.Made.{datapath_rows}
 use Rattle.nd_full.specs.inner.Members.{HaveSameRows}
-use Rattle.nb_table.proofs.Through.{left_after}
+use Rattle.nv_table.proofs.Through.{left_after}
 use Rattle.nd_full.proofs.build.add_rows_of_switches.Given as goal
 
 -- the rows so far and those of the switches that are left are all

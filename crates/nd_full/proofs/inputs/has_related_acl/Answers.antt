@@ -1,12 +1,12 @@
 use Rattle.std.proofs.Common.{ap, sym, ◌∙◌}
 use Rattle.std.specs.List.{list_any}
-use Rattle.nb_core.specs.declared.acl.Acl.{Acl}
-use Rattle.nb_net.specs.Network.{same}
+use Rattle.nb_records.specs.declared.acl.Acl.{Acl}
+use Rattle.nb_model.specs.Network.{same}
 use Rattle.net_meaning.specs.Applies.{is_related}
 use Rattle.nd_full.specs.inner.Made.{has_related}
 use Rattle.nd_full.specs.inner.Owners.{acls_of}
 use Rattle.nd_full.proofs.Sound.{acls_rise}
-use Rattle.nb_table.proofs.Through.{all_left, these_fail, these_fewer, these_none, these_pass}
+use Rattle.nv_table.proofs.Through.{all_left, these_fail, these_fewer, these_none, these_pass}
 use Rattle.nd_full.proofs.inputs.has_related_acl.Goals as goal
 
 pub loop-acl-init : goal.loop-acl-init

@@ -1,9 +1,9 @@
 use Rattle.std.proofs.Common.{◌≡◌, length}
 use Rattle.std.specs.List.{list_any}
-use Rattle.nb_net.specs.Network.{same}
+use Rattle.nb_model.specs.Network.{same}
 use Rattle.net_meaning.specs.Applies.{is_related}
 use Rattle.nd_full.specs.inner.Made.{has_related}
-use Rattle.nb_table.proofs.Through.{these_after}
+use Rattle.nv_table.proofs.Through.{these_after}
 use Rattle.nd_full.proofs.inputs.has_related_acl.Given as goal
 
 -- there is such an ACL where one of those that are left is such

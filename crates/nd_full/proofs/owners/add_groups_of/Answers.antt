@@ -1,11 +1,11 @@
 use Rattle.std.proofs.Common.{◌≡◌, ◌++◌, List, [], ◌∷◌, map, refl, ap, ◌∙◌}
 use Rattle.std.specs.List.{flat_map}
 use Rattle.std.specs.Prelude.{Some}
-use Rattle.nb_core.specs.declared.sets.Group.{Group}
-use Rattle.nb_net.specs.Belongs.{is_among}
+use Rattle.nb_records.specs.declared.sets.Group.{Group}
+use Rattle.nb_model.specs.Belongs.{is_among}
 use Rattle.nd_full.specs.inner.Owners.{groups_of_port, groups_with}
 use Rattle.nd_full.proofs.Sound.{groups_rise}
-use Rattle.nb_table.proofs.Through.{all_left, these_after, these_fewer, these_next, these_whole}
+use Rattle.nv_table.proofs.Through.{all_left, these_after, these_fewer, these_next, these_whole}
 use Rattle.nd_full.proofs.owners.add_groups_of.Goals as goal
 
 -- numbers one by one

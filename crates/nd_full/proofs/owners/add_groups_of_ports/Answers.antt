@@ -1,11 +1,11 @@
 use Rattle.std.proofs.Common.{◌++◌, ap, ◌∙◌}
 use Rattle.std.specs.List.{flat_map}
 use Rattle.std.specs.Prelude.{Some}
-use Rattle.nb_core.specs.declared.switch.Port.{Port}
-use Rattle.nb_net.specs.Network.{same}
+use Rattle.nb_records.specs.declared.switch.Port.{Port}
+use Rattle.nb_model.specs.Network.{same}
 use Rattle.nd_full.specs.inner.Owners.{groups_of_port, groups_on, ports_on}
 use Rattle.nd_full.proofs.Sound.{ports_rise}
-use Rattle.nb_table.proofs.Through.{all_left, these_after, these_fewer, these_next, these_whole}
+use Rattle.nv_table.proofs.Through.{all_left, these_after, these_fewer, these_next, these_whole}
 use Rattle.nd_full.proofs.owners.add_groups_of_ports.Goals as goal
 
 pub loop-port-init : goal.loop-port-init

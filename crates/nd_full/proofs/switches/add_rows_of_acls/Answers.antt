@@ -1,12 +1,12 @@
 use Rattle.std.proofs.Common.{◌++◌, ap, ◌∙◌}
 use Rattle.std.specs.List.{flat_map}
 use Rattle.std.specs.Prelude.{Some}
-use Rattle.nb_core.specs.declared.acl.Acl.{Acl}
-use Rattle.nb_net.specs.Network.{same}
+use Rattle.nb_records.specs.declared.acl.Acl.{Acl}
+use Rattle.nb_model.specs.Network.{same}
 use Rattle.nd_full.specs.inner.Made.{acl_unit, acl_units}
 use Rattle.nd_full.specs.inner.Owners.{acls_of}
 use Rattle.nd_full.proofs.Sound.{acls_rise}
-use Rattle.nb_table.proofs.Through.{all_left, these_after, these_fewer, these_next, these_whole}
+use Rattle.nv_table.proofs.Through.{all_left, these_after, these_fewer, these_next, these_whole}
 use Rattle.nd_full.proofs.switches.add_rows_of_acls.Goals as goal
 
 pub loop-acl-init : goal.loop-acl-init

@@ -1,8 +1,8 @@
 use Rattle.std.proofs.Common.{◌≡◌, ◌++◌, length}
 use Rattle.std.specs.List.{flat_map}
-use Rattle.nb_net.specs.Network.{same}
+use Rattle.nb_model.specs.Network.{same}
 use Rattle.nd_full.specs.inner.Made.{acl_unit, acl_units}
-use Rattle.nb_table.proofs.Through.{these_after}
+use Rattle.nv_table.proofs.Through.{these_after}
 use Rattle.nd_full.proofs.switches.add_rows_of_acls.Given as goal
 
 -- the rows so far, and then those of the ACLs that are left, are all

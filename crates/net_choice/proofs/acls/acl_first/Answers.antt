@@ -1,7 +1,7 @@
 use Rattle.std.proofs.Common.{◌≡◌, ap, ◌∙◌, rules}
 use Rattle.std.specs.Prelude.{option_map}
 use Rattle.std.specs.Option.{option_copied}
-use Rattle.nb_core.specs.declared.acl.Acl.{Acl}
+use Rattle.nb_records.specs.declared.acl.Acl.{Acl}
 use Rattle.net_choice.proofs.Applied.{found_decides}
 use Rattle.net_choice.specs.inner.Acls.{first_on}
 use Rattle.net_choice.proofs.acls.acl_first.Goals as goal

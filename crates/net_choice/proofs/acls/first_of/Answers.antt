@@ -1,7 +1,7 @@
 use Rattle.std.proofs.Common.{◌≡◌, Bool, Option, cond, ap, sym, ◌∙◌}
 use Rattle.std.specs.Option.{option_copied}
-use Rattle.nb_core.specs.declared.acl.Acl.{Acl}
-use Rattle.nb_net.specs.Network.{same}
+use Rattle.nb_records.specs.declared.acl.Acl.{Acl}
+use Rattle.nb_model.specs.Network.{same}
 use Rattle.net_choice.specs.inner.Acls.{first, first_taking}
 use Rattle.net_choice.proofs.Sound.{acls_rise}
 use Rattle.net_choice.proofs.Through.{fewer_left, fold_next, fold_whole}

@@ -1,5 +1,5 @@
-use Rattle.nb_core.specs.declared.switch.Port.{Port}
-use Rattle.nb_net.specs.Network.{same}
+use Rattle.nb_records.specs.declared.switch.Port.{Port}
+use Rattle.nb_model.specs.Network.{same}
 use Rattle.net_choice.specs.inner.Acls.{first_with}
 use Rattle.net_choice.proofs.Sound.{ports_rise}
 use Rattle.net_choice.proofs.Through.{fewer_left, fold_next, fold_whole}

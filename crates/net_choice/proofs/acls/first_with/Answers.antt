@@ -1,5 +1,5 @@
-use Rattle.nb_core.specs.declared.sets.Group.{Group}
-use Rattle.nb_net.specs.Belongs.{is_among}
+use Rattle.nb_records.specs.declared.sets.Group.{Group}
+use Rattle.nb_model.specs.Belongs.{is_among}
 use Rattle.net_choice.specs.inner.Acls.{first_of}
 use Rattle.net_choice.proofs.Sound.{groups_rise}
 use Rattle.net_choice.proofs.Through.{fewer_left, fold_next, fold_whole}

@@ -1,7 +1,7 @@
 use Rattle.std.proofs.Common.{◌≡◌, length}
 use Rattle.std.specs.Prelude.{fold}
 use Rattle.std.specs.Option.{option_copied}
-use Rattle.nb_net.specs.Belongs.{is_among}
+use Rattle.nb_model.specs.Belongs.{is_among}
 use Rattle.net_choice.specs.inner.Acls.{first_of, first_with}
 use Rattle.net_choice.proofs.Through.{left}
 use Rattle.net_choice.proofs.acls.first_with.Given as goal

@@ -1,7 +1,7 @@
 use Rattle.std.proofs.Common.{Result, sym, subst}
 use Rattle.std.proofs.lemmas.Result.{err_from_is_err_and, IfErr-weaker, on_ok_weaker}
-use Rattle.nb_core.specs.declared.switch.Switch.{Switch}
-use Rattle.nb_table.proofs.Through.{fewer_left}
+use Rattle.nb_records.specs.declared.switch.Switch.{Switch}
+use Rattle.nv_table.proofs.Through.{fewer_left}
 use Rattle.sb_rows.specs.Listing.{listing}
 use Rattle.nv_reply.proofs.Listings.{ListedOf, listed_first, listed_memory, listed_more, stopped_more, listed_end, stopped_end}
 use Rattle.nv_reply.proofs.listing.put_datapaths.Goals as goal

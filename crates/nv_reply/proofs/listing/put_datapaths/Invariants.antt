@@ -1,6 +1,6 @@
 use Rattle.std.proofs.Common.{length}
-use Rattle.nb_core.specs.declared.switch.Switch.{Switch}
-use Rattle.nb_table.proofs.Through.{left_after}
+use Rattle.nb_records.specs.declared.switch.Switch.{Switch}
+use Rattle.nv_table.proofs.Through.{left_after}
 use Rattle.nv_reply.proofs.Listings.{ListedTo}
 use Rattle.nv_reply.proofs.listing.put_datapaths.Given as goal
 

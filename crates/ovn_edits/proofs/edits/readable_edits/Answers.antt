@@ -1,6 +1,6 @@
 use Rattle.std.proofs.Common.{◌+◌, sym, subst}
 use Rattle.std.specs.List.{AllByRecursion}
-use Rattle.nb_net.specs.Readable.{IsReadable}
+use Rattle.nb_model.specs.Readable.{IsReadable}
 use Rattle.ovn_edits.proofs.Asked.{left_small, one_more}
 use Rattle.ovn_edits.proofs.edits.readable_edits.Goals as goal
 

@@ -1,6 +1,6 @@
 use Rattle.std.proofs.Common.{◌≡◌, drop, true}
 use Rattle.std.specs.List.{AllByRecursion, list_all}
-use Rattle.nb_net.specs.Readable.{IsReadable}
+use Rattle.nb_model.specs.Readable.{IsReadable}
 use Rattle.nb_words.specs.Commands.{is_small}
 use Rattle.ovn_edits.proofs.edits.readable_edits.Given as goal
 

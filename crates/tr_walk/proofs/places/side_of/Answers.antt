@@ -1,6 +1,6 @@
 use Rattle.std.proofs.Common.{ap, sym, ◌∙◌}
-use Rattle.nb_core.specs.declared.switch.Port.{Port}
-use Rattle.nb_table.specs.Table.{record_of}
+use Rattle.nb_records.specs.declared.switch.Port.{Port}
+use Rattle.nv_table.specs.Table.{record_of}
 use Rattle.net_meaning.specs.Places.{peer_side}
 use Rattle.tr_walk.proofs.PortNumbers.{side_of_router}
 use Rattle.tr_walk.proofs.places.side_of.Goals as goal

@@ -1,12 +1,12 @@
 use Rattle.std.proofs.Common.{◌++◌, ap, ◌∙◌}
 use Rattle.std.specs.List.{flat_map}
 use Rattle.std.specs.Prelude.{Some, None, filter}
-use Rattle.nb_core.specs.declared.switch.Port.{Port}
-use Rattle.nb_net.specs.Network.{same}
+use Rattle.nb_records.specs.declared.switch.Port.{Port}
+use Rattle.nb_model.specs.Network.{same}
 use Rattle.tr_walk.specs.inner.Sides.{numbers_in, ports_of}
 use Rattle.net_rows.proofs.Sound.{ports_rise}
 use Rattle.tr_walk.proofs.PortNumbers.{members}
-use Rattle.nb_table.proofs.Through.{all_left, these_after, these_fewer, these_next, these_whole}
+use Rattle.nv_table.proofs.Through.{all_left, these_after, these_fewer, these_next, these_whole}
 use Rattle.tr_walk.proofs.ports.ports_of.Goals as goal
 
 pub loop-port-init : goal.loop-port-init

@@ -1,8 +1,8 @@
 use Rattle.std.proofs.Common.{◌≡◌, ◌++◌, length}
 use Rattle.std.specs.List.{flat_map}
-use Rattle.nb_net.specs.Network.{same}
+use Rattle.nb_model.specs.Network.{same}
 use Rattle.tr_walk.specs.inner.Sides.{numbers_in, ports_of}
-use Rattle.nb_table.proofs.Through.{these_after}
+use Rattle.nv_table.proofs.Through.{these_after}
 use Rattle.tr_walk.proofs.ports.ports_of.Given as goal
 
 -- the numbers so far, and then those of the ports that are left, are all

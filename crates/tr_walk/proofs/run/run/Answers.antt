@@ -1,6 +1,6 @@
 use Rattle.std.proofs.Common.{◌≡◌, ◌++◌, false, true, map, append-nil, sym, ap, ◌∙◌}
 use Rattle.nv_base.specs.declared.object.ObjId.{ObjId}
-use Rattle.nb_net.specs.Names.{names}
+use Rattle.nb_model.specs.Names.{names}
 use Rattle.net_meaning.specs.Places.{datapath_at}
 use Rattle.tr_walk.specs.declared.event.Event.TheVariants as variants
 use Rattle.tr_walk.proofs.Runs.{no_hits, no_outcome, switch_runs}

@@ -1,7 +1,7 @@
 use Rattle.std.proofs.Common.{◌≡◌, ◌++◌, map, take, Some}
-use Rattle.nb_core.specs.declared.balancer.Vip.{Vip}
-use Rattle.nb_core.specs.declared.edit.Edit.TheVariants as edit
-use Rattle.nb_script.specs.Commands.{script}
+use Rattle.nb_records.specs.declared.balancer.Vip.{Vip}
+use Rattle.nb_records.specs.declared.edit.Edit.TheVariants as edit
+use Rattle.nb_text.specs.Commands.{script}
 use Rattle.nb_dump.proofs.records.LbScripted.put.Given as goal
 
 -- the commands of the VIPs so far come after what was there

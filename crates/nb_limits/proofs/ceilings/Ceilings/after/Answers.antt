@@ -1,6 +1,6 @@
 use Rattle.std.proofs.Common.{sym, subst}
 use Rattle.std.proofs.lemmas.Result.{IfOk-weaker}
-use Rattle.nb_net.specs.Effect.{effect}
+use Rattle.nb_model.specs.Effect.{effect}
 use Rattle.nb_limits.specs.Ceilings.{AreCeilings}
 use Rattle.nb_limits.proofs.KnownAfter.{but_limits, known_holds}
 use Rattle.nb_limits.proofs.ceilings.Ceilings.after.Goals as goal

@@ -1,0 +1,94 @@
+//! Ports that are removed from their switches and their groups.
+ghost use Rattle.std.specs.Prelude.{◌≡◌, IfOk, OnOk};
+ghost use Rattle.nb_model.specs.Effect.{without, without_ports};
+ghost use Rattle.nb_model.specs.Network.{same};
+ghost use Rattle.nb_model.specs.Sound.{AreInOrder};
+ghost use Rattle.nv_table.specs.Table.{NumbersRise, without_number};
+ghost use Rattle.nb_store.specs.Undo.{back_steps};
+ghost use Rattle.nb_change.specs.Leaving.{leave, leaving, without_switch};
+
+use crate::acl_removals::remove_acls;
+use nb_records::Group;
+use nb_store::{Place, Work};
+use nv_base::{Items, Kept, ObjId, OutOfMemory};
+use std::alloc::Global;
+
+/// Removes a port, which leaves its groups.
+pub(crate) fn remove_port(work: &mut Work, alloc: Global, port: ObjId) -> Result<(), OutOfMemory>
+    requires rise { NumbersRise (λ x. x.id) work.old.records.groups }
+    ensures ok { OnOk result (work.new.records ≡ record work.old.records { ports = without_number (λ x. x.id) port work.old.records.ports; groups = leaving port work.old.records.groups }) }
+    ensures back { back_steps work.new.steps.items work.new.records ≡ back_steps work.old.steps.items work.old.records }
+{
+    leave_groups(work, alloc, port)?;
+    work.remove(Place::Port(port))
+}
+
+/// Removes a switch, with its ports and its ACLs.
+pub(crate) fn remove_switch(
+    work: &mut Work,
+    alloc: Global,
+    switch: ObjId,
+) -> Result<(), OutOfMemory>
+    requires order { AreInOrder work.old.records }
+    ensures ok { OnOk result (work.new.records ≡ without_switch switch work.old.records) }
+    ensures back { back_steps work.new.steps.items work.new.records ≡ back_steps work.old.steps.items work.old.records }
+{
+    remove_ports_on(work, alloc, switch)?;
+    remove_acls(work, switch)?;
+    work.remove(Place::Switch(switch))
+}
+
+// Removes the ports of a switch, which leave their groups.
+fn remove_ports_on(work: &mut Work, alloc: Global, switch: ObjId) -> Result<(), OutOfMemory>
+    requires ports { NumbersRise (λ x. x.id) work.old.records.ports }
+    requires groups { NumbersRise (λ x. x.id) work.old.records.groups }
+    ensures ok { OnOk result (work.new.records ≡ without_ports (λ port. same switch port.switch) work.old.records) }
+    ensures back { back_steps work.new.steps.items work.new.records ≡ back_steps work.old.steps.items work.old.records }
+{
+    while let Some(port) = work.records.port_on(switch, None) {
+        let number = port.id;
+        remove_port(work, alloc, number)?;
+    }
+    Ok(())
+}
+
+// Takes a port out of the groups that list it.
+fn leave_groups(work: &mut Work, alloc: Global, port: ObjId) -> Result<(), OutOfMemory>
+    requires rise { NumbersRise (λ x. x.id) work.old.records.groups }
+    ensures ok { OnOk result (work.new.records ≡ record work.old.records { groups = leaving port work.old.records.groups }) }
+    ensures back { back_steps work.new.steps.items work.new.records ≡ back_steps work.old.steps.items work.old.records }
+{
+    while let Some(group) = work.records.group_with(port, None) {
+        let left = without_member(alloc, group, port)?;
+        work.store_group(alloc, left)?;
+    }
+    Ok(())
+}
+
+// The group without a port.
+fn without_member(alloc: Global, group: &Group, port: ObjId) -> Result<Group, OutOfMemory>
+    ensures { IfOk result (λ left. left ≡ leave port group.now) }
+{
+    Ok(Group {
+        id: group.id,
+        name: group.name.copy(alloc)?,
+        ports: others(alloc, group.ports.as_slice(), port)?,
+    })
+}
+
+/// The numbers but one, in their order.
+pub(crate) fn others(
+    alloc: Global,
+    numbers: &[ObjId],
+    number: ObjId,
+) -> Result<Items<ObjId>, OutOfMemory>
+    ensures { IfOk result (λ left. left ≡ without (same number) numbers.now) }
+{
+    let mut left = Items::new(alloc);
+    for other in numbers {
+        if number.0 != other.0 {
+            left.push(*other)?;
+        }
+    }
+    Ok(left)
+}

@@ -1,0 +1,41 @@
+-- The names that are built, and the options that queries take.
+use Rattle.std.specs.Prelude.{ℕ, Bool, false, List, [], ◌∷◌, Option, codes}
+use Rattle.std.specs.List.{find}
+use Rattle.std.specs.Str.{bytes_eq}
+use Rattle.nb_edit.specs.Forms.{form}
+use Rattle.nb_edit.specs.declared.verb.Verb.TheVariants.{LsAdd, LsDel, LspAdd, LspDel, LspSetAddresses, LspSetPortSecurity, LspSetEnabled, AclAdd, AclDel}
+use Rattle.nb_words.specs.declared.word.Word.{Word}
+use Rattle.nb_cmds.specs.declared.task.Question.{Question}
+use Rattle.nb_cmds.specs.declared.task.Question.TheVariants.{FlowList, Trace, Dump}
+use Rattle.nb_cmds.specs.declared.task.Task.{Task}
+use Rattle.nb_cmds.specs.declared.task.Task.TheVariants.{Edit, Query}
+
+-- all that is built: commands that edit, then queries
+unfoldable pub tasks : List Task
+tasks =
+    Edit LsAdd ∷ Edit LsDel ∷ Edit LspAdd ∷ Edit LspDel ∷ Edit LspSetAddresses ∷ Edit LspSetPortSecurity ∷ Edit LspSetEnabled ∷
+    Edit AclAdd ∷ Edit AclDel ∷ Query FlowList ∷ Query Trace ∷ Query Dump ∷ []
+
+-- the name of a command, or of a query
+abbrev pub task_name : Task → List ℕ
+task_name (Edit verb) = (form verb).name
+task_name (Query FlowList) = codes "lflow-list"
+task_name (Query Trace) = codes "trace"
+task_name (Query Dump) = codes "dump"
+
+-- this is its name
+abbrev pub is_named : Task → List ℕ → Bool
+is_named task name = bytes_eq (task_name task) name
+
+-- what the name asks for, where it is built
+abbrev pub task_of : List ℕ → Option Task
+task_of name = find (λ task. is_named task name) tasks
+
+-- the word is `--minimal`
+abbrev pub is_minimal : Word → Bool
+is_minimal word = bytes_eq word.text (codes "--minimal")
+
+-- the query takes the option: `--minimal` is that of `trace`, and others have none
+abbrev pub takes : Question → Word → Bool
+takes Trace word = is_minimal word
+takes _ word = false

@@ -1,0 +1,95 @@
+//! The one table of the names that are built, and the options that queries take.
+ghost use Rattle.std.specs.Prelude.{◌≡◌};
+ghost use Rattle.nb_cmds.specs.Tasks.{tasks, task_name, is_named, task_of, is_minimal, takes};
+
+use nb_edit::Verb;
+use nb_words::Word;
+
+/// What a query is about.
+#[derive(Clone, Copy)]
+pub enum Question {
+    /// `lflow-list`, of ovn-sbctl(8).
+    FlowList,
+    /// `trace`, of ovn-trace(8).
+    Trace,
+    /// `dump`, which is not from OVN.
+    Dump,
+}
+
+/// What a name asks for.
+#[derive(Clone, Copy)]
+pub enum Task {
+    /// A command that edits.
+    Edit(Verb),
+    /// A query.
+    Query(Question),
+}
+
+// The table.
+static TASKS: [Task; 12] = [
+    Task::Edit(Verb::LsAdd),
+    Task::Edit(Verb::LsDel),
+    Task::Edit(Verb::LspAdd),
+    Task::Edit(Verb::LspDel),
+    Task::Edit(Verb::LspSetAddresses),
+    Task::Edit(Verb::LspSetPortSecurity),
+    Task::Edit(Verb::LspSetEnabled),
+    Task::Edit(Verb::AclAdd),
+    Task::Edit(Verb::AclDel),
+    Task::Query(Question::FlowList),
+    Task::Query(Question::Trace),
+    Task::Query(Question::Dump),
+];
+
+impl Task {
+    /// All that is built.
+    #[tactic(auto, unfolding(crate::specs::Tasks::tasks))]
+    pub fn all() -> &'static [Task; 12]
+        ensures { result.now ≡ tasks }
+    {
+        &TASKS
+    }
+
+    /// Its name.
+    pub fn name(self) -> &'static str
+        ensures { result.now ≡ task_name self }
+    {
+        match self {
+            Task::Edit(verb) => verb.form().name,
+            Task::Query(Question::FlowList) => "lflow-list",
+            Task::Query(Question::Trace) => "trace",
+            Task::Query(Question::Dump) => "dump",
+        }
+    }
+
+    // Whether this is its name.
+    fn is_named(self, name: &[u8]) -> bool
+        ensures { result ≡ is_named self name.now }
+    {
+        self.name().as_bytes() == name
+    }
+}
+
+/// What the name asks for (ovn-nbctl(8), ovn-sbctl(8), ovn-trace(8)), where it is built.
+pub fn task_of(name: &[u8]) -> Option<Task>
+    ensures { result ≡ task_of name.now }
+{
+    Task::all().iter().find(|task| task.is_named(name)).copied()
+}
+
+/// Whether the word is `--minimal`.
+pub(crate) fn is_minimal(word: &Word) -> bool
+    ensures { result ≡ is_minimal word.now }
+{
+    word.text.as_slice() == b"--minimal".as_slice()
+}
+
+/// Whether the query takes the option (ovn-trace(8)).
+pub(crate) fn takes(question: Question, word: &Word) -> bool
+    ensures { result ≡ takes question word.now }
+{
+    match question {
+        Question::Trace => is_minimal(word),
+        Question::FlowList | Question::Dump => false,
+    }
+}

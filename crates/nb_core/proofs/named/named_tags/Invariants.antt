@@ -1,6 +1,0 @@
-use Rattle.std.proofs.Common.{◌≡◌, take}
-use Rattle.nb_core.specs.Tags.{named_tags}
-use Rattle.nb_core.proofs.named.named_tags.Given as goal
-
-abbrev pub invariant-loop-object : goal.invariant-loop-object
-invariant-loop-object l = l.tags ≡ named_tags l.name (take l.object-index l.listed)

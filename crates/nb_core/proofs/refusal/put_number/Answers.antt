@@ -1,7 +1,0 @@
-use Rattle.std.proofs.Common.{◌∙◌}
-use Rattle.nv_base.proofs.Growth.{on_err}
-use Rattle.nb_core.proofs.Fronts.{in_front}
-use Rattle.nb_core.proofs.refusal.put_number.Goals as goal
-
-pub returns-in_err-put_dec-clause-err : goal.returns-in_err-put_dec-clause-err
-returns-in_err-put_dec-clause-err c = on_err _ _ (in_front c.args.out.now.items _ _ c.args.out.now.ok.0 (_, c.in_err-put_dec.ensures.err ∙ c.in_ok-push.ensures.items))

@@ -1,6 +1,0 @@
-use Rattle.std.proofs.Common.{◌≡◌, ◌-◌, ◌^◌, take, map, sum, min}
-use Rattle.nb_core.specs.Tags.{guard_count}
-use Rattle.nb_core.proofs.weights.security_weight.Given as goal
-
-abbrev pub invariant-loop-guard : goal.invariant-loop-guard
-invariant-loop-guard l = l.total ≡ min (sum (map guard_count (take l.guard-index l.security))) (2 ^ 64 - 1)

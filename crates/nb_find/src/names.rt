@@ -1,0 +1,290 @@
+//! The names that an edit wants: of an object that is there, or of none.
+ghost use Rattle.std.specs.Prelude.{◌≡◌, IfOk, IfErr, OnOk, None, Some, is_some};
+ghost use Rattle.nb_model.specs.Network.{switch_named, router_named, port_named, router_port_named, lb_named, set_named, group_named};
+ghost use Rattle.nb_model.specs.Tests.{wants, if_exists, wants_free, wants_some, duplicate, duplicate_if, wants_switch, wants_router, wants_port, wants_router_port, wants_lb, wants_set, wants_group, wants_owner, is_datapath, is_any_port};
+
+use nb_records::{OwnerKind, Refusal};
+use nb_store::Records;
+use nv_base::{Name, ObjId};
+
+// The name of an object that is there, else the refusal: another kind has the name, or none has.
+fn wanted(name: Name, there: bool, other: bool) -> Result<Name, Refusal>
+    ensures ok { IfOk result (λ passed. (passed ≡ name) × (wants name there other ≡ None)) }
+    ensures refused { IfErr result (λ refusal. wants name there other ≡ Some refusal) }
+{
+    if there {
+        Ok(name)
+    } else if other {
+        Err(Refusal::WrongKind(name))
+    } else {
+        Err(Refusal::NoSuchObject(name))
+    }
+}
+
+// The same, where with `--if-exists` no object need be there.
+fn wanted_if(given: bool, name: Name, there: bool, other: bool) -> Result<Name, Refusal>
+    ensures ok { IfOk result (λ passed. (passed ≡ name) × (if_exists given (wants name there other) ≡ None)) }
+    ensures refused { IfErr result (λ refusal. if_exists given (wants name there other) ≡ Some refusal) }
+{
+    if given && !there && !other {
+        Ok(name)
+    } else {
+        wanted(name, there, other)
+    }
+}
+
+/// The name, which is free, else the refusal.
+pub fn free(name: Name, taken: bool) -> Result<Name, Refusal>
+    ensures ok { IfOk result (λ passed. (passed ≡ name) × (wants_free name taken ≡ None)) }
+    ensures refused { IfErr result (λ refusal. wants_free name taken ≡ Some refusal) }
+{
+    if taken {
+        Err(Refusal::Exists(name))
+    } else {
+        Ok(name)
+    }
+}
+
+/// The name of what has something to be taken away, else the refusal.
+pub fn with_some(name: Name, given: bool, there: bool) -> Result<Name, Refusal>
+    ensures ok { IfOk result (λ passed. (passed ≡ name) × (wants_some name given there ≡ None)) }
+    ensures refused { IfErr result (λ refusal. wants_some name given there ≡ Some refusal) }
+{
+    if given || there {
+        Ok(name)
+    } else {
+        Err(Refusal::NoSuchObject(name))
+    }
+}
+
+/// Refuses an object where there is one like it.
+pub fn no_duplicate(found: Option<ObjId>) -> Result<(), Refusal>
+    ensures ok { OnOk result (duplicate found ≡ None) }
+    ensures refused { IfErr result (λ refusal. duplicate found ≡ Some refusal) }
+{
+    match found {
+        None => Ok(()),
+        Some(number) => Err(Refusal::Duplicate(number)),
+    }
+}
+
+/// Refuses what is there already, if it is.
+pub fn duplicate_if(there: bool, number: Option<ObjId>) -> Result<(), Refusal>
+    ensures ok { OnOk result (duplicate_if there number ≡ None) }
+    ensures refused { IfErr result (λ refusal. duplicate_if there number ≡ Some refusal) }
+{
+    if there { no_duplicate(number) } else { Ok(()) }
+}
+
+/// Whether a switch has the name.
+pub fn is_switch(records: &Records, name: &Name) -> bool
+    ensures { result ≡ is_some (switch_named records.now name.now) }
+{
+    records.switch_named(name).is_some()
+}
+
+/// Whether a router has the name.
+pub fn is_router(records: &Records, name: &Name) -> bool
+    ensures { result ≡ is_some (router_named records.now name.now) }
+{
+    records.router_named(name).is_some()
+}
+
+/// Whether a port of a switch has the name.
+pub fn is_port(records: &Records, name: &Name) -> bool
+    ensures { result ≡ is_some (port_named records.now name.now) }
+{
+    records.port_named(name).is_some()
+}
+
+/// Whether a port of a router has the name.
+pub fn is_router_port(records: &Records, name: &Name) -> bool
+    ensures { result ≡ is_some (router_port_named records.now name.now) }
+{
+    records.router_port_named(name).is_some()
+}
+
+// Whether a load balancer has the name.
+fn is_lb(records: &Records, name: &Name) -> bool
+    ensures { result ≡ is_some (lb_named records.now name.now) }
+{
+    records.lb_named(name).is_some()
+}
+
+/// Whether an address set has the name.
+pub fn is_set(records: &Records, name: &Name) -> bool
+    ensures { result ≡ is_some (set_named records.now name.now) }
+{
+    records.set_named(name).is_some()
+}
+
+/// Whether a port group has the name.
+pub fn is_group(records: &Records, name: &Name) -> bool
+    ensures { result ≡ is_some (group_named records.now name.now) }
+{
+    records.group_named(name).is_some()
+}
+
+/// Whether a switch or a router has the name.
+pub fn is_datapath(records: &Records, name: &Name) -> bool
+    ensures { result ≡ is_datapath records.now name.now }
+{
+    is_switch(records, name) || is_router(records, name)
+}
+
+/// Whether a port of either kind has the name.
+pub fn is_any_port(records: &Records, name: &Name) -> bool
+    ensures { result ≡ is_any_port records.now name.now }
+{
+    is_port(records, name) || is_router_port(records, name)
+}
+
+/// The name, which a switch has, else the refusal.
+pub fn wants_switch(records: &Records, name: Name) -> Result<Name, Refusal>
+    ensures ok { IfOk result (λ passed. (passed ≡ name) × (wants_switch records.now name ≡ None)) }
+    ensures refused { IfErr result (λ refusal. wants_switch records.now name ≡ Some refusal) }
+{
+    let there = is_switch(records, &name);
+    let other = is_router(records, &name);
+    wanted(name, there, other)
+}
+
+/// The name, which a router has, else the refusal.
+pub fn wants_router(records: &Records, name: Name) -> Result<Name, Refusal>
+    ensures ok { IfOk result (λ passed. (passed ≡ name) × (wants_router records.now name ≡ None)) }
+    ensures refused { IfErr result (λ refusal. wants_router records.now name ≡ Some refusal) }
+{
+    let there = is_router(records, &name);
+    let other = is_switch(records, &name);
+    wanted(name, there, other)
+}
+
+/// The name, which a port of a switch has, else the refusal.
+pub fn wants_port(records: &Records, name: Name) -> Result<Name, Refusal>
+    ensures ok { IfOk result (λ passed. (passed ≡ name) × (wants_port records.now name ≡ None)) }
+    ensures refused { IfErr result (λ refusal. wants_port records.now name ≡ Some refusal) }
+{
+    let there = is_port(records, &name);
+    let other = is_router_port(records, &name);
+    wanted(name, there, other)
+}
+
+/// The name, which a port of a router has, else the refusal.
+pub fn wants_router_port(records: &Records, name: Name) -> Result<Name, Refusal>
+    ensures ok { IfOk result (λ passed. (passed ≡ name) × (wants_router_port records.now name ≡ None)) }
+    ensures refused { IfErr result (λ refusal. wants_router_port records.now name ≡ Some refusal) }
+{
+    let there = is_router_port(records, &name);
+    let other = is_port(records, &name);
+    wanted(name, there, other)
+}
+
+/// The name, which a load balancer has, else the refusal.
+pub fn wants_lb(records: &Records, name: Name) -> Result<Name, Refusal>
+    ensures ok { IfOk result (λ passed. (passed ≡ name) × (wants_lb records.now name ≡ None)) }
+    ensures refused { IfErr result (λ refusal. wants_lb records.now name ≡ Some refusal) }
+{
+    let there = is_lb(records, &name);
+    wanted(name, there, false)
+}
+
+/// The name, which an address set has, else the refusal.
+pub fn wants_set(records: &Records, name: Name) -> Result<Name, Refusal>
+    ensures ok { IfOk result (λ passed. (passed ≡ name) × (wants_set records.now name ≡ None)) }
+    ensures refused { IfErr result (λ refusal. wants_set records.now name ≡ Some refusal) }
+{
+    let there = is_set(records, &name);
+    wanted(name, there, false)
+}
+
+/// The name, which a port group has, else the refusal.
+pub fn wants_group(records: &Records, name: Name) -> Result<Name, Refusal>
+    ensures ok { IfOk result (λ passed. (passed ≡ name) × (wants_group records.now name ≡ None)) }
+    ensures refused { IfErr result (λ refusal. wants_group records.now name ≡ Some refusal) }
+{
+    let there = is_group(records, &name);
+    wanted(name, there, false)
+}
+
+/// The name, which an owner of ACLs has, else the refusal.
+pub fn wants_owner(records: &Records, of: Option<OwnerKind>, name: Name) -> Result<Name, Refusal>
+    ensures ok { IfOk result (λ passed. (passed ≡ name) × (wants_owner records.now of name ≡ None)) }
+    ensures refused { IfErr result (λ refusal. wants_owner records.now of name ≡ Some refusal) }
+{
+    match of {
+        Some(OwnerKind::Switch) => wants_switch(records, name),
+        Some(OwnerKind::Group) => wants_group(records, name),
+        None => {
+            let there = records.owner_id(None, &name).is_some();
+            let other = is_router(records, &name);
+            wanted(name, there, other)
+        }
+    }
+}
+
+/// The name, which a switch has or need not have, else the refusal.
+pub fn may_want_switch(records: &Records, name: Name, given: bool) -> Result<Name, Refusal>
+    ensures ok { IfOk result (λ passed. (passed ≡ name) × (if_exists given (wants_switch records.now name) ≡ None)) }
+    ensures refused { IfErr result (λ refusal. if_exists given (wants_switch records.now name) ≡ Some refusal) }
+{
+    let there = is_switch(records, &name);
+    let other = is_router(records, &name);
+    wanted_if(given, name, there, other)
+}
+
+/// The name, which a router has or need not have, else the refusal.
+pub fn may_want_router(records: &Records, name: Name, given: bool) -> Result<Name, Refusal>
+    ensures ok { IfOk result (λ passed. (passed ≡ name) × (if_exists given (wants_router records.now name) ≡ None)) }
+    ensures refused { IfErr result (λ refusal. if_exists given (wants_router records.now name) ≡ Some refusal) }
+{
+    let there = is_router(records, &name);
+    let other = is_switch(records, &name);
+    wanted_if(given, name, there, other)
+}
+
+/// The name, which a port of a switch has or need not have, else the refusal.
+pub fn may_want_port(records: &Records, name: Name, given: bool) -> Result<Name, Refusal>
+    ensures ok { IfOk result (λ passed. (passed ≡ name) × (if_exists given (wants_port records.now name) ≡ None)) }
+    ensures refused { IfErr result (λ refusal. if_exists given (wants_port records.now name) ≡ Some refusal) }
+{
+    let there = is_port(records, &name);
+    let other = is_router_port(records, &name);
+    wanted_if(given, name, there, other)
+}
+
+/// The name, which a port of a router has or need not have, else the refusal.
+pub fn may_want_router_port(records: &Records, name: Name, given: bool) -> Result<Name, Refusal>
+    ensures ok { IfOk result (λ passed. (passed ≡ name) × (if_exists given (wants_router_port records.now name) ≡ None)) }
+    ensures refused { IfErr result (λ refusal. if_exists given (wants_router_port records.now name) ≡ Some refusal) }
+{
+    let there = is_router_port(records, &name);
+    let other = is_port(records, &name);
+    wanted_if(given, name, there, other)
+}
+
+/// The name, which a load balancer has or need not have, else the refusal.
+pub fn may_want_lb(records: &Records, name: Name, given: bool) -> Result<Name, Refusal>
+    ensures ok { IfOk result (λ passed. (passed ≡ name) × (if_exists given (wants_lb records.now name) ≡ None)) }
+    ensures refused { IfErr result (λ refusal. if_exists given (wants_lb records.now name) ≡ Some refusal) }
+{
+    let there = is_lb(records, &name);
+    wanted_if(given, name, there, false)
+}
+
+/// The name, which an address set has or need not have, else the refusal.
+pub fn may_want_set(records: &Records, name: Name, given: bool) -> Result<Name, Refusal>
+    ensures ok { IfOk result (λ passed. (passed ≡ name) × (if_exists given (wants_set records.now name) ≡ None)) }
+    ensures refused { IfErr result (λ refusal. if_exists given (wants_set records.now name) ≡ Some refusal) }
+{
+    let there = is_set(records, &name);
+    wanted_if(given, name, there, false)
+}
+
+/// The name, which a port group has or need not have, else the refusal.
+pub fn may_want_group(records: &Records, name: Name, given: bool) -> Result<Name, Refusal>
+    ensures ok { IfOk result (λ passed. (passed ≡ name) × (if_exists given (wants_group records.now name) ≡ None)) }
+    ensures refused { IfErr result (λ refusal. if_exists given (wants_group records.now name) ≡ Some refusal) }
+{
+    let there = is_group(records, &name);
+    wanted_if(given, name, there, false)
+}

@@ -1,0 +1,12 @@
+pub mod Addresses
+pub mod Amounts
+pub mod Belongs
+pub mod Effect
+pub mod Names
+pub mod Network
+pub mod Readable
+pub mod Rises
+pub mod Sound
+pub mod Tests
+pub mod Transactions
+pub mod Plain

@@ -1,5 +1,0 @@
-use Rattle.nb_net.proofs.Whole.{edit_sound}
-use Rattle.nb_net.proofs.laws.edits_leave_sound_networks.Goals as goal
-
-pub returns : goal.returns
-returns c = edit_sound

@@ -1,5 +1,0 @@
-use Rattle.nb_net.proofs.RisesEdits.{edit_limit}
-use Rattle.nb_net.proofs.limits.edits_raise_few_kinds.Goals as goal
-
-pub returns : goal.returns
-returns c = edit_limit

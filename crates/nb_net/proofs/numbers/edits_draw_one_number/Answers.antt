@@ -1,5 +1,0 @@
-use Rattle.nb_net.proofs.Drawn.{edit_draws}
-use Rattle.nb_net.proofs.numbers.edits_draw_one_number.Goals as goal
-
-pub returns : goal.returns
-returns c = edit_draws

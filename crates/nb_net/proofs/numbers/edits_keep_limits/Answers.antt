@@ -1,5 +1,0 @@
-use Rattle.nb_net.proofs.Within.{edit_within}
-use Rattle.nb_net.proofs.numbers.edits_keep_limits.Goals as goal
-
-pub returns : goal.returns
-returns c = edit_within

@@ -1,5 +1,0 @@
-use Rattle.nb_net.proofs.EditsNumbered.{edit_numbered}
-use Rattle.nb_net.proofs.numbers.edits_keep_numbers.Goals as goal
-
-pub returns : goal.returns
-returns c = edit_numbered

@@ -1,6 +1,0 @@
-use Rattle.nb_net.proofs.ApartEdits.{apart}
-use Rattle.nb_net.proofs.Within.{edit_tested}
-use Rattle.nb_net.proofs.records.edits_keep_records_apart.Goals as goal
-
-pub returns : goal.returns
-returns c = λ net edit names before passes. apart net edit names before (edit_tested net edit passes)

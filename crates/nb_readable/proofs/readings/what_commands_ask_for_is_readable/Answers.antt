@@ -1,5 +1,0 @@
-use Rattle.nb_readable.proofs.CommandReadings.{command_readable}
-use Rattle.nb_readable.proofs.readings.what_commands_ask_for_is_readable.Goals as goal
-
-pub returns : goal.returns
-returns c = command_readable

@@ -1,0 +1,7 @@
+use Rattle.std.proofs.Common.{◌∙◌}
+use Rattle.nv_base.proofs.Growth.{on_err}
+use Rattle.nb_records.proofs.Fronts.{in_front}
+use Rattle.nb_records.proofs.refusal.put_word.Goals as goal
+
+pub returns-in_err-extend_from_slice-clause-err : goal.returns-in_err-extend_from_slice-clause-err
+returns-in_err-extend_from_slice-clause-err c = on_err _ _ (in_front c.args.out.now.items _ _ c.args.out.now.ok.0 (_, c.in_err-extend_from_slice.ensures.items ∙ c.in_ok-push.ensures.items))

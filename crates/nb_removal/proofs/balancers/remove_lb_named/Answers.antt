@@ -1,7 +1,0 @@
-use Rattle.std.proofs.Common.{ap, ◌∙◌}
-use Rattle.nb_net.specs.Effect.{without_lb}
-use Rattle.nb_removal.proofs.BalancerRemovals.{no_lb}
-use Rattle.nb_removal.proofs.balancers.remove_lb_named.Goals as goal
-
-pub returns-in-None-clause-ok : goal.returns-in-None-clause-ok
-returns-in-None-clause-ok c = no_lb c.args.work.now.records ∙ ap (λ lb. without_lb lb c.args.work.now.records) c.in-None.ensures

@@ -1,7 +1,0 @@
-use Rattle.std.proofs.Common.{◌≡◌, take}
-use Rattle.nb_net.specs.Effect.{without}
-use Rattle.nb_net.specs.Network.{same}
-use Rattle.nb_removal.proofs.switches.others.Given as goal
-
-abbrev pub invariant-loop-other : goal.invariant-loop-other
-invariant-loop-other l = l.left ≡ without (same l.number) (take l.other-index l.numbers)

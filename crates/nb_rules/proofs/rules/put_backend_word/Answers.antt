@@ -1,5 +1,0 @@
-use Rattle.nv_base.proofs.Growth.{grown_more, on_err}
-use Rattle.nb_rules.proofs.rules.put_backend_word.Goals as goal
-
-pub returns-in_err-put_backends-clause-err : goal.returns-in_err-put_backends-clause-err
-returns-in_err-put_backends-clause-err c = on_err _ _ (grown_more _ _ _ _ c.in_ok-push.ensures.items c.in_err-put_backends.ensures.err)

@@ -1,0 +1,7 @@
+use Rattle.std.proofs.Common.{ap, ◌∙◌}
+use Rattle.nb_model.specs.Network.{router_named}
+use Rattle.nb_store.proofs.Found.{router_found}
+use Rattle.nb_store.proofs.records.Records.router_named.Goals as goal
+
+pub returns : goal.returns
+returns c = c.tagged.ensures.record ∙ router_found c.args.name.now c.self.inside.routers ∙ ap (λ net. router_named net c.args.name.now) c.self.view_is

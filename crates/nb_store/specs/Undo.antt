@@ -1,0 +1,54 @@
+-- What undoing changes does to a network.
+use Rattle.std.specs.Prelude.{List, [], ◌∷◌}
+use Rattle.nb_model.specs.Network.{Network}
+use Rattle.nv_table.specs.Table.{with_exchanged, without_number}
+use Rattle.nb_store.specs.declared.step.Object.{Object}
+use Rattle.nb_store.specs.declared.step.Object.TheVariants as object
+use Rattle.nb_store.specs.declared.step.Place.{Place}
+use Rattle.nb_store.specs.declared.step.Place.TheVariants as place
+use Rattle.nb_store.specs.declared.step.Step.{Step}
+use Rattle.nb_store.specs.declared.step.Step.TheVariants.{Restore, Remove, Next}
+use Rattle.nb_store.specs.declared.undo.Undo.{Undo}
+
+-- the record in place of the one of its number
+abbrev pub restored : Object → Network → Network
+restored (object.Switch r) net = record net { switches = with_exchanged (λ x. x.id) r net.switches }
+restored (object.Port r) net = record net { ports = with_exchanged (λ x. x.id) r net.ports }
+restored (object.Router r) net = record net { routers = with_exchanged (λ x. x.id) r net.routers }
+restored (object.RouterPort r) net = record net { router_ports = with_exchanged (λ x. x.id) r net.router_ports }
+restored (object.Route r) net = record net { routes = with_exchanged (λ x. x.id) r net.routes }
+restored (object.Nat r) net = record net { nats = with_exchanged (λ x. x.id) r net.nats }
+restored (object.Lb r) net = record net { lbs = with_exchanged (λ x. x.id) r net.lbs }
+restored (object.Acl r) net = record net { acls = with_exchanged (λ x. x.id) r net.acls }
+restored (object.Set r) net = record net { sets = with_exchanged (λ x. x.id) r net.sets }
+restored (object.Group r) net = record net { groups = with_exchanged (λ x. x.id) r net.groups }
+restored (object.Binding r) net = record net { bindings = with_exchanged (λ x. x.id) r net.bindings }
+
+-- without the record of the number
+abbrev pub removed : Place → Network → Network
+removed (place.Switch n) net = record net { switches = without_number (λ x. x.id) n net.switches }
+removed (place.Port n) net = record net { ports = without_number (λ x. x.id) n net.ports }
+removed (place.Router n) net = record net { routers = without_number (λ x. x.id) n net.routers }
+removed (place.RouterPort n) net = record net { router_ports = without_number (λ x. x.id) n net.router_ports }
+removed (place.Route n) net = record net { routes = without_number (λ x. x.id) n net.routes }
+removed (place.Nat n) net = record net { nats = without_number (λ x. x.id) n net.nats }
+removed (place.Lb n) net = record net { lbs = without_number (λ x. x.id) n net.lbs }
+removed (place.Acl n) net = record net { acls = without_number (λ x. x.id) n net.acls }
+removed (place.Set n) net = record net { sets = without_number (λ x. x.id) n net.sets }
+removed (place.Group n) net = record net { groups = without_number (λ x. x.id) n net.groups }
+removed (place.Binding n) net = record net { bindings = without_number (λ x. x.id) n net.bindings }
+
+-- one change undone
+abbrev pub undone : Step → Network → Network
+undone (Restore r) net = restored r net
+undone (Remove n) net = removed n net
+undone (Next n) net = record net { next = n }
+
+-- changes undone, the last one first
+abbrev pub back_steps : List Step → Network → Network
+back_steps [] net = net
+back_steps (step ∷ steps) net = undone step (back_steps steps net)
+
+-- an edit undone
+abbrev pub back : Undo → Network → Network
+back undo net = back_steps undo.steps.items net

@@ -1,0 +1,82 @@
+//! What undoes a change of the tables.
+ghost use Rattle.std.specs.Prelude.{◌≡◌};
+ghost use Rattle.nb_store.specs.inner.Held.{place_of};
+
+use nb_records::{Acl, AddrSet, Binding, Group, Lb, Nat, Port, Route, Router, RouterPort, Switch};
+use nv_base::ObjId;
+use nv_table::Loose;
+
+/// A record of the network, with the room that it takes in its table.
+#[derive(Drop)]
+pub(crate) enum Object {
+    Switch(Loose<Switch>),
+    Port(Loose<Port>),
+    Router(Loose<Router>),
+    RouterPort(Loose<RouterPort>),
+    Route(Loose<Route>),
+    Nat(Loose<Nat>),
+    Lb(Loose<Lb>),
+    Acl(Loose<Acl>),
+    Set(Loose<AddrSet>),
+    Group(Loose<Group>),
+    Binding(Loose<Binding>),
+}
+
+/// The number of an object, by its kind.
+#[derive(Clone, Copy)]
+pub enum Place {
+    /// Of a switch.
+    Switch(ObjId),
+    /// Of a port of a switch.
+    Port(ObjId),
+    /// Of a router.
+    Router(ObjId),
+    /// Of a port of a router.
+    RouterPort(ObjId),
+    /// Of a static route.
+    Route(ObjId),
+    /// Of a NAT rule.
+    Nat(ObjId),
+    /// Of a load balancer.
+    Lb(ObjId),
+    /// Of an ACL.
+    Acl(ObjId),
+    /// Of an address set.
+    Set(ObjId),
+    /// Of a port group.
+    Group(ObjId),
+    /// Of a static binding.
+    Binding(ObjId),
+}
+
+/// What undoes one change. It takes no memory.
+#[derive(Drop)]
+pub(crate) enum Step {
+    /// Put this record in place of the one of its number, or back where there is none.
+    Restore(Object),
+    /// Remove the record of this number.
+    Remove(Place),
+    /// Set the next number to this one.
+    Next(u32),
+}
+
+impl Object {
+    /// Its kind and its number.
+    pub(crate) fn place(&self) -> Place
+        ensures { result ≡ place_of self.now }
+    {
+        match self {
+            Object::Switch(loose) => Place::Switch(loose.record().id),
+            Object::Port(loose) => Place::Port(loose.record().id),
+            Object::Router(loose) => Place::Router(loose.record().id),
+            Object::RouterPort(loose) => Place::RouterPort(loose.record().id),
+            Object::Route(loose) => Place::Route(loose.record().id),
+            Object::Nat(loose) => Place::Nat(loose.record().id),
+            Object::Lb(loose) => Place::Lb(loose.record().id),
+            Object::Acl(loose) => Place::Acl(loose.record().id),
+            Object::Set(loose) => Place::Set(loose.record().id),
+            Object::Group(loose) => Place::Group(loose.record().id),
+            Object::Binding(loose) => Place::Binding(loose.record().id),
+        }
+    }
+}

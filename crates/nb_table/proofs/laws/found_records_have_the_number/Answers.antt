@@ -1,6 +1,0 @@
-use Rattle.nb_table.proofs.Found.{own_record}
-use Rattle.nb_table.proofs.Undone.{found_number}
-use Rattle.nb_table.proofs.laws.found_records_have_the_number.Goals as goal
-
-pub returns : goal.returns
-returns g c = record { own = own_record g.R.Record.number; number = found_number g.R.Record.number }

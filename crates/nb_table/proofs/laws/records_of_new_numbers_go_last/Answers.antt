@@ -1,5 +1,0 @@
-use Rattle.nb_table.proofs.Undone.{put_last}
-use Rattle.nb_table.proofs.laws.records_of_new_numbers_go_last.Goals as goal
-
-pub returns : goal.returns
-returns g c = put_last g.R.Record.number

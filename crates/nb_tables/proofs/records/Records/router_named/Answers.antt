@@ -1,7 +1,0 @@
-use Rattle.std.proofs.Common.{ap, ◌∙◌}
-use Rattle.nb_net.specs.Network.{router_named}
-use Rattle.nb_tables.proofs.Found.{router_found}
-use Rattle.nb_tables.proofs.records.Records.router_named.Goals as goal
-
-pub returns : goal.returns
-returns c = c.tagged.ensures.record ∙ router_found c.args.name.now c.self.inside.routers ∙ ap (λ net. router_named net c.args.name.now) c.self.view_is

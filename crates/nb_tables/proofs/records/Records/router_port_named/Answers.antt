@@ -1,7 +1,0 @@
-use Rattle.std.proofs.Common.{ap, ◌∙◌}
-use Rattle.nb_net.specs.Network.{router_port_named}
-use Rattle.nb_tables.proofs.Found.{router_port_found}
-use Rattle.nb_tables.proofs.records.Records.router_port_named.Goals as goal
-
-pub returns : goal.returns
-returns c = c.tagged.ensures.record ∙ router_port_found c.args.name.now c.self.inside.router_ports ∙ ap (λ net. router_port_named net c.args.name.now) c.self.view_is

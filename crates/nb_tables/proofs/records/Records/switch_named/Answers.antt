@@ -1,7 +1,0 @@
-use Rattle.std.proofs.Common.{ap, ◌∙◌}
-use Rattle.nb_net.specs.Network.{switch_named}
-use Rattle.nb_tables.proofs.Found.{switch_found}
-use Rattle.nb_tables.proofs.records.Records.switch_named.Goals as goal
-
-pub returns : goal.returns
-returns c = c.tagged.ensures.record ∙ switch_found c.args.name.now c.self.inside.switches ∙ ap (λ net. switch_named net c.args.name.now) c.self.view_is

@@ -1,0 +1,21 @@
+use Rattle.nv_base.proofs.Growth.{appended_twice, grown_more, on_err}
+use Rattle.nb_text.proofs.Appends.{grown_by_none}
+use Rattle.nb_text.proofs.Lines.{line_of_three}
+use Rattle.nb_text.proofs.commands.put_lsp_set_options.Goals as goal
+
+pub returns-clause-ok : goal.returns-clause-ok
+returns-clause-ok c =
+    let option = appended_twice c.put_word.new.out.items _ _ _ _ c.in_ok-extend_from_slice-2.ensures.items c.in_ok-extend_from_slice-3.ensures.items in
+    line_of_three _ _ _ _ _ _ _ _ _ c.in_ok-extend_from_slice.ensures.items c.in_ok-put_word.ensures.ok option c.in_ok-push.ensures.items
+
+pub returns-in_err-put_word-clause-err : goal.returns-in_err-put_word-clause-err
+returns-in_err-put_word-clause-err c = on_err _ _ (grown_more _ _ _ _ c.in_ok-extend_from_slice.ensures.items c.in_err-put_word.ensures.err)
+
+pub returns-in_err-extend_from_slice-2-clause-err : goal.returns-in_err-extend_from_slice-2-clause-err
+returns-in_err-extend_from_slice-2-clause-err c = on_err _ _ (grown_more _ _ _ _ c.in_ok-extend_from_slice.ensures.items (grown_more _ _ _ _ c.in_ok-put_word.ensures.ok (grown_by_none _ _ c.in_err-extend_from_slice-2.ensures.items)))
+
+pub returns-in_err-extend_from_slice-3-clause-err : goal.returns-in_err-extend_from_slice-3-clause-err
+returns-in_err-extend_from_slice-3-clause-err c = on_err _ _ (grown_more _ _ _ _ c.in_ok-extend_from_slice.ensures.items (grown_more _ _ _ _ c.in_ok-put_word.ensures.ok (grown_more _ _ _ _ c.in_ok-extend_from_slice-2.ensures.items (grown_by_none _ _ c.in_err-extend_from_slice-3.ensures.items))))
+
+pub returns-in_err-push-clause-err : goal.returns-in_err-push-clause-err
+returns-in_err-push-clause-err c = on_err _ _ (grown_more _ _ _ _ c.in_ok-extend_from_slice.ensures.items (grown_more _ _ _ _ c.in_ok-put_word.ensures.ok (grown_more _ _ _ _ c.in_ok-extend_from_slice-2.ensures.items (grown_more _ _ _ _ c.in_ok-extend_from_slice-3.ensures.items (grown_by_none _ _ c.in_err-push.ensures.items)))))

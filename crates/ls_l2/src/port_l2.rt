@@ -2,7 +2,7 @@ ghost use Rattle.std.specs.Prelude.{◌≡◌, ◌++◌, ◌&&◌, ◌==◌, map
 ghost use Rattle.std.specs.List.{flat_map, list_any};
 ghost use Rattle.nb_model.specs.Belongs.{is_router_kind};
 ghost use Rattle.nb_model.specs.Readable.{macs_of};
-ghost use Rattle.net_meaning.specs.Switches.{is_router_word};
+ghost use Rattle.nb_model.specs.Ports.{is_router_word};
 ghost use Rattle.net_rows.specs.Lookup.{arp_rules, arp_rules_of, lookup_rule, more_macs, looked_up, host_rules, port_l2_rules};
 ghost use Rattle.net_rows.specs.Unit.{said_by, unit_of, unit_rows};
 ghost use Rattle.ls_l2.specs.inner.Macs.{own_macs, peer_macs};

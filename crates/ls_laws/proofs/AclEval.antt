@@ -31,7 +31,7 @@ use Rattle.sb_model.specs.declared.stage.Stage.TheVariants.{LsInAclEval, LsInLb,
 use Rattle.sb_rows.specs.Match.{select}
 use Rattle.sb_rows.specs.Row.{row_cmp}
 use Rattle.net_meaning.specs.AclVerdict.{decision, decided_by, decision_of, higher}
-use Rattle.net_meaning.specs.Applies.{acls, applies, balances}
+use Rattle.nb_model.specs.Applies.{acls, applies, balances}
 use Rattle.net_meaning.specs.Switches.{rejection}
 use Rattle.net_meaning.specs.declared.answer.Answer.TheVariants.{Reject}
 use Rattle.net_meaning.specs.declared.cause.Cause.TheVariants.{Acl as acl_cause}

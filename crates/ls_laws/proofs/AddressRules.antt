@@ -13,7 +13,8 @@ use Rattle.nb_model.specs.Addresses.{macs}
 use Rattle.nb_model.specs.Belongs.{is_router_kind, is_to_router, peer_router_port}
 use Rattle.nb_model.specs.Network.{Network}
 use Rattle.net_meaning.specs.Stateless.{IsStateless}
-use Rattle.net_meaning.specs.Switches.{all_macs, is_router_word, mac_of_peer}
+use Rattle.nb_model.specs.Ports.{is_router_word}
+use Rattle.net_meaning.specs.Switches.{all_macs, mac_of_peer}
 use Rattle.sb_model.specs.Make.{all_of, goes_on, is_port, steps}
 use Rattle.sb_model.specs.declared.stage.Stage.TheVariants.{LsInArpRsp}
 use Rattle.net_rows.specs.Build.{port_sec_input, port_l2_input, port_rules}

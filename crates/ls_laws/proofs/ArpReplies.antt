@@ -28,8 +28,9 @@ use Rattle.sb_model.specs.declared.stage.Stage.{Stage}
 use Rattle.sb_model.specs.declared.stage.Stage.TheVariants.{LsInArpRsp, LsInL2Lkup}
 use Rattle.sb_rows.specs.Match.{select}
 use Rattle.sb_rows.specs.Row.{row_cmp}
-use Rattle.net_meaning.specs.Applies.{balances}
-use Rattle.net_meaning.specs.Switches.{answering, has_ip, is_among_ips, is_answering, is_open, is_request, mac_with}
+use Rattle.nb_model.specs.Applies.{balances}
+use Rattle.nb_model.specs.Ports.{is_open}
+use Rattle.net_meaning.specs.Switches.{answering, has_ip, is_among_ips, is_answering, is_request, mac_with}
 use Rattle.net_rows.specs.Acls.{switch_acl_rules}
 use Rattle.net_rows.specs.Build.{has_unknown, rows, switch_rules}
 use Rattle.net_rows.specs.Lookup.{answers, requests, switch_l2_rules}

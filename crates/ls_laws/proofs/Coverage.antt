@@ -14,7 +14,8 @@ use Rattle.expr_core.specs.declared.comparison.Item.TheVariants.{One, Masked}
 use Rattle.expr_eval.specs.Relation.{equals_item}
 use Rattle.nb_records.specs.declared.switch.Guard.{Guard}
 use Rattle.sb_model.specs.Make.{in_decimal, as_ip4}
-use Rattle.net_meaning.specs.Guards.{size_of, has_host_part, covers, is_broadcast_of, is_for_many}
+use Rattle.nb_model.specs.Addresses.{size_of, has_host_part}
+use Rattle.net_meaning.specs.Guards.{covers, is_broadcast_of, is_for_many}
 use Rattle.net_rows.specs.PortSecurity.{item_of, broadcast_of, items_for_many}
 use Rattle.net_rows.proofs.Elements.{one_first, one_later}
 

@@ -16,7 +16,7 @@ use Rattle.expr_eval.specs.MatchMeaning.{holds, all_hold}
 use Rattle.expr_eval.specs.Relation.{equals_item}
 use Rattle.nb_records.specs.declared.switch.Guard.{Guard}
 use Rattle.sb_model.specs.Make.{in_hexadecimal, is_one_of, differs, is_none_of, one_of}
-use Rattle.net_meaning.specs.Applies.{is_empty}
+use Rattle.nb_model.specs.Applies.{is_empty}
 use Rattle.net_meaning.specs.Guards.{covers, is_dhcp_discover, is_ip6, tells_mac, lets_any_in, lets_nets_in, is_for_many, lets_nets_out}
 use Rattle.net_rows.specs.PortSecurity.{own_items, items_for_many, ip4_type, arp_type, ip6_type, tells, discovers}
 use Rattle.ls_laws.proofs.Coverage.{items_cover, items_are_for_many}

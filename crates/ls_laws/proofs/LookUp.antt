@@ -23,8 +23,9 @@ use Rattle.sb_model.specs.declared.stage.Stage.TheVariants.{LsInL2Lkup, LsInL2Un
 use Rattle.sb_rows.specs.Match.{select}
 use Rattle.sb_rows.specs.Row.{row_cmp}
 use Rattle.net_meaning.specs.Address.{is_multicast}
-use Rattle.net_meaning.specs.Applies.{balances}
-use Rattle.net_meaning.specs.Switches.{all_macs, has_mac, is_open, numbers, port_for, takes_unknown}
+use Rattle.nb_model.specs.Applies.{balances}
+use Rattle.nb_model.specs.Ports.{is_open, takes_unknown}
+use Rattle.net_meaning.specs.Switches.{all_macs, has_mac, numbers, port_for}
 use Rattle.net_meaning.specs.declared.cause.Cause.TheVariants.{Unknown}
 use Rattle.net_rows.specs.Acls.{switch_acl_rules}
 use Rattle.net_rows.specs.Build.{has_unknown, rows, switch_rules}

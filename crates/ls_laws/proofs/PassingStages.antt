@@ -11,7 +11,7 @@ use Rattle.sb_model.specs.declared.stage.Stage.{Stage}
 use Rattle.sb_model.specs.declared.stage.Stage.TheVariants.{LsInPreAcl, LsInPreStateful, LsInAclEval, LsInLb, LsInStateful, LsInArpRsp, LsOutPreAcl, LsOutPreStateful, LsOutAclEval, LsOutStateful, LsOutCheckPortSec}
 use Rattle.nb_records.specs.declared.switch.Switch.{Switch}
 use Rattle.nb_model.specs.Network.{Network}
-use Rattle.net_meaning.specs.Applies.{balances}
+use Rattle.nb_model.specs.Applies.{balances}
 use Rattle.net_rows.specs.Acls.{switch_acl_rules}
 use Rattle.net_rows.specs.Build.{has_unknown, switch_rules}
 use Rattle.net_rows.specs.Lookup.{switch_l2_rules}

@@ -19,7 +19,7 @@ use Rattle.nb_model.specs.Sound.{IsSound}
 use Rattle.nb_model.proofs.Readable.{of_port}
 use Rattle.nv_base.specs.Name.{is_object_name}
 use Rattle.net_meaning.specs.Address.{is_multicast}
-use Rattle.net_meaning.specs.Applies.{is_empty, balances}
+use Rattle.nb_model.specs.Applies.{is_empty, balances}
 use Rattle.net_meaning.specs.Guards.{lets_any_in, lets_nets_in, lets_in, lets_nets_out, lets_out, some_guard}
 use Rattle.net_meaning.specs.declared.cause.Cause.TheVariants.{PortSec}
 use Rattle.sb_model.specs.Make.{drops, goes_on, goes_out, equals, is_port, as_mac}

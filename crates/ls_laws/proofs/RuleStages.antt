@@ -16,7 +16,7 @@ use Rattle.nb_records.specs.declared.switch.Switch.{Switch}
 use Rattle.nb_model.specs.Belongs.{is_router_kind}
 use Rattle.nb_model.specs.Network.{Network}
 use Rattle.nb_model.specs.Readable.{is_priority}
-use Rattle.net_meaning.specs.Applies.{is_empty, tracks, balances}
+use Rattle.nb_model.specs.Applies.{is_empty, tracks, balances}
 use Rattle.net_meaning.specs.Stateless.{IsStateless}
 use Rattle.sb_model.specs.Stage.{stage_place}
 use Rattle.sb_model.specs.declared.stage.Stage.{Stage}

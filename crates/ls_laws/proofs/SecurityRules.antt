@@ -15,7 +15,7 @@ use Rattle.expr_core.specs.declared.typed.TypedAtom.{TypedAtom}
 use Rattle.nb_records.specs.declared.switch.Guard.{Guard}
 use Rattle.nb_records.specs.declared.switch.Port.{Port}
 use Rattle.nb_model.specs.Network.{Network}
-use Rattle.net_meaning.specs.Applies.{is_empty}
+use Rattle.nb_model.specs.Applies.{is_empty}
 use Rattle.sb_model.specs.Make.{takes_each, bit, is_predicate, equals, is_port, as_mac, all_of, goes_on, drops, goes_out}
 use Rattle.sb_model.specs.Stage.{stage_place}
 use Rattle.sb_model.specs.declared.stage.Stage.{Stage}

@@ -11,7 +11,7 @@ use Rattle.nb_records.specs.declared.acl.Acl.{Acl}
 use Rattle.nb_records.specs.declared.switch.Port.{Port}
 use Rattle.nb_records.specs.declared.switch.Switch.{Switch}
 use Rattle.nb_model.specs.Network.{Network}
-use Rattle.net_meaning.specs.Applies.{applies}
+use Rattle.nb_model.specs.Applies.{applies}
 use Rattle.net_rows.specs.Acls.{acl_on_rules}
 use Rattle.net_rows.specs.Build.{acl_on_input, switch_rules, port_rules, rows}
 use Rattle.net_rows.specs.Unit.{unit_of, unit_of_datapath, row_of}

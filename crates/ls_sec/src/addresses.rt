@@ -1,6 +1,6 @@
 //! The addresses of a guard, as the items of comparisons.
 ghost use Rattle.std.specs.Prelude.{◌≡◌, ◌+◌, ◌-◌, ◌*◌, ◌/◌, ◌^◌, ◌≤◌, ◌++◌, ◌&&◌, nat_lt, map, filter, IfOk, OnOk};
-ghost use Rattle.net_meaning.specs.Guards.{has_host_part};
+ghost use Rattle.nb_model.specs.Addresses.{has_host_part};
 ghost use Rattle.net_rows.specs.PortSecurity.{item_of, own_items, broadcast_of, items_for_many};
 
 use expr_core::Item;

@@ -25,38 +25,38 @@ use Rattle.nb_model.specs.Network.{Network}
 use Rattle.nb_text.specs.Commands.{policy}
 
 -- the object of a number, where there is one of the kind
-abbrev pub switch_of : Network → ObjId → Option Switch
-switch_of net n = record_of (λ s. s.id) n net.switches
+abbrev pub switch_numbered : Network → ObjId → Option Switch
+switch_numbered net n = record_of (λ s. s.id) n net.switches
 
-abbrev pub port_of : Network → ObjId → Option Port
-port_of net n = record_of (λ p. p.id) n net.ports
+abbrev pub port_numbered : Network → ObjId → Option Port
+port_numbered net n = record_of (λ p. p.id) n net.ports
 
-abbrev pub router_of : Network → ObjId → Option Router
-router_of net n = record_of (λ r. r.id) n net.routers
+abbrev pub router_numbered : Network → ObjId → Option Router
+router_numbered net n = record_of (λ r. r.id) n net.routers
 
-abbrev pub router_port_of : Network → ObjId → Option RouterPort
-router_port_of net n = record_of (λ p. p.id) n net.router_ports
+abbrev pub router_port_numbered : Network → ObjId → Option RouterPort
+router_port_numbered net n = record_of (λ p. p.id) n net.router_ports
 
-abbrev pub lb_of : Network → ObjId → Option Lb
-lb_of net n = record_of (λ lb. lb.id) n net.lbs
+abbrev pub lb_numbered : Network → ObjId → Option Lb
+lb_numbered net n = record_of (λ lb. lb.id) n net.lbs
 
-abbrev pub route_of : Network → ObjId → Option Route
-route_of net n = record_of (λ r. r.id) n net.routes
+abbrev pub route_numbered : Network → ObjId → Option Route
+route_numbered net n = record_of (λ r. r.id) n net.routes
 
-abbrev pub nat_of : Network → ObjId → Option Nat
-nat_of net n = record_of (λ r. r.id) n net.nats
+abbrev pub nat_numbered : Network → ObjId → Option Nat
+nat_numbered net n = record_of (λ r. r.id) n net.nats
 
-abbrev pub acl_of : Network → ObjId → Option Acl
-acl_of net n = record_of (λ a. a.id) n net.acls
+abbrev pub acl_numbered : Network → ObjId → Option Acl
+acl_numbered net n = record_of (λ a. a.id) n net.acls
 
-abbrev pub set_of : Network → ObjId → Option AddrSet
-set_of net n = record_of (λ s. s.id) n net.sets
+abbrev pub set_numbered : Network → ObjId → Option AddrSet
+set_numbered net n = record_of (λ s. s.id) n net.sets
 
-abbrev pub binding_of : Network → ObjId → Option Binding
-binding_of net n = record_of (λ b. b.id) n net.bindings
+abbrev pub binding_numbered : Network → ObjId → Option Binding
+binding_numbered net n = record_of (λ b. b.id) n net.bindings
 
-abbrev pub group_of : Network → ObjId → Option Group
-group_of net n = record_of (λ g. g.id) n net.groups
+abbrev pub group_numbered : Network → ObjId → Option Group
+group_numbered net n = record_of (λ g. g.id) n net.groups
 
 -- the name of an object, empty where there is none
 abbrev pub name_in : {R : Type 0} → (R → List ℕ) → Option R → List ℕ
@@ -64,22 +64,22 @@ name_in name None = []
 name_in name (Some r) = name r
 
 abbrev pub switch_name : Network → ObjId → List ℕ
-switch_name net n = name_in (λ s. s.name) (switch_of net n)
+switch_name net n = name_in (λ s. s.name) (switch_numbered net n)
 
 abbrev pub port_name : Network → ObjId → List ℕ
-port_name net n = name_in (λ p. p.name) (port_of net n)
+port_name net n = name_in (λ p. p.name) (port_numbered net n)
 
 abbrev pub router_name : Network → ObjId → List ℕ
-router_name net n = name_in (λ r. r.name) (router_of net n)
+router_name net n = name_in (λ r. r.name) (router_numbered net n)
 
 abbrev pub router_port_name : Network → ObjId → List ℕ
-router_port_name net n = name_in (λ p. p.name) (router_port_of net n)
+router_port_name net n = name_in (λ p. p.name) (router_port_numbered net n)
 
 abbrev pub lb_name : Network → ObjId → List ℕ
-lb_name net n = name_in (λ lb. lb.name) (lb_of net n)
+lb_name net n = name_in (λ lb. lb.name) (lb_numbered net n)
 
 abbrev pub group_name : Network → ObjId → List ℕ
-group_name net n = name_in (λ g. g.name) (group_of net n)
+group_name net n = name_in (λ g. g.name) (group_numbered net n)
 
 -- those of a switch port's settings that are not the first ones
 abbrev pub kind_edits : List ℕ → PortKind → List Edit
@@ -135,7 +135,7 @@ owned_edits net a (Some s) = edit.AclAdd s.name a.way a.priority a.matching a.ve
 owned_edits net a None = edit.AclAdd (group_name net a.owner) a.way a.priority a.matching a.verdict false (Some owner_kind.Group) ∷ []
 
 abbrev pub acl_edits : Network → Acl → List Edit
-acl_edits net a = owned_edits net a (switch_of net a.owner)
+acl_edits net a = owned_edits net a (switch_numbered net a.owner)
 
 abbrev pub set_edits : Network → AddrSet → List Edit
 set_edits net s = edit.AsAdd s.name s.members ∷ []
@@ -155,19 +155,19 @@ edits_for edits (Some r) = edits r
 -- what makes the switch, the router or the port of a number
 abbrev pub datapath_edits : Network → ObjId → List Edit
 datapath_edits net n =
-    edits_for (switch_edits net) (switch_of net n) ++ edits_for (port_edits net) (port_of net n) ++ edits_for (router_edits net) (router_of net n)
-    ++ edits_for (router_port_edits net) (router_port_of net n)
+    edits_for (switch_edits net) (switch_numbered net n) ++ edits_for (port_edits net) (port_numbered net n) ++ edits_for (router_edits net) (router_numbered net n)
+    ++ edits_for (router_port_edits net) (router_port_numbered net n)
 
 -- what makes the route, the NAT rule, the load balancer or the ACL of a number
 abbrev pub rule_edits : Network → ObjId → List Edit
 rule_edits net n =
-    edits_for (route_edits net) (route_of net n) ++ edits_for (nat_edits net) (nat_of net n) ++ edits_for (lb_edits net) (lb_of net n)
-    ++ edits_for (acl_edits net) (acl_of net n)
+    edits_for (route_edits net) (route_numbered net n) ++ edits_for (nat_edits net) (nat_numbered net n) ++ edits_for (lb_edits net) (lb_numbered net n)
+    ++ edits_for (acl_edits net) (acl_numbered net n)
 
 -- what makes the set, the group or the binding of a number
 abbrev pub listed_edits : Network → ObjId → List Edit
 listed_edits net n =
-    edits_for (set_edits net) (set_of net n) ++ edits_for (group_edits net) (group_of net n) ++ edits_for (binding_edits net) (binding_of net n)
+    edits_for (set_edits net) (set_numbered net n) ++ edits_for (group_edits net) (group_numbered net n) ++ edits_for (binding_edits net) (binding_numbered net n)
 
 -- what makes the object of a number
 abbrev pub object_edits : Network → ObjId → List Edit
@@ -195,6 +195,6 @@ numbers_below n = map (λ number. record { 0 = number }) (range_with_len 1 (n - 
 -- the edits of a dump: by rising number what makes each object, then the members of groups, then load balancers where they are attached
 abbrev pub dump_edits : Network → List Edit
 dump_edits net =
-    flat_map (object_edits net) (numbers_below net.next) ++ flat_map (λ n. edits_for (members_edits net) (group_of net n)) (numbers_below net.next)
-    ++ flat_map (λ n. edits_for (switch_lb_edits net) (switch_of net n)) (numbers_below net.next)
-    ++ flat_map (λ n. edits_for (router_lb_edits net) (router_of net n)) (numbers_below net.next)
+    flat_map (object_edits net) (numbers_below net.next) ++ flat_map (λ n. edits_for (members_edits net) (group_numbered net n)) (numbers_below net.next)
+    ++ flat_map (λ n. edits_for (switch_lb_edits net) (switch_numbered net n)) (numbers_below net.next)
+    ++ flat_map (λ n. edits_for (router_lb_edits net) (router_numbered net n)) (numbers_below net.next)

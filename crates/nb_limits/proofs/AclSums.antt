@@ -9,7 +9,8 @@ use Rattle.nb_records.specs.declared.sets.Group.{Group}
 use Rattle.nb_records.specs.declared.switch.Switch.{Switch}
 use Rattle.nb_records.specs.declared.refusal.Kind.TheVariants as kind
 use Rattle.nb_model.specs.Amounts.{amount, total}
-use Rattle.nb_model.specs.Belongs.{is_among, switches_of_acl}
+use Rattle.nb_model.specs.Applies.{switches_of_acl}
+use Rattle.nb_model.specs.Belongs.{is_among}
 use Rattle.nb_model.specs.Network.{Network, same}
 use Rattle.nb_model.specs.Readable.{are_apart}
 use Rattle.nb_model.specs.Sound.{switch_ids, port_ids, router_ids, router_port_ids, route_ids, nat_ids, lb_ids, acl_ids, set_ids, group_ids, binding_ids}

@@ -4,16 +4,12 @@ use Rattle.std.proofs.lemmas.Bool.{ltb-true}
 use Rattle.std.proofs.lemmas.Bool.Decides.{nat_tests}
 use Rattle.std.proofs.lemmas.List.Sums.{sum_by-cons}
 use Rattle.std.specs.Prelude.{sum_by}
-use Rattle.nb_records.specs.declared.switch.Addr.{Addr}
-use Rattle.nb_records.specs.declared.switch.Addr.TheVariants as addr
 use Rattle.nb_records.specs.declared.switch.Port.{Port}
-use Rattle.nb_records.specs.Tags.{port_weight, most}
-use Rattle.nb_records.specs.Tags as tags
-use Rattle.nb_model.specs.Amounts.{total, address_count}
+use Rattle.nb_records.specs.Tags.{address_count, guard_count, port_weight, most}
+use Rattle.nb_model.specs.Amounts.{total}
 use Rattle.nb_model.proofs.Totals.{total_cons}
 use Rattle.nb_limits.specs.inner.Within.{up_to}
 use Rattle.nb_limits.proofs.Sums.{over}
-use Rattle.nb_limits.proofs.Swapped.{total_same}
 
 same_cut : {X : Type 0} (f g : X → ℕ) (cap : ℕ) (xs : List X) → ((x : X) → g x ≡ min (f x) cap) → min (sum_by g xs) cap ≡ min (total f xs) cap
 same_cut f g cap [] cut = refl
@@ -40,15 +36,9 @@ same_up_to bound cap a b low same = by (nat_lt bound b) refl
     by true e = over bound a (more (ltb-true bound b e)) ∙ sym (over bound b (ltb-true bound b e))
     by false e = ap (up_to bound) (whole (less e))
 
-same_counts : (own : Addr) → tags.address_count own ≡ address_count own
-same_counts addr.Unknown = refl
-same_counts addr.Router = refl
-same_counts (addr.Host mac ips) = refl
-
 pub addresses_up_to : (ports : List Port) → up_to 32768 (sum_by (λ port. (port_weight port).0) ports) ≡ up_to 32768 (total (λ port. total address_count port.addresses) ports)
 addresses_up_to ports =
-    same_up_to 32768 most _ _ (omega arith)
-    (same_cut (λ port. total address_count port.addresses) (λ port. (port_weight port).0) most ports (λ port. ap (λ n. min n most) (total_same tags.address_count address_count port.addresses same_counts)))
+    same_up_to 32768 most _ _ (omega arith) (same_cut (λ port. total address_count port.addresses) (λ port. (port_weight port).0) most ports (λ port. refl))
 
-pub security_up_to : (ports : List Port) → up_to 32768 (sum_by (λ port. (port_weight port).1) ports) ≡ up_to 32768 (total (λ port. total tags.guard_count port.security) ports)
-security_up_to ports = same_up_to 32768 most _ _ (omega arith) (same_cut (λ port. total tags.guard_count port.security) (λ port. (port_weight port).1) most ports (λ port. refl))
+pub security_up_to : (ports : List Port) → up_to 32768 (sum_by (λ port. (port_weight port).1) ports) ≡ up_to 32768 (total (λ port. total guard_count port.security) ports)
+security_up_to ports = same_up_to 32768 most _ _ (omega arith) (same_cut (λ port. total guard_count port.security) (λ port. (port_weight port).1) most ports (λ port. refl))

@@ -14,7 +14,8 @@ use Rattle.nb_records.specs.declared.refusal.Kind.{Kind}
 use Rattle.nb_records.specs.declared.refusal.Kind.TheVariants as kind
 use Rattle.nb_records.specs.declared.refusal.Refusal.TheVariants.{Limit}
 use Rattle.nb_model.specs.Amounts.{amount, bound, kinds}
-use Rattle.nb_model.specs.Belongs.{owner_id, switches_of_acl}
+use Rattle.nb_model.specs.Applies.{switches_of_acl}
+use Rattle.nb_model.specs.Belongs.{owner_id}
 use Rattle.nb_model.specs.Effect.{effect, where_there, add_acl, new_vip}
 use Rattle.nb_model.specs.Network.{Network, next_number}
 use Rattle.nb_model.specs.Sound.{IsSound}

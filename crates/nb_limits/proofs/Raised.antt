@@ -10,7 +10,8 @@ use Rattle.nb_records.specs.declared.refusal.Kind.TheVariants as kind
 use Rattle.nb_records.specs.declared.sets.Group.{Group}
 use Rattle.nb_records.specs.declared.switch.Switch.{Switch}
 use Rattle.nb_model.specs.Amounts.{amount, total}
-use Rattle.nb_model.specs.Belongs.{is_among, switches_of_acl}
+use Rattle.nb_model.specs.Applies.{switches_of_acl}
+use Rattle.nb_model.specs.Belongs.{is_among}
 use Rattle.nb_model.specs.Effect.{add_acl, acl_like}
 use Rattle.nb_model.specs.Network.{Network, same}
 use Rattle.nb_model.specs.Sound.{group_ids}

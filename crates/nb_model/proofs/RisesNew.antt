@@ -12,8 +12,10 @@ use Rattle.nb_records.specs.declared.sets.Group.{Group}
 use Rattle.nb_records.specs.declared.switch.Port.{Port}
 use Rattle.nb_records.specs.declared.switch.PortKind.TheVariants as port_kind
 use Rattle.nb_records.specs.declared.switch.Switch.{Switch}
-use Rattle.nb_model.specs.Amounts.{total, address_count, vips_of}
-use Rattle.nb_model.specs.Belongs.{is_among, switches_of_acl}
+use Rattle.nb_records.specs.Tags.{address_count}
+use Rattle.nb_model.specs.Amounts.{total, vips_of}
+use Rattle.nb_model.specs.Applies.{switches_of_acl}
+use Rattle.nb_model.specs.Belongs.{is_among}
 use Rattle.nb_model.specs.Effect.{add_switch, add_router, add_port}
 use Rattle.nb_model.specs.Network.{Network, next_number, same}
 use Rattle.nb_model.specs.Sound.{AreNumbered, Refer, switch_ids, port_ids, group_ids}

@@ -18,8 +18,10 @@ use Rattle.nb_records.specs.declared.sets.AddrSet.{AddrSet}
 use Rattle.nb_records.specs.declared.sets.Group.{Group}
 use Rattle.nb_records.specs.declared.switch.Port.{Port}
 use Rattle.nb_records.specs.declared.switch.Switch.{Switch}
-use Rattle.nb_model.specs.Amounts.{total, greatest, address_count, vips_of}
-use Rattle.nb_model.specs.Belongs.{is_among, switches_of_acl}
+use Rattle.nb_records.specs.Tags.{address_count}
+use Rattle.nb_model.specs.Amounts.{total, greatest, vips_of}
+use Rattle.nb_model.specs.Applies.{switches_of_acl}
+use Rattle.nb_model.specs.Belongs.{is_among}
 use Rattle.nb_model.specs.Effect.{without}
 use Rattle.nb_model.specs.Network.{Network, same}
 use Rattle.nb_model.proofs.AnyOf.{any_kept, any_as, any_changed, all_true}

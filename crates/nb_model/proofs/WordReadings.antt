@@ -17,7 +17,7 @@ use Rattle.nb_records.specs.declared.router.NatKind.{NatKind}
 use Rattle.nb_records.specs.declared.router.NatKind.TheVariants as nat
 use Rattle.nb_records.specs.declared.sets.Member.TheVariants as member
 use Rattle.nb_read.specs.Then.{and_then}
-use Rattle.nb_read.specs.Readings.{object_name, set_name, is_set_name, owner_name, is_owner_name, is_unicast, unicast, mac, no_address, ip, prefix, cleared, network, nexthop, logical, in_ports, port_of, frontend, frontend_of, frontend_around, vip, priority, member_of}
+use Rattle.nb_read.specs.Readings.{object_name, set_name, is_set_name, owner_name, is_owner_name, is_unicast, unicast, mac, no_address, ip, prefix, cleared, network, nexthop, logical, in_ports, service_port, frontend, frontend_of, frontend_around, vip, priority, member_of}
 use Rattle.nv_base.specs.Block.{Block}
 use Rattle.nv_base.specs.Bytes.{around_first, octet_of, pair_of, number_of_parts}
 use Rattle.nv_base.specs.Ip4.{address, ip4_of}
@@ -168,7 +168,7 @@ logical_given nat.DnatAndSnat number text = one_given number text
 
 -- Load balancers.
 
-port_given : (text : List ℕ) → IfSome (port_of text) (λ n. IsTrue (is_service (Some n)))
+port_given : (text : List ℕ) → IfSome (service_port text) (λ n. IsTrue (is_service (Some n)))
 port_given text = by (below 65536 (decimal_of text)) (below_given 65536 (decimal_of text))
   where
     by : (o : Option ℕ) → IfSome o (λ n. IsTrue (nat_lt n 65536)) → IfSome (in_ports o) (λ n. IsTrue (is_service (Some n)))
@@ -184,7 +184,7 @@ frontend_of_given text = by (around_first 58 text)
   where
     by : (parts : Option (List ℕ × List ℕ)) → IfSome (frontend_around text parts) (λ f. IsTrue (is_frontend f))
     by None = frontend_given None (ip4_of text) refl (ip4_of_given text)
-    by (Some parts) = there_after (λ n. IsTrue (is_service (Some n))) (λ f. IsTrue (is_frontend f)) (λ p. frontend (Some p) (ip4_of parts.0)) (port_of parts.1) (port_given parts.1)
+    by (Some parts) = there_after (λ n. IsTrue (is_service (Some n))) (λ f. IsTrue (is_frontend f)) (λ p. frontend (Some p) (ip4_of parts.0)) (service_port parts.1) (port_given parts.1)
         (λ n serves. frontend_given (Some n) (ip4_of parts.0) serves (ip4_of_given parts.0))
 
 pub vip_given : (number : ℕ) (text : List ℕ) → IfOk (vip number text) (λ f. IsTrue (is_frontend f))

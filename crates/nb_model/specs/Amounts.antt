@@ -12,7 +12,9 @@ use Rattle.nb_records.specs.declared.switch.Addr.TheVariants as addr
 use Rattle.nb_records.specs.declared.switch.Port.{Port}
 use Rattle.nv_base.specs.declared.object.ObjId.{ObjId}
 use Rattle.nb_model.specs.Network.{Network, same}
-use Rattle.nb_model.specs.Belongs.{is_to_router, is_among, peer_port, peer_router_port, switches_of_acl}
+use Rattle.nb_model.specs.Applies.{switches_of_acl}
+use Rattle.nb_model.specs.Belongs.{is_to_router, is_among, peer_port, peer_router_port}
+use Rattle.nb_records.specs.Tags.{address_count, guard_count}
 
 -- the sum of an amount over a list
 abbrev pub total : {X : Type 0} → (X → ℕ) → List X → ℕ
@@ -28,12 +30,6 @@ abbrev pub ip_count : Addr → ℕ
 ip_count addr.Unknown = 0
 ip_count addr.Router = 0
 ip_count (addr.Host mac ips) = length ips
-
--- its MAC and its IPv4 addresses
-abbrev pub address_count : Addr → ℕ
-address_count addr.Unknown = 0
-address_count addr.Router = 0
-address_count (addr.Host mac ips) = 1 + length ips
 
 -- the addresses of one router port's networks, or none
 abbrev pub net_count : Option RouterPort → ℕ
@@ -61,7 +57,7 @@ amount net kind.Port = length net.ports
 amount net kind.RouterPort = length net.router_ports
 amount net kind.Network = total (λ port. length port.nets) net.router_ports
 amount net kind.Address = total (λ port. total address_count port.addresses) net.ports
-amount net kind.Security = total (λ port. total (λ guard. 1 + length guard.nets) port.security) net.ports
+amount net kind.Security = total (λ port. total guard_count port.security) net.ports
 amount net kind.Acl = length net.acls
 amount net kind.AclSwitch = total (λ acl. length (switches_of_acl net acl)) net.acls
 amount net kind.Route = length net.routes

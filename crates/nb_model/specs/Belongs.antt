@@ -123,9 +123,3 @@ is_port port (Some other) = same port.id other.id
 -- The peer of a port of kind Router: the router port whose peer it is.
 abbrev pub peer_router_port : Network → Port → Option RouterPort
 peer_router_port net port = find (λ other. is_port port (peer_port net other)) net.router_ports
-
--- the switches to which an ACL applies: its owner, or each switch that has a port of the group that owns it
-abbrev pub switches_of_acl : Network → Acl → List Switch
-switches_of_acl net acl =
-    filter (λ switch. same switch.id acl.owner
-    || list_any (λ group. same group.id acl.owner && list_any (λ port. same port.switch switch.id && is_among port.id group.ports) net.ports) net.groups) net.switches

@@ -1,12 +1,14 @@
 pub mod Addresses
 pub mod Amounts
+pub mod Applies
 pub mod Belongs
 pub mod Effect
 pub mod Names
 pub mod Network
+pub mod Plain
+pub mod Ports
 pub mod Readable
 pub mod Rises
 pub mod Sound
 pub mod Tests
 pub mod Transactions
-pub mod Plain

@@ -135,8 +135,8 @@ abbrev pub in_ports : Option ℕ → Option ℕ
 in_ports None = None
 in_ports (Some n) = if n == 0 then None else Some n
 
-abbrev pub port_of : List ℕ → Option ℕ
-port_of text = in_ports (below 65536 (decimal_of text))
+abbrev pub service_port : List ℕ → Option ℕ
+service_port text = in_ports (below 65536 (decimal_of text))
 
 -- where connections go: an address, and a port where there is one
 abbrev pub frontend : Option ℕ → Option Ip4 → Option Frontend
@@ -149,7 +149,7 @@ alone text = frontend None (ip4_of text)
 
 -- an address and a port
 abbrev pub with_port : List ℕ → List ℕ → Option Frontend
-with_port addr port = option_and_then (λ p. frontend (Some p) (ip4_of addr)) (port_of port)
+with_port addr port = option_and_then (λ p. frontend (Some p) (ip4_of addr)) (service_port port)
 
 -- `IP`, or what is before and after the first `:` of `IP:PORT`
 abbrev pub frontend_around : List ℕ → Option (List ℕ × List ℕ) → Option Frontend

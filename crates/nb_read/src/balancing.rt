@@ -6,7 +6,7 @@ ghost use Rattle.std.specs.List.{slice_split};
 ghost use Rattle.nv_base.specs.Bytes.{around_first};
 ghost use Rattle.nv_base.specs.Number.{below, decimal_of};
 ghost use Rattle.nb_read.specs.Readings as readings;
-ghost use Rattle.nb_read.specs.Readings.{port_of, frontend_of, vip, has_port_as, backend, backends_of, backends};
+ghost use Rattle.nb_read.specs.Readings.{service_port, frontend_of, vip, has_port_as, backend, backends_of, backends};
 
 use crate::words::proto;
 use nb_records::{Backend, Frontend, Proto, Refusal};
@@ -36,8 +36,8 @@ fn small_decimal(text: &[u8]) -> Option<u16>
 }
 
 // A port of TCP or UDP: a decimal from 1 to 65,535.
-fn port_of(text: &[u8]) -> Option<u16>
-    ensures { result ≡ port_of text.now }
+fn service_port(text: &[u8]) -> Option<u16>
+    ensures { result ≡ service_port text.now }
 {
     match small_decimal(text) {
         Some(port) if port != 0 => Some(port),
@@ -49,7 +49,7 @@ fn port_of(text: &[u8]) -> Option<u16>
 fn with_port(addr: &[u8], port: &[u8]) -> Option<Frontend>
     ensures { result ≡ readings.with_port addr.now port.now }
 {
-    let port = port_of(port)?;
+    let port = service_port(port)?;
     match read_ip4(addr) {
         Ok(addr) => Some(Frontend {
             addr,

@@ -11,7 +11,7 @@ use Rattle.nb_records.specs.declared.switch.Switch.{Switch}
 use Rattle.nb_model.specs.Belongs.{is_among}
 use Rattle.nb_model.specs.Network.{Network, same}
 use Rattle.nb_model.specs.Sound.{IsSound}
-use Rattle.net_meaning.specs.Applies.{applies, tracks}
+use Rattle.nb_model.specs.Applies.{applies, tracks}
 use Rattle.net_rows.specs.Acls.{acl_on_rules, switch_acl_rules}
 use Rattle.net_rows.specs.Build.{acl_on_input, acl_on_rows, acl_rows, all_rows, port_l2_input, port_rows, port_sec_input, switch_acl_input, switch_l2_input, switch_rows}
 use Rattle.net_rows.specs.LoadBalancers.{switch_lb_rules}

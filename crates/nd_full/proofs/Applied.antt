@@ -14,8 +14,8 @@ use Rattle.nb_records.specs.declared.switch.Switch.{Switch}
 use Rattle.nb_model.specs.Belongs.{is_among}
 use Rattle.nb_model.specs.Network.{Network, same}
 use Rattle.nv_table.specs.Table.{NumbersRise, record_after, record_of}
-use Rattle.net_meaning.specs.Applies.{applies, balances, is_empty, is_related}
-use Rattle.net_meaning.specs.Switches.{is_open, takes_unknown}
+use Rattle.nb_model.specs.Applies.{applies, balances, is_empty, is_related}
+use Rattle.nb_model.specs.Ports.{is_open, takes_unknown}
 use Rattle.net_rows.specs.Build.{has_unknown, switch_acl_input}
 use Rattle.net_rows.specs.declared.inputs.SwitchAclInput.{SwitchAclInput}
 use Rattle.net_rows.proofs.Elements.{any_from, any_gives, Contains-filter, Contains-flat_map, Contains-from_filter, Contains-from_flat_map, Contains-from_map, Contains-map}

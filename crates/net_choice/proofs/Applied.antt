@@ -17,7 +17,7 @@ use Rattle.nb_model.specs.Network.{Network, same}
 use Rattle.nb_model.specs.Sound.{IsSound}
 use Rattle.nv_table.proofs.Tagged.{any_is, any_there}
 use Rattle.net_meaning.specs.AclVerdict.{deciding}
-use Rattle.net_meaning.specs.Applies.{acls, applies}
+use Rattle.nb_model.specs.Applies.{acls, applies}
 use Rattle.net_choice.specs.inner.Acls.{acls_of, first, first_of, first_on, first_taking, first_with, groups_with, ports_on, takes}
 use Rattle.net_choice.proofs.First.{first_among_same, first_through, first_with_one, one_first, IsFirst, OfOne}
 use Rattle.net_choice.proofs.Kept.{kept_from, kept_passes, kept_rise, kept_there}

@@ -13,7 +13,7 @@ use Rattle.nb_records.specs.declared.switch.Switch.{Switch}
 use Rattle.nb_model.specs.Belongs.{is_to_router}
 use Rattle.nb_model.specs.Network.{Network, same}
 use Rattle.nb_model.specs.Plain.{tracks_none, IsPlain}
-use Rattle.net_meaning.specs.Applies.{is_empty, applies, is_related, tracks}
+use Rattle.nb_model.specs.Applies.{is_empty, applies, is_related, tracks}
 use Rattle.net_meaning.specs.Stateless.{IsStateless}
 
 not_related : (v : Verdict) → tracks_none v ≡ true → is_related v ≡ false

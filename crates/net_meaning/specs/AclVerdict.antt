@@ -9,7 +9,7 @@ use Rattle.nb_records.specs.declared.acl.Verdict.TheVariants.{Allow, AllowRelate
 use Rattle.nb_records.specs.declared.acl.Way.{Way}
 use Rattle.nb_model.specs.Names.{names}
 use Rattle.nb_model.specs.Network.{Network}
-use Rattle.net_meaning.specs.Applies.{acls}
+use Rattle.nb_model.specs.Applies.{acls}
 
 -- of two ACLs the one of the higher priority; of equals the earlier, whose number is lower
 abbrev pub higher : Option Acl → Acl → Option Acl

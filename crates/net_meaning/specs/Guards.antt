@@ -9,15 +9,8 @@ use Rattle.pkt_core.specs.Prerequisite.{meets}
 use Rattle.nb_records.specs.declared.switch.Guard.{Guard}
 use Rattle.nb_records.specs.declared.switch.Port.{Port}
 use Rattle.net_meaning.specs.Address.{is_multicast}
-use Rattle.net_meaning.specs.Applies.{is_empty}
-
--- how many addresses a network has
-abbrev pub size_of : Block → ℕ
-size_of net = 2 ^ (32 - net.len)
-
--- a network written with a host part
-abbrev pub has_host_part : Block → Bool
-has_host_part net = not (net.base.0 % size_of net == 0)
+use Rattle.nb_model.specs.Applies.{is_empty}
+use Rattle.nb_model.specs.Addresses.{size_of, has_host_part}
 
 -- the address is the one that is written with a host part, or is in the network that is written without
 abbrev pub covers : ℕ → Block → Bool

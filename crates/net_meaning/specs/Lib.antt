@@ -1,6 +1,5 @@
 pub mod AclVerdict
 pub mod Address
-pub mod Applies
 pub mod Cause
 pub mod Guards
 pub mod Places

@@ -3,7 +3,7 @@ use Rattle.std.specs.Prelude.{not, IsTrue}
 use Rattle.std.specs.List.{list_all}
 use Rattle.nb_model.specs.Belongs.{is_to_router}
 use Rattle.nb_model.specs.Network.{Network}
-use Rattle.net_meaning.specs.Applies.{tracks}
+use Rattle.nb_model.specs.Applies.{tracks}
 
 -- no switch tracks connections, and no port leads to a router
 pub record IsStateless (net : Network) : Type 0 where

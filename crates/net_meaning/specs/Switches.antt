@@ -28,16 +28,9 @@ use Rattle.net_meaning.specs.Walk.Passed.{GoesOn, Drops, Makes}
 use Rattle.net_meaning.specs.Walk.Target.{OnePort, Ports}
 use Rattle.net_meaning.specs.declared.answer.Answer.TheVariants.{Reject}
 use Rattle.net_meaning.specs.declared.cause.Cause.TheVariants.{PortSec, Acl, Unknown}
+use Rattle.nb_model.specs.Ports.{is_router_word, takes_unknown, is_open}
 
 -- ---- addresses
-
-abbrev pub is_router_word : Addr → Bool
-is_router_word addr.Router = true
-is_router_word _ = false
-
-abbrev pub is_unknown_word : Addr → Bool
-is_unknown_word addr.Unknown = true
-is_unknown_word _ = false
 
 abbrev pub mac_of_peer : Option RouterPort → List ℕ
 mac_of_peer None = []
@@ -66,15 +59,7 @@ mac_with ip [] = 0
 mac_with ip (addr.Host mac ips ∷ others) = if is_among_ips ip ips then mac else mac_with ip others
 mac_with ip (other ∷ others) = mac_with ip others
 
--- whatever no other port has goes to the port
-abbrev pub takes_unknown : Port → Bool
-takes_unknown port = list_any is_unknown_word port.addresses
-
 -- ---- ports of a switch
-
--- an enabled port of the switch
-abbrev pub is_open : ObjId → Port → Bool
-is_open switch port = same port.switch switch && port.enabled
 
 -- the port by which a switch reaches a MAC: of the enabled ports that have it, the one of the lowest number
 abbrev pub port_for : Network → ObjId → ℕ → Option Port

@@ -10,7 +10,7 @@ use Rattle.nb_records.specs.declared.switch.Addr.{Addr}
 use Rattle.nb_records.specs.declared.switch.Addr.TheVariants as addr
 use Rattle.nb_model.specs.Belongs.{is_router_kind}
 use Rattle.nb_model.specs.Readable.{ips_of, macs_of}
-use Rattle.net_meaning.specs.Switches.{is_router_word}
+use Rattle.nb_model.specs.Ports.{is_router_word}
 use Rattle.net_rows.specs.Lookup.{arp_rules, arp_rules_of, host_rules, looked_up, lookup_rule, more_macs, port_l2_rules}
 use Rattle.net_rows.specs.declared.inputs.PortL2Input.{PortL2Input}
 use Rattle.net_rows.specs.declared.rule.Rule.{Rule}

@@ -4,7 +4,7 @@ use Rattle.nv_base.specs.declared.object.ObjId.{ObjId}
 use Rattle.nb_model.specs.Network.{Network}
 use Rattle.nb_model.specs.Readable.{are_apart}
 use Rattle.sb_model.specs.Stage.{stage_place}
-use Rattle.net_meaning.specs.Applies.{balances, tracks}
+use Rattle.nb_model.specs.Applies.{balances, tracks}
 use Rattle.net_rows.specs.Acls.{switch_acl_rules}
 use Rattle.net_rows.specs.Build.{has_unknown, switch_rules}
 use Rattle.net_rows.specs.LoadBalancers.{switch_lb_rules}

@@ -5,7 +5,7 @@ use Rattle.std.proofs.lemmas.List.Elements.{Contains-append_cases}
 use Rattle.nb_records.specs.declared.acl.Acl.{Acl}
 use Rattle.nb_records.specs.declared.switch.Port.{Port}
 use Rattle.nb_records.specs.declared.switch.Switch.{Switch}
-use Rattle.nb_model.specs.Belongs.{switches_of_acl}
+use Rattle.nb_model.specs.Applies.{switches_of_acl}
 use Rattle.nb_model.specs.Network.{Network}
 use Rattle.nb_model.specs.Sound.{IsSound}
 use Rattle.sb_model.specs.declared.row.Row.{Row}

@@ -17,8 +17,8 @@ use Rattle.expr_core.specs.Formula.{Formula}
 use Rattle.expr_core.specs.declared.comparison.Item.TheVariants.{One, Masked}
 use Rattle.expr_core.specs.declared.typed.TypedAtom.{TypedAtom}
 use Rattle.sb_model.specs.Make.{as_ip4, as_mac, differs, equals, in_decimal, in_hexadecimal, is_none_of, is_one_of, is_port, one_of}
-use Rattle.net_meaning.specs.Guards.{has_host_part}
-use Rattle.net_meaning.specs.Switches.{is_router_word}
+use Rattle.nb_model.specs.Addresses.{has_host_part}
+use Rattle.nb_model.specs.Ports.{is_router_word}
 use Rattle.net_rows.specs.Lookup.{arp_rules, arp_rules_of, host_rules, looked_up, lookup_rule, more_macs, port_l2_rules}
 use Rattle.net_rows.specs.PortSecurity.{arp_type, broadcast_of, closed_rules, disabled_rules, discovers, guard_rules, guarded_rules, ip4_type, ip6_type, item_of, items_for_many, lets_in_where, lets_out_where, open_rules, own_items, port_sec_rules, tells}
 use Rattle.net_rows.specs.declared.inputs.PortL2Input.{PortL2Input}

@@ -10,7 +10,7 @@ use Rattle.sb_rows.proofs.Select.{Contains-from_put_rows, Contains-put_rows_new}
 use Rattle.nb_records.specs.declared.acl.Acl.{Acl}
 use Rattle.nb_records.specs.declared.switch.Port.{Port}
 use Rattle.nb_records.specs.declared.switch.Switch.{Switch}
-use Rattle.nb_model.specs.Belongs.{switches_of_acl}
+use Rattle.nb_model.specs.Applies.{switches_of_acl}
 use Rattle.nb_model.specs.Network.{Network}
 use Rattle.net_rows.specs.Acls.{acl_on_rules}
 use Rattle.net_rows.specs.Build.{acl_on_input, switch_rules, port_rules, switch_rows, port_rows, acl_on_rows, acl_rows, all_rows, rows}

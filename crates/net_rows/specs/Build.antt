@@ -5,12 +5,13 @@ use Rattle.nv_base.specs.declared.object.ObjId.{ObjId}
 use Rattle.nb_records.specs.declared.acl.Acl.{Acl}
 use Rattle.nb_records.specs.declared.switch.Port.{Port}
 use Rattle.nb_records.specs.declared.switch.Switch.{Switch}
-use Rattle.nb_model.specs.Belongs.{peer_router_port, switches_of_acl}
+use Rattle.nb_model.specs.Applies.{switches_of_acl}
+use Rattle.nb_model.specs.Belongs.{peer_router_port}
 use Rattle.nb_model.specs.Network.{Network}
 use Rattle.sb_model.specs.declared.row.Row.{Row}
 use Rattle.sb_rows.specs.Row.{put_rows}
-use Rattle.net_meaning.specs.Applies.{tracks, balances}
-use Rattle.net_meaning.specs.Switches.{is_open, takes_unknown}
+use Rattle.nb_model.specs.Applies.{tracks, balances}
+use Rattle.nb_model.specs.Ports.{is_open, takes_unknown}
 use Rattle.net_rows.specs.Acls.{switch_acl_rules, acl_on_rules}
 use Rattle.net_rows.specs.LoadBalancers.{switch_lb_rules}
 use Rattle.net_rows.specs.Lookup.{switch_l2_rules, port_l2_rules}

@@ -17,7 +17,7 @@ use Rattle.nb_model.specs.Belongs.{is_router_kind}
 use Rattle.nb_model.specs.Readable.{macs_of}
 use Rattle.sb_model.specs.Make.{takes_each, is_predicate, equals, is_port, in_decimal, as_mac, as_ip4, all_of, steps, goes_on, drops, goes_out_by, turns_back}
 use Rattle.sb_model.specs.declared.stage.Stage.TheVariants.{LsInArpRsp, LsInL2Lkup, LsInL2Unknown}
-use Rattle.net_meaning.specs.Switches.{is_router_word}
+use Rattle.nb_model.specs.Ports.{is_router_word}
 use Rattle.net_rows.specs.Unit.{rule}
 use Rattle.net_rows.specs.declared.inputs.PortL2Input.{PortL2Input}
 use Rattle.net_rows.specs.declared.inputs.SwitchL2Input.{SwitchL2Input}

@@ -12,8 +12,8 @@ use Rattle.expr_core.specs.declared.typed.TypedAtom.{TypedAtom}
 use Rattle.nb_records.specs.declared.switch.Guard.{Guard}
 use Rattle.sb_model.specs.Make.{takes_each, bit, is_predicate, equals, is_port, in_decimal, in_hexadecimal, as_mac, as_ip4, is_one_of, differs, is_none_of, all_of, one_of, goes_on, drops, goes_out}
 use Rattle.sb_model.specs.declared.stage.Stage.TheVariants.{LsInCheckPortSec, LsOutCheckPortSec}
-use Rattle.net_meaning.specs.Applies.{is_empty}
-use Rattle.net_meaning.specs.Guards.{size_of, has_host_part}
+use Rattle.nb_model.specs.Applies.{is_empty}
+use Rattle.nb_model.specs.Addresses.{size_of, has_host_part}
 use Rattle.net_rows.specs.Unit.{rule}
 use Rattle.net_rows.specs.declared.inputs.PortSecInput.{PortSecInput}
 use Rattle.net_rows.specs.declared.rule.Rule.{Rule}

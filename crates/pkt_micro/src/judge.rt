@@ -48,7 +48,7 @@ pub(crate) fn contradiction(equalities: &[Equality]) -> Option<Field>
 }
 
 /// The name of the port that the packet comes in by, if it is said.
-pub(crate) fn port_of(alloc: Global, equalities: &[Equality]) -> Result<Option<Name>, OutOfMemory>
+pub(crate) fn inport_of(alloc: Global, equalities: &[Equality]) -> Result<Option<Name>, OutOfMemory>
     ensures { IfOk result (λ port. port ≡ port_said equalities.now) }
 {
     match first_of(equalities, Field::Inport) {

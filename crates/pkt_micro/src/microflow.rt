@@ -4,7 +4,7 @@ ghost use Rattle.expr_core.specs.declared.role.Role.TheVariants as role;
 ghost use Rattle.pkt_micro.specs.Microflow.{microflow, is_memory};
 
 use crate::MicroFault;
-use crate::judge::{contradiction, packet_with, port_of};
+use crate::judge::{contradiction, packet_with, inport_of};
 use crate::said::put_said;
 use expr_core::Typed;
 use nv_base::{Items, Name};
@@ -43,7 +43,7 @@ pub fn packet_of(alloc: Global, typed: &Typed) -> Result<Micro, MicroFault>
     if let Some(field) = contradiction(equalities) {
         return Err(MicroFault::Contradiction(field));
     }
-    let Some(inport) = port_of(alloc, equalities)? else {
+    let Some(inport) = inport_of(alloc, equalities)? else {
         return Err(MicroFault::NoInport);
     };
     Ok(Micro {

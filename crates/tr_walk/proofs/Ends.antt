@@ -26,7 +26,7 @@ use Rattle.nb_model.specs.Addresses.{macs}
 use Rattle.nb_model.specs.Readable.{are_addresses, are_apart, are_guards, ips_of, is_ip4, is_mac, macs_of, may_name, same_number}
 use Rattle.nb_model.specs.Sound.{IsSound}
 use Rattle.nb_model.proofs.Readable.{of_port}
-use Rattle.net_meaning.specs.Applies.{applies, balances, is_empty}
+use Rattle.nb_model.specs.Applies.{applies, balances, is_empty}
 use Rattle.net_meaning.specs.Stateless.{IsStateless}
 use Rattle.net_rows.specs.Acls.{ending, stage_of, switch_acl_rules}
 use Rattle.net_rows.specs.Build.{acl_on_input, has_unknown, port_l2_input, port_rules, port_sec_input, rows, switch_rules}

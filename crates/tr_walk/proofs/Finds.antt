@@ -24,7 +24,7 @@ use Rattle.nb_model.specs.Belongs.{is_router_kind}
 use Rattle.nb_model.specs.Names.{names}
 use Rattle.nb_model.specs.Network.{Network}
 use Rattle.nb_model.specs.Sound.{IsSound}
-use Rattle.net_meaning.specs.Applies.{applies, balances, is_empty}
+use Rattle.nb_model.specs.Applies.{applies, balances, is_empty}
 use Rattle.net_meaning.specs.Stateless.{IsStateless}
 use Rattle.net_rows.specs.Acls.{ending, stage_of, switch_acl_rules}
 use Rattle.net_rows.specs.Build.{acl_on_input, has_unknown, port_l2_input, port_rules, port_sec_input, switch_rules}

@@ -31,7 +31,8 @@ use Rattle.net_meaning.specs.Guards.{is_let_in, is_let_out}
 use Rattle.net_meaning.specs.Places.{side_of, side_of_switch_port, switch_port}
 use Rattle.net_meaning.specs.Places.Side.{Host}
 use Rattle.net_meaning.specs.Stateless.{IsStateless}
-use Rattle.net_meaning.specs.Switches.{is_among_ips, mac_with, is_open, has_mac, takes_unknown, is_answering, answering, port_for, numbers, open_ports, unknown_ports, to_unknown, to_port, sent_on, turned_back, is_request, answered_for, asked, rejected, decided, arriving_at, let_out, leaving_by}
+use Rattle.nb_model.specs.Ports.{is_open, takes_unknown}
+use Rattle.net_meaning.specs.Switches.{is_among_ips, mac_with, has_mac, is_answering, answering, port_for, numbers, open_ports, unknown_ports, to_unknown, to_port, sent_on, turned_back, is_request, answered_for, asked, rejected, decided, arriving_at, let_out, leaving_by}
 use Rattle.net_meaning.specs.Walk.{Passed, carried, carrying}
 use Rattle.net_meaning.specs.Walk.Passed.{GoesOn, Drops, Makes}
 use Rattle.net_meaning.specs.Walk.Target.{OnePort, Ports}

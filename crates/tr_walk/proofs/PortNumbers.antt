@@ -11,7 +11,7 @@ use Rattle.nv_table.specs.Table.{has_number, record_of}
 use Rattle.nb_store.specs.Places.{on_datapath, peer_by, peer_of_router_port}
 use Rattle.nb_store.proofs.Found.{same_found, turned}
 use Rattle.net_meaning.specs.Places.{datapath_at, peer_side, router_port, side_of, side_of_router_port, switch_port}
-use Rattle.net_meaning.specs.Switches.{takes_unknown}
+use Rattle.nb_model.specs.Ports.{takes_unknown}
 use Rattle.tr_walk.specs.declared.ports.Group.{Group}
 use Rattle.tr_walk.specs.declared.ports.Group.TheVariants.{Flood, Unknown}
 use Rattle.tr_walk.specs.inner.Sides.{is_member, numbers_in, ports_of}

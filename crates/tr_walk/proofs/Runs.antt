@@ -11,7 +11,7 @@ use Rattle.nb_records.specs.declared.switch.Switch.{Switch}
 use Rattle.nb_model.specs.Names.{names}
 use Rattle.nb_model.specs.Network.{Network, same}
 use Rattle.nb_model.specs.Sound.{IsSound}
-use Rattle.net_meaning.specs.Applies.{applies}
+use Rattle.nb_model.specs.Applies.{applies}
 use Rattle.net_rows.specs.Build as build
 use Rattle.net_rows.proofs.Elements.{one_first, one_later, Contains-from_filter}
 use Rattle.net_rows.proofs.Units.{IsRow, rows-gives}

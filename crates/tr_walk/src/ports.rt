@@ -2,7 +2,7 @@
 ghost use Rattle.std.specs.Prelude.{◌≡◌, ◌++◌, IfOk, OnOk};
 ghost use Rattle.nb_model.specs.Network.{Network};
 ghost use Rattle.nb_model.specs.Sound.{IsSound};
-ghost use Rattle.net_meaning.specs.Switches.{takes_unknown};
+ghost use Rattle.nb_model.specs.Ports.{takes_unknown};
 ghost use Rattle.tr_walk.specs.Machine.{target_of};
 ghost use Rattle.tr_walk.specs.inner.Sides.{is_member, numbers_in, ports_of, target};
 

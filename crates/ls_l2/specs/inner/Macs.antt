@@ -3,7 +3,7 @@ use Rattle.std.specs.Prelude.{ℕ, ◌&&◌, if◌then◌else◌, List, []}
 use Rattle.std.specs.List.{flat_map, list_any}
 use Rattle.nb_model.specs.Belongs.{is_router_kind}
 use Rattle.nb_model.specs.Readable.{macs_of}
-use Rattle.net_meaning.specs.Switches.{is_router_word}
+use Rattle.nb_model.specs.Ports.{is_router_word}
 use Rattle.net_rows.specs.Lookup.{more_macs}
 use Rattle.net_rows.specs.declared.inputs.PortL2Input.{PortL2Input}
 

@@ -4,7 +4,7 @@ use Rattle.expr_core.specs.Text.{typed_text}
 use Rattle.nb_records.specs.declared.acl.Acl.{Acl}
 use Rattle.nb_records.specs.declared.sets.Group.{Group}
 use Rattle.nb_model.specs.Amounts.{total}
-use Rattle.nb_model.specs.Belongs.{switches_of_acl}
+use Rattle.nb_model.specs.Applies.{switches_of_acl}
 use Rattle.nb_model.specs.Network.{Network, same}
 use Rattle.nv_table.specs.Table.{record_of}
 use Rattle.nb_limits.specs.inner.GroupSwitches.{switch_count}

@@ -6,7 +6,7 @@ use Rattle.nb_records.specs.declared.acl.Acl.{Acl}
 use Rattle.nb_records.specs.declared.switch.Port.{Port}
 use Rattle.nb_records.specs.declared.switch.Switch.{Switch}
 use Rattle.nb_model.specs.Network.{Network}
-use Rattle.net_meaning.specs.Applies.{applies, is_related}
+use Rattle.nb_model.specs.Applies.{applies, is_related}
 use Rattle.net_rows.specs.Acls.{acl_on_rules, switch_acl_rules}
 use Rattle.net_rows.specs.Build.{acl_on_rows, port_l2_input, port_sec_input, switch_rows}
 use Rattle.net_rows.specs.LoadBalancers.{switch_lb_rules}

@@ -7,7 +7,7 @@ use Rattle.nb_records.specs.declared.sets.Group.{Group}
 use Rattle.nb_records.specs.declared.switch.Port.{Port}
 use Rattle.nb_model.specs.Belongs.{is_among}
 use Rattle.nb_model.specs.Network.{Network, same}
-use Rattle.net_meaning.specs.Applies.{applies}
+use Rattle.nb_model.specs.Applies.{applies}
 
 -- the ports of a switch
 abbrev pub ports_on : Network → ObjId → List Port

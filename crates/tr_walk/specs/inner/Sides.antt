@@ -5,7 +5,8 @@ use Rattle.nb_records.specs.declared.switch.Port.{Port}
 use Rattle.nb_model.specs.Network.{Network}
 use Rattle.net_meaning.specs.Places.{Side}
 use Rattle.net_meaning.specs.Places.Side.{Host, Peer, NoPeer}
-use Rattle.net_meaning.specs.Switches.{open_ports, takes_unknown, unknown_ports}
+use Rattle.nb_model.specs.Ports.{takes_unknown}
+use Rattle.net_meaning.specs.Switches.{open_ports, unknown_ports}
 use Rattle.net_meaning.specs.Walk.{Target}
 use Rattle.net_meaning.specs.Walk.Target.{OnePort, Ports}
 use Rattle.tr_walk.specs.declared.places.Side.{Side as OwnSide}

@@ -1,6 +1,6 @@
 use Rattle.std.proofs.Common.{◌≡◌, ◌++◌, ◌&&◌, nat_lt, map, take}
 use Rattle.std.specs.Prelude.{filter}
-use Rattle.net_meaning.specs.Guards.{has_host_part}
+use Rattle.nb_model.specs.Addresses.{has_host_part}
 use Rattle.net_rows.specs.PortSecurity.{broadcast_of}
 use Rattle.ls_sec.proofs.addresses.put_broadcasts.Given as goal
 

@@ -4,7 +4,7 @@ use Rattle.std.specs.Prelude.{Some}
 use Rattle.std.specs.List.{flat_map, list_any}
 use Rattle.nb_records.specs.declared.switch.Port.{Port}
 use Rattle.nb_model.specs.Network.{same}
-use Rattle.net_meaning.specs.Switches.{takes_unknown}
+use Rattle.nb_model.specs.Ports.{takes_unknown}
 use Rattle.nv_table.specs.Table.{is_after}
 use Rattle.nb_store.proofs.Peering.{found_is_record}
 use Rattle.nd_full.specs.inner.Made.{port_units}

@@ -1,7 +1,7 @@
 use Rattle.std.proofs.Common.{◌≡◌, ◌&&◌, ◌||◌, ◌++◌, length}
 use Rattle.std.specs.List.{flat_map, list_any}
 use Rattle.nb_model.specs.Network.{same}
-use Rattle.net_meaning.specs.Switches.{takes_unknown}
+use Rattle.nb_model.specs.Ports.{takes_unknown}
 use Rattle.net_rows.specs.Build.{has_unknown}
 use Rattle.nd_full.specs.inner.Made.{port_units}
 use Rattle.nd_full.specs.inner.Owners.{ports_on}

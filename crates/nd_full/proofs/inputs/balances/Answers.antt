@@ -1,7 +1,7 @@
 use Rattle.std.proofs.Common.{◌≡◌, List, [], ◌∷◌, length, not, refl, ap, ◌∙◌, arith}
 use Rattle.std.specs.Prelude.{◌==◌}
 use Rattle.std.proofs.lemmas.Bool.Decides.{nat_tests}
-use Rattle.net_meaning.specs.Applies.{is_empty}
+use Rattle.nb_model.specs.Applies.{is_empty}
 use Rattle.nd_full.proofs.inputs.balances.Goals as goal
 
 none_long : {X : Type 0} (xs : List X) → (length xs == 0) ≡ is_empty xs

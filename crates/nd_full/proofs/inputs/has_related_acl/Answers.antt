@@ -2,7 +2,7 @@ use Rattle.std.proofs.Common.{ap, sym, ◌∙◌}
 use Rattle.std.specs.List.{list_any}
 use Rattle.nb_records.specs.declared.acl.Acl.{Acl}
 use Rattle.nb_model.specs.Network.{same}
-use Rattle.net_meaning.specs.Applies.{is_related}
+use Rattle.nb_model.specs.Applies.{is_related}
 use Rattle.nd_full.specs.inner.Made.{has_related}
 use Rattle.nd_full.specs.inner.Owners.{acls_of}
 use Rattle.nd_full.proofs.Sound.{acls_rise}

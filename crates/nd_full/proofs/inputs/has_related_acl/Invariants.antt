@@ -1,7 +1,7 @@
 use Rattle.std.proofs.Common.{◌≡◌, length}
 use Rattle.std.specs.List.{list_any}
 use Rattle.nb_model.specs.Network.{same}
-use Rattle.net_meaning.specs.Applies.{is_related}
+use Rattle.nb_model.specs.Applies.{is_related}
 use Rattle.nd_full.specs.inner.Made.{has_related}
 use Rattle.nv_table.proofs.Through.{these_after}
 use Rattle.nd_full.proofs.inputs.has_related_acl.Given as goal

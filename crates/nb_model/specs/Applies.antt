@@ -6,6 +6,7 @@ use Rattle.nb_records.specs.declared.acl.Acl.{Acl}
 use Rattle.nb_records.specs.declared.acl.Verdict.{Verdict}
 use Rattle.nb_records.specs.declared.acl.Verdict.TheVariants.{AllowRelated}
 use Rattle.nb_records.specs.declared.acl.Way.{Way}
+use Rattle.nb_records.specs.declared.switch.Switch.{Switch}
 use Rattle.nb_model.specs.Belongs.{is_among, same_way}
 use Rattle.nb_model.specs.Network.{Network, same}
 
@@ -19,6 +20,10 @@ abbrev pub applies : Network → ObjId → Acl → Bool
 applies net switch acl =
     same switch acl.owner
     || list_any (λ group. same group.id acl.owner && list_any (λ port. same port.switch switch && is_among port.id group.ports) net.ports) net.groups
+
+-- the switches to which an ACL applies
+abbrev pub switches_of_acl : Network → Acl → List Switch
+switches_of_acl net acl = filter (λ switch. applies net switch.id acl) net.switches
 
 -- the ACLs of a direction that apply to a switch
 abbrev pub acls : Network → ObjId → Way → List Acl

@@ -3,7 +3,6 @@ pub mod EachEdit
 pub mod Known
 pub mod Microflows
 pub mod QueryWords
-pub mod Quoted
 pub mod ReadableLines
 pub mod ShortLines
 pub mod Small

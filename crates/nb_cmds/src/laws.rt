@@ -6,17 +6,10 @@ ghost use Rattle.nb_model.specs.Readable.{IsReadable};
 ghost use Rattle.nb_model.specs.Plain.{IsBuilt};
 ghost use Rattle.nv_base.specs.Name.{is_object_name, is_quotable};
 ghost use Rattle.nb_cmds.specs.Lines.{read_line};
-ghost use Rattle.nb_cmds.specs.Quoted.{IsRead};
 ghost use Rattle.nb_cmds.specs.declared.line.Line.TheVariants.{Edits, Query};
 ghost use Rattle.nb_cmds.specs.declared.query.Query.TheVariants.{FlowList, Trace};
 ghost use Rattle.pkt_core.specs.Packet.{IsPacket};
 ghost use Rattle.pkt_micro.specs.declared.microflow.Micro.{Micro};
-
-/// The line `'ls-add' 'NAME'` is read as the edit that adds a switch of that name, for each name that a switch may have.
-#[tactic(auto, using(crate::proofs::Quoted::quoted_switch_is_read))]
-pub fn quoted_switches_are_read()
-    ensures { (name : List ℕ) → is_object_name name ≡ true → IsRead name }
-{}
 
 /// Each edit that a line asks for is readable: its names, addresses, numbers and match are as the readings of words leave them.
 #[tactic(auto, using(crate::proofs::ReadableLines::line_readable))]

@@ -11,7 +11,7 @@ mod task;
 
 pub use laws::{
     lines_ask_for_built_edits, lines_ask_for_readable_edits, lines_have_no_more_edits_than_bytes,
-    queries_have_well_read_words, quoted_switches_are_read,
+    queries_have_well_read_words,
 };
 pub use line::{Line, read_line};
 pub use query::Query;

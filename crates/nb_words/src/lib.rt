@@ -3,10 +3,8 @@
 
 mod command;
 mod fault;
-mod laws;
 mod word;
 
 pub use command::{Command, read_commands};
 pub use fault::LineFault;
-pub use laws::quoted_words_are_read;
 pub use word::{Word, words_of};

@@ -5,7 +5,7 @@ use Rattle.nv_base.specs.declared.ip4.Ip4.{Ip4}
 use Rattle.nv_base.specs.declared.object.ObjId.{ObjId}
 use Rattle.nv_base.specs.declared.field.Field.TheVariants.{Inport, Outport, FlagsLoopback, EthDst, ArpOp, ArpTpa}
 use Rattle.nv_base.specs.declared.field.Prerequisite.TheVariants.{Arp, Tcp}
-use Rattle.pkt_core.specs.Packet.{Values, value, with_values}
+use Rattle.pkt_core.specs.Packet.{Values, value, with_value}
 use Rattle.pkt_core.specs.Prerequisite.{meets}
 use Rattle.pkt_core.specs.Replies.{is_answerable, reset, icmp_error, arp_reply}
 use Rattle.pkt_core.specs.declared.replies.IcmpReason.TheVariants.{PortUnreachable}
@@ -94,15 +94,15 @@ abbrev pub to_port : Option Port → List ObjId → Values → Passed
 to_port (Some port) unknown packet = GoesOn (OnePort port.id) packet
 to_port None unknown packet = to_unknown unknown packet
 
--- a packet goes to each port where it is for many, else to the port of its destination
+-- a multicast packet is flooded, another goes to the port of its destination
 abbrev pub sent_on : Network → ObjId → Values → Passed
 sent_on net switch packet =
     if is_multicast (value packet EthDst) then GoesOn (Ports (open_ports net switch)) packet
     else to_port (port_for net switch (value packet EthDst)) (unknown_ports net switch) packet
 
--- a packet that is to go back by the port that it came in by
+-- a packet that may go out by the port that it came in by
 abbrev pub turned_back : Values → Values
-turned_back packet = with_values packet ((Outport, 0) ∷ (FlagsLoopback, 1) ∷ [])
+turned_back packet = with_value packet FlagsLoopback 1
 
 -- an ARP request
 abbrev pub is_request : Values → Bool

@@ -125,13 +125,13 @@ module _ {N S : Type 0} (net : Network) (parts : Parts N S) (onward : Option (On
       after_told (leaves arrival packet state port).told (copies arrival packet (leaves arrival packet state port).state ports)
 
   -- a packet that would go back by the port that it came in by, and was not turned back on purpose
-  abbrev pub is_sent_back : ObjId → ObjId → Values → Bool
-  is_sent_back arrival port packet = same port arrival && (value packet FlagsLoopback == 0)
+  abbrev pub is_same_port : ObjId → ObjId → Values → Bool
+  is_same_port arrival port packet = same port arrival && (value packet FlagsLoopback == 0)
 
   -- A packet goes to where it is sent. None goes back by its own port, and no copy of a flood does.
   abbrev pub sent : ObjId → Target → Values → S → Walked N S
   sent arrival (OnePort port) packet state =
-      if is_sent_back arrival port packet then ends (Drop (datapath_at net arrival) cause.SamePort ∷ []) state else leaves arrival packet state port
+      if is_same_port arrival port packet then ends (Drop (datapath_at net arrival) cause.SamePort ∷ []) state else leaves arrival packet state port
   sent arrival (Ports ports) packet state = copies arrival packet state (filter (λ port. not (same port arrival)) ports)
 
   -- what follows the part of arriving at a port

@@ -50,8 +50,16 @@ turned packet number is =
       set_value out FlagsLoopback 1 (with_length packet Outport number is.count),
     ) refl
 
+meant : (packet : Values) → IsPacket packet → carried (turned_back packet) ≡ with_values (headers packet) ((Inport, value packet Inport) ∷ (FlagsLoopback, 1) ∷ [])
+meant packet is =
+    rw (
+      headers_loopback packet 1,
+      other_value packet FlagsLoopback Inport 1 refl,
+      set_value packet FlagsLoopback 1 is.count,
+    ) refl
+
 pub carried_back : (packet : Values) → IsPacket packet → carried (sent_back packet) ≡ carried (turned_back packet)
-carried_back packet is = turned packet (value packet Inport) is ∙ sym (turned packet 0 is)
+carried_back packet is = turned packet (value packet Inport) is ∙ sym (meant packet is)
 
 -- the `outport` of a packet that goes back is its `inport`
 pub back_outport : (packet : Values) → IsPacket packet → value (sent_back packet) Outport ≡ value packet Inport

@@ -14,7 +14,7 @@ use Rattle.net_meaning.specs.declared.event.PlainEvent.{PlainEvent}
 use Rattle.net_meaning.specs.declared.event.PlainEvent.TheVariants.{Output, Drop, HopLimit}
 use Rattle.net_meaning.specs.Places.{side_of, datapath_at}
 use Rattle.net_meaning.specs.Places.Side.{Host}
-use Rattle.net_meaning.specs.Walk.{Target, Passed, Part, Parts, Told, Walked, Onward, ends, told_of, after_told, carrying, then_part, delivered_to, made, left, leaves, leaves_late, copies, is_sent_back, sent, arrived, enters, hops_left, walk, events}
+use Rattle.net_meaning.specs.Walk.{Target, Passed, Part, Parts, Told, Walked, Onward, ends, told_of, after_told, carrying, then_part, delivered_to, made, left, leaves, leaves_late, copies, is_same_port, sent, arrived, enters, hops_left, walk, events}
 use Rattle.net_meaning.specs.Walk.Passed.{GoesOn, Drops, Makes}
 use Rattle.net_meaning.specs.Walk.Target.{OnePort, Ports}
 use Rattle.net_meaning.specs.Walk.Told.{Note, Happens}
@@ -155,7 +155,7 @@ module _ (net : Network) where
           by false rest = rest
 
       sent_alike : (arrival : ObjId) (target : Target) (packet : Values) (state : S) → IsPort arrival → IsKept (Some (GoesOn target packet)) → AreAlike (sent net ps o arrival target packet state) (sent net qs p arrival target packet state)
-      sent_alike arrival (OnePort port) packet state at kept = by (is_sent_back net ps o arrival port packet)
+      sent_alike arrival (OnePort port) packet state at kept = by (is_same_port net ps o arrival port packet)
         where
           by : (b : Bool) → AreAlike (cond b (ends {N = N} (Drop (datapath_at net arrival) cause.SamePort ∷ []) state) (leaves net ps o arrival packet state port)) (cond b (ends {N = M} (Drop (datapath_at net arrival) cause.SamePort ∷ []) state) (leaves net qs p arrival packet state port))
           by true = ends_alike (Drop (datapath_at net arrival) cause.SamePort ∷ []) state

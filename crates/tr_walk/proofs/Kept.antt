@@ -62,13 +62,13 @@ carried_inport packet is =
 
 turned_is : (packet : Values) → IsPacket packet → IsPacket (turned_back packet)
 turned_is packet is =
-    let fit : Fit ((Outport, 0) ∷ (FlagsLoopback, 1) ∷ []) = (lit< tt, (lit< tt, tt)) in
-    fits_values packet ((Outport, 0) ∷ (FlagsLoopback, 1) ∷ []) is fit
+    let fit : Fit ((FlagsLoopback, 1) ∷ []) = (lit< tt, tt) in
+    fits_values packet ((FlagsLoopback, 1) ∷ []) is fit
 
 turned_inport : (packet : Values) → value (turned_back packet) Inport ≡ value packet Inport
 turned_inport packet =
-    let others : Others Inport ((Outport, 0) ∷ (FlagsLoopback, 1) ∷ []) = (refl, (refl, tt)) in
-    other_values packet ((Outport, 0) ∷ (FlagsLoopback, 1) ∷ []) Inport others
+    let others : Others Inport ((FlagsLoopback, 1) ∷ []) = (refl, tt) in
+    other_values packet ((FlagsLoopback, 1) ∷ []) Inport others
 
 -- ---- what is found
 

@@ -136,7 +136,7 @@ fn send(
             copy(flows, hops, arrival, &ports, &packet, events)
         }
         None => {
-            if is_sent_back(arrival, port, &packet) {
+            if is_same_port(arrival, port, &packet) {
                 events.push(Event::Drop(dp, Cause::SamePort))?;
                 return Ok(());
             }
@@ -310,7 +310,7 @@ fn is_same(a: ObjId, b: ObjId) -> bool
 }
 
 // Whether a packet would go back by the port that it came in by, and was not turned back on purpose.
-fn is_sent_back(arrival: ObjId, port: ObjId, packet: &Packet) -> bool
+fn is_same_port(arrival: ObjId, port: ObjId, packet: &Packet) -> bool
     ensures { result ≡ same port arrival && (value packet.now FlagsLoopback == 0) }
 {
     is_same(port, arrival) && packet.get(Field::FlagsLoopback) == 0

@@ -17,8 +17,8 @@ use Rattle.nb_edit.specs.Edits.{owner_kind, rule}
 use Rattle.nb_edit.specs.Forms.{form, verbs, verb_of}
 use Rattle.nb_read.specs.Keywords.{verdict_of}
 use Rattle.nb_edit.specs.Keywords.{is_whole}
-use Rattle.nb_read.specs.Lists.{addresses, guards}
-use Rattle.nb_read.specs.Readings.{object_name, owner_name, way, verdict, state, priority, acl_match}
+use Rattle.nb_read.specs.Lists.{addresses, guards, names, members}
+use Rattle.nb_read.specs.Readings.{object_name, owner_name, set_name, way, verdict, state, priority, acl_match}
 use Rattle.nb_edit.specs.declared.form.Place.TheVariants as place
 use Rattle.nb_edit.specs.declared.form.Tail.TheVariants.{Ends}
 use Rattle.nb_edit.specs.declared.verb.Verb.{Verb}
@@ -27,7 +27,7 @@ use Rattle.nb_edit.proofs.Fits.{has_places}
 use Rattle.nb_model.proofs.Reading
 use Rattle.nb_model.proofs.Reading.{goes_on, goes_on_anyway, there}
 use Rattle.nb_model.specs.Plain.{tracks_none, IsBuilt}
-use Rattle.nb_cmds.specs.Built.{related_place, unbuilt, unbuilt_word, built, refused_option, optioned}
+use Rattle.nb_cmds.specs.Built.{related_place, unbuilt, unbuilt_word, built}
 use Rattle.nb_cmds.specs.Lines.{task, task_by, read_line}
 use Rattle.nb_cmds.specs.Tasks.{tasks, task_of, is_named}
 use Rattle.nb_cmds.specs.declared.line.Line.TheVariants as line
@@ -111,7 +111,22 @@ all_built = (
                 (refl, acl_add_built),
                 (
                   (refl, λ start call good none. goes_on_anyway IsBuilt (at call 0 (owner_name (owner_kind call))) _ (λ owner. goes_on_anyway IsBuilt (maybe call 1 way) _ (λ w. goes_on_anyway IsBuilt (rule call w) _ (λ r. tt)))),
-                  (tt, (tt, (tt, tt))),
+                  (
+                    (refl, λ start call good none. goes_on_anyway IsBuilt (at call 0 set_name) _ (λ name. goes_on_anyway IsBuilt (from call 1 (names [])) _ (λ ports. tt))),
+                    (
+                      (refl, λ start call good none. goes_on_anyway IsBuilt (at call 0 set_name) _ (λ name. goes_on_anyway IsBuilt (from call 1 (names [])) _ (λ ports. tt))),
+                      (
+                        (refl, λ start call good none. goes_on_anyway IsBuilt (at call 0 set_name) _ (λ name. tt)),
+                        (
+                          (refl, λ start call good none. goes_on_anyway IsBuilt (at call 0 set_name) _ (λ name. goes_on_anyway IsBuilt (from call 1 (members [])) _ (λ list. tt))),
+                          (
+                            (refl, λ start call good none. goes_on_anyway IsBuilt (at call 0 set_name) _ (λ name. goes_on_anyway IsBuilt (from call 1 (members [])) _ (λ list. tt))),
+                            ((refl, λ start call good none. goes_on_anyway IsBuilt (at call 0 set_name) _ (λ name. tt)), (tt, (tt, (tt, tt)))),
+                          ),
+                        ),
+                      ),
+                    ),
+                  ),
                 ),
               ),
             ),
@@ -151,10 +166,6 @@ module _ (v : Verb) (is : IsBuiltVerb v) (c : Command) (name : Word) (stands : s
   built_given None none = read_built none
   built_given (Some place) some = goes_on_anyway IsBuilt (read_command (command c.first (take (place + 1) c.words))) (λ e. Err (NotInProfile (c.first + place))) (λ e. tt)
 
-  optioned_given : (place : Option ℕ) → IfOk (optioned v c place) IsBuilt
-  optioned_given None = built_given (unbuilt_word v c.words) refl
-  optioned_given (Some place) = tt
-
 -- ---- Lines
 
 -- what is found passes the test, and is one of the list
@@ -170,7 +181,7 @@ task_given : (c : Command) → IfOk (task c) (HoldsAs IsBuilt c)
 task_given c = by (slice_get c.words (option_count c.words)) refl
   where
     holds : (name : Word) → slice_get c.words (option_count c.words) ≡ Some name → (t : Task) → is_named t name.text ≡ true → IsBuiltTask t → HoldsAs IsBuilt c t
-    holds name stands (task.Edit v) is built = optioned_given v built c name stands (sym ((bytes_eq-Decides (form v).name name.text).0 is)) (refused_option v c.words)
+    holds name stands (task.Edit v) is built = built_given v built c name stands (sym ((bytes_eq-Decides (form v).name name.text).0 is)) (unbuilt_word v c.words) refl
     holds name stands (task.Query question) is built = tt
 
     by : (word : Option Word) → slice_get c.words (option_count c.words) ≡ word → IfOk (task_by (c.first + option_count c.words) word) (HoldsAs IsBuilt c)

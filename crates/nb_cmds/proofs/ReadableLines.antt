@@ -11,7 +11,7 @@ use Rattle.nb_edit.specs.declared.verb.Verb.{Verb}
 use Rattle.nb_model.specs.Readable.{IsReadable}
 use Rattle.nb_cmds.proofs.CommandReadings.{command_readable}
 use Rattle.nb_model.proofs.Reading.{goes_on_anyway}
-use Rattle.nb_cmds.specs.Built.{unbuilt_word, built, refused_option, optioned}
+use Rattle.nb_cmds.specs.Built.{unbuilt_word, built}
 use Rattle.nb_cmds.specs.Lines.{task, read_line}
 use Rattle.nb_cmds.specs.declared.line.Line.TheVariants as line
 use Rattle.nb_cmds.specs.declared.task.Task.{Task}
@@ -29,15 +29,11 @@ built_given : (c : Command) (place : Option ℕ) → IfOk (built c place) IsRead
 built_given c None = command_given c
 built_given c (Some place) = goes_on_anyway IsReadable (read_command (command c.first (take (place + 1) c.words))) (λ e. Err (NotInProfile (c.first + place))) (λ e. tt)
 
-optioned_given : (verb : Verb) (c : Command) (place : Option ℕ) → IfOk (optioned verb c place) IsReadable
-optioned_given verb c None = built_given c (unbuilt_word verb c.words)
-optioned_given verb c (Some place) = tt
-
 task_given : (c : Command) → IfOk (task c) (HoldsAs IsReadable c)
 task_given c = by (task c)
   where
     holds : (t : Task) → HoldsAs IsReadable c t
-    holds (task.Edit verb) = optioned_given verb c (refused_option verb c.words)
+    holds (task.Edit verb) = built_given c (unbuilt_word verb c.words)
     holds (task.Query question) = tt
 
     by : (r : Result Task Refusal) → IfOk r (HoldsAs IsReadable c)

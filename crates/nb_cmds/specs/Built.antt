@@ -1,4 +1,4 @@
--- What is not built yet: the address `router` of a switch port, the verdict `allow-related`, and ACLs of port groups.
+-- What is not built yet: the address `router` of a switch port, and the verdict `allow-related`.
 use Rattle.std.specs.Prelude.{ℕ, ◌+◌, Bool, not, ◌||◌, List, [], ◌∷◌, drop, take, position, Option, Some, None, option_map, codes, Result, Err, if◌then◌else◌}
 use Rattle.std.specs.Str.{bytes_eq}
 use Rattle.nb_records.specs.declared.edit.Edit.{Edit}
@@ -8,17 +8,9 @@ use Rattle.nb_words.specs.Commands.{command}
 use Rattle.nb_words.specs.declared.command.Command.{Command}
 use Rattle.nb_words.specs.declared.word.Word.{Word}
 use Rattle.nb_read.specs.Then.{and_then}
-use Rattle.nb_edit.specs.Commands.{is_taken, option_count, read_command}
+use Rattle.nb_edit.specs.Commands.{option_count, read_command}
 use Rattle.nb_edit.specs.declared.verb.Verb.{Verb}
 use Rattle.nb_edit.specs.declared.verb.Verb.TheVariants.{LspSetAddresses, AclAdd}
-
--- the option is refused: the command does not take it, or it asks for ACLs of port groups
-abbrev pub is_refused : Verb → Word → Bool
-is_refused verb word = not (is_taken verb word) || bytes_eq word.text (codes "--type=port-group")
-
--- the place of the first such option
-abbrev pub refused_option : Verb → List Word → Option ℕ
-refused_option verb words = position (is_refused verb) (take (option_count words) words)
 
 -- the word is the address `router`
 abbrev pub is_router : Word → Bool
@@ -52,11 +44,6 @@ abbrev pub built : Command → Option ℕ → Result Edit Refusal
 built c None = read_command c
 built c (Some place) = not_built c place
 
--- what a command says, by the place of an option that is refused
-abbrev pub optioned : Verb → Command → Option ℕ → Result Edit Refusal
-optioned verb c None = built c (unbuilt_word verb c.words)
-optioned verb c (Some place) = Err (NotInProfile (c.first + place))
-
 -- what a command of this name says
 abbrev pub edit_of : Verb → Command → Result Edit Refusal
-edit_of verb c = optioned verb c (refused_option verb c.words)
+edit_of verb c = built c (unbuilt_word verb c.words)

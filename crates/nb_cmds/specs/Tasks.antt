@@ -3,7 +3,7 @@ use Rattle.std.specs.Prelude.{ℕ, Bool, false, List, [], ◌∷◌, Option, cod
 use Rattle.std.specs.List.{find}
 use Rattle.std.specs.Str.{bytes_eq}
 use Rattle.nb_edit.specs.Forms.{form}
-use Rattle.nb_edit.specs.declared.verb.Verb.TheVariants.{LsAdd, LsDel, LspAdd, LspDel, LspSetAddresses, LspSetPortSecurity, LspSetEnabled, AclAdd, AclDel}
+use Rattle.nb_edit.specs.declared.verb.Verb.TheVariants.{LsAdd, LsDel, LspAdd, LspDel, LspSetAddresses, LspSetPortSecurity, LspSetEnabled, AclAdd, AclDel, PgAdd, PgSetPorts, PgDel, AsAdd, AsSet, AsDel}
 use Rattle.nb_words.specs.declared.word.Word.{Word}
 use Rattle.nb_cmds.specs.declared.task.Question.{Question}
 use Rattle.nb_cmds.specs.declared.task.Question.TheVariants.{FlowList, Trace, Dump}
@@ -14,7 +14,7 @@ use Rattle.nb_cmds.specs.declared.task.Task.TheVariants.{Edit, Query}
 unfoldable pub tasks : List Task
 tasks =
     Edit LsAdd ∷ Edit LsDel ∷ Edit LspAdd ∷ Edit LspDel ∷ Edit LspSetAddresses ∷ Edit LspSetPortSecurity ∷ Edit LspSetEnabled ∷
-    Edit AclAdd ∷ Edit AclDel ∷ Query FlowList ∷ Query Trace ∷ Query Dump ∷ []
+    Edit AclAdd ∷ Edit AclDel ∷ Edit PgAdd ∷ Edit PgSetPorts ∷ Edit PgDel ∷ Edit AsAdd ∷ Edit AsSet ∷ Edit AsDel ∷ Query FlowList ∷ Query Trace ∷ Query Dump ∷ []
 
 -- the name of a command, or of a query
 abbrev pub task_name : Task → List ℕ

@@ -1,30 +1,13 @@
-//! What is not built yet: the address `router` of a switch port, the verdict `allow-related`, and ACLs of port groups.
+//! What is not built yet: the address `router` of a switch port, and the verdict `allow-related`.
 ghost use Rattle.std.specs.Prelude.{◌≡◌, ◌≤◌, ◌<◌, ◌+◌, ◌^◌, Ok, IfOk, IfErr, IfSome, true, length, position};
 ghost use Rattle.nb_words.specs.Commands.{is_small};
 ghost use Rattle.nb_words.specs.Fault.{IsFaultOf};
-ghost use Rattle.nb_cmds.specs.Built.{is_refused, refused_option, is_router, router_place, related_place, unbuilt, unbuilt_word, not_built, built, optioned, edit_of};
+ghost use Rattle.nb_cmds.specs.Built.{is_router, router_place, related_place, unbuilt, unbuilt_word, not_built, built, edit_of};
 
-use nb_edit::{Verb, is_taken, option_count, read_command, read_words};
+use nb_edit::{Verb, option_count, read_command, read_words};
 use nb_records::{Edit, Refusal};
 use nb_words::{Command, LineFault, Word};
 use std::alloc::Global;
-
-// Whether the option is refused: the command does not take it, or it asks for ACLs of port groups.
-fn is_refused(verb: Verb, word: &Word) -> bool
-    ensures { result ≡ is_refused verb word.now }
-{
-    !is_taken(verb, word) || word.text.as_slice() == b"--type=port-group".as_slice()
-}
-
-// The place of the first such option.
-fn refused_option(verb: Verb, words: &[Word]) -> Option<usize>
-    ensures place { result ≡ refused_option verb words.now }
-    ensures within { IfSome result (λ place. place < length words.now) }
-{
-    words[..option_count(words)]
-        .iter()
-        .position(|word| is_refused(verb, word))
-}
 
 // Whether the word is the address `router`.
 fn is_router(word: &Word) -> bool
@@ -124,36 +107,12 @@ fn built(alloc: Global, command: &Command, place: Option<usize>) -> Result<Edit,
     }
 }
 
-// What a command says, by the place of its first option that is refused.
-#[tactic(auto, using(crate::proofs::Small::has_small_numbers))]
-fn optioned(
-    alloc: Global,
-    verb: Verb,
-    command: &Command,
-    place: Option<usize>,
-) -> Result<Edit, LineFault>
-    requires small { is_small command.now ≡ true }
-    requires within { IfSome place (λ p. p < length command.now.words) }
-    ensures read { IfOk result (λ edit. optioned verb command.now place ≡ Ok edit) }
-    ensures refused { IfErr result (λ fault. IsFaultOf (optioned verb command.now place) fault) }
-{
-    match place {
-        None => {
-            let word = unbuilt_word(verb, command.words.as_slice());
-            built(alloc, command, word)
-        }
-        Some(place) => {
-            Err(LineFault::Refused(Refusal::NotInProfile(command.first + place as u32)))
-        }
-    }
-}
-
 /// The edit that a command of this name asks for.
 pub(crate) fn edit_of(alloc: Global, verb: Verb, command: &Command) -> Result<Edit, LineFault>
     requires { is_small command.now ≡ true }
     ensures read { IfOk result (λ edit. edit_of verb command.now ≡ Ok edit) }
     ensures refused { IfErr result (λ fault. IsFaultOf (edit_of verb command.now) fault) }
 {
-    let option = refused_option(verb, command.words.as_slice());
-    optioned(alloc, verb, command, option)
+    let word = unbuilt_word(verb, command.words.as_slice());
+    built(alloc, command, word)
 }

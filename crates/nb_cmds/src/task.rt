@@ -26,7 +26,7 @@ pub enum Task {
 }
 
 // The table.
-static TASKS: [Task; 12] = [
+static TASKS: [Task; 18] = [
     Task::Edit(Verb::LsAdd),
     Task::Edit(Verb::LsDel),
     Task::Edit(Verb::LspAdd),
@@ -36,6 +36,12 @@ static TASKS: [Task; 12] = [
     Task::Edit(Verb::LspSetEnabled),
     Task::Edit(Verb::AclAdd),
     Task::Edit(Verb::AclDel),
+    Task::Edit(Verb::PgAdd),
+    Task::Edit(Verb::PgSetPorts),
+    Task::Edit(Verb::PgDel),
+    Task::Edit(Verb::AsAdd),
+    Task::Edit(Verb::AsSet),
+    Task::Edit(Verb::AsDel),
     Task::Query(Question::FlowList),
     Task::Query(Question::Trace),
     Task::Query(Question::Dump),
@@ -44,7 +50,7 @@ static TASKS: [Task; 12] = [
 impl Task {
     /// All that is built.
     #[tactic(auto, unfolding(crate::specs::Tasks::tasks))]
-    pub fn all() -> &'static [Task; 12]
+    pub fn all() -> &'static [Task; 18]
         ensures { result.now ≡ tasks }
     {
         &TASKS

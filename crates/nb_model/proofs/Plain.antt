@@ -12,7 +12,7 @@ use Rattle.nb_records.specs.declared.switch.Port.{Port}
 use Rattle.nb_records.specs.declared.switch.Switch.{Switch}
 use Rattle.nb_model.specs.Belongs.{is_number, is_to_router, owner_id}
 use Rattle.nb_model.specs.Effect.{each_where, where_there, add_switch, add_port, delete_switch, delete_port, set_port, acl_like, add_acl, is_acl, effect}
-use Rattle.nb_model.specs.Network.{Network, empty_network, next_number, switch_named, port_named, switch_id}
+use Rattle.nb_model.specs.Network.{Network, empty_network, next_number, switch_named, port_named, switch_id, group_id}
 use Rattle.nb_model.specs.Tests.{refusal}
 use Rattle.nb_model.specs.Transactions.{unless, applied, edited}
 use Rattle.nb_model.proofs.Reading.{goes_on}
@@ -96,6 +96,13 @@ module _ (net : Network) (plain : IsPlain net) where
       where_added (owner_id net of name) (λ owner. record { id = next_number net; owner = owner; way = way; priority = priority; matching = matching; verdict = verdict }) (λ owner. built)
   edit_plain (edit.AclDel name way rule of) built =
       record { acls = all_filter _ (λ acl. not (is_acl (owner_id net of name) way rule acl)) net.acls plain.acls; switches = plain.switches; ports = plain.ports }
+  edit_plain (edit.PgAdd name ports) built = record { acls = plain.acls; switches = plain.switches; ports = plain.ports }
+  edit_plain (edit.PgSetPorts name ports) built = record { acls = plain.acls; switches = plain.switches; ports = plain.ports }
+  edit_plain (edit.PgDel name given) built =
+      record { acls = all_filter _ (λ acl. not (is_number (group_id net name) acl.owner)) net.acls plain.acls; switches = plain.switches; ports = plain.ports }
+  edit_plain (edit.AsAdd name members) built = record { acls = plain.acls; switches = plain.switches; ports = plain.ports }
+  edit_plain (edit.AsSet name members) built = record { acls = plain.acls; switches = plain.switches; ports = plain.ports }
+  edit_plain (edit.AsDel name given) built = record { acls = plain.acls; switches = plain.switches; ports = plain.ports }
   edit_plain _ built = absurd built
 
 -- ---- lines

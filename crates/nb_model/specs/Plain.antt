@@ -22,7 +22,8 @@ pub record IsPlain (net : Network) : Type 0 where
   pub switches : AllByRecursion (λ (switch : Switch). switch.lbs ≡ []) net.switches
   pub ports : AllByRecursion (λ (port : Port). is_to_router port ≡ false) net.ports
 
--- the edits of switches, of their ports and of ACLs that lines can ask for while connections and routers are not built
+-- the edits of switches, of their ports, of ACLs, address sets and port groups that lines can ask for while connections and routers
+-- are not built
 abbrev pub IsBuilt : Edit → Type 0
 IsBuilt (edit.LsAdd name may) = Unit {0}
 IsBuilt (edit.LsDel name given) = Unit {0}
@@ -33,4 +34,10 @@ IsBuilt (edit.LspSetPortSecurity port list) = Unit {0}
 IsBuilt (edit.LspSetEnabled port enabled) = Unit {0}
 IsBuilt (edit.AclAdd name way priority matching verdict may of) = tracks_none verdict ≡ true
 IsBuilt (edit.AclDel name way rule of) = Unit {0}
+IsBuilt (edit.AsAdd name members) = Unit {0}
+IsBuilt (edit.AsSet name members) = Unit {0}
+IsBuilt (edit.AsDel name given) = Unit {0}
+IsBuilt (edit.PgAdd name ports) = Unit {0}
+IsBuilt (edit.PgSetPorts name ports) = Unit {0}
+IsBuilt (edit.PgDel name given) = Unit {0}
 IsBuilt _ = ⊥

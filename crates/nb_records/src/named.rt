@@ -35,7 +35,7 @@ fn compare_named(name: &Name, listed: &[ObjId], place: usize, tag: &Tag) -> Orde
     ensures { result ≡ order_at tag_cmp (slice_get (named_tags name.now listed.now) place) tag.now }
 {
     if place == 0 {
-        Named(name).compare(tag)
+        Named(name.as_slice()).compare(tag)
     } else {
         Tag::Lists(listed[place - 1]).cmp(tag)
     }

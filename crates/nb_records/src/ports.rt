@@ -53,7 +53,7 @@ impl Record for Port {
 
     fn compare_tag(&self, place: usize, tag: &Tag) -> Ordering {
         match place {
-            0 => Named(&self.name).compare(tag),
+            0 => Named(self.name.as_slice()).compare(tag),
             1 => Tag::Of(self.switch).cmp(tag),
             _ => match &self.router_port {
                 Some(name) => Names(name).compare(tag),
@@ -95,7 +95,7 @@ impl Record for RouterPort {
 
     fn compare_tag(&self, place: usize, tag: &Tag) -> Ordering {
         if place == 0 {
-            Named(&self.name).compare(tag)
+            Named(self.name.as_slice()).compare(tag)
         } else {
             Tag::Of(self.router).cmp(tag)
         }

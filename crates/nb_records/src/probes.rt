@@ -6,9 +6,9 @@ use nv_base::Name;
 use nv_map::Probe;
 use std::cmp::Ordering;
 
-/// The tag `Named` of a name that is borrowed.
+/// The tag `Named` of a name of these bytes.
 #[derive(Drop)]
-pub struct Named<'a>(pub &'a Name);
+pub struct Named<'a>(pub &'a [u8]);
 
 /// The tag `Names` of a name that is borrowed.
 #[derive(Drop)]
@@ -26,7 +26,7 @@ impl<'a> Probe<Tag> for Named<'a> {
 
     fn compare(&self, key: &Tag) -> Ordering {
         match key {
-            Tag::Named(name) => self.0.cmp(name),
+            Tag::Named(name) => self.0.cmp(name.as_slice()),
             Tag::Of(_) | Tag::Names(_) | Tag::Lists(_) | Tag::Says(..) => Ordering::Less,
         }
     }

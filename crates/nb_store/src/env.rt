@@ -1,10 +1,18 @@
 //! What matches look up in the tables.
-ghost use Rattle.std.specs.Prelude.{refl};
-ghost use Rattle.nb_model.specs.Names.{names};
+ghost use Rattle.std.specs.Prelude.{◌≡◌, refl};
+ghost use Rattle.std.specs.List.{flat_map, list_any};
+ghost use Rattle.std.specs.Option.{option_copied};
+ghost use Rattle.nb_model.specs.Addresses.{size_of};
+ghost use Rattle.nb_model.specs.Names.{names, is_member, has_address, group_has_address};
+ghost use Rattle.nb_model.specs.Network.{set_named, group_named};
+ghost use Rattle.nb_model.specs.Readable.{ips_of};
+ghost use Rattle.nv_table.specs.Table.{record_of};
 
+use crate::numbers::is_among;
 use crate::records::Records;
 use expr_core::Env;
-use nv_base::{Name, ObjId};
+use nb_records::{Addr, AddrSet, Group, Member, Named};
+use nv_base::{Name, ObjId, Prefix};
 
 impl Env for Records {
     ghost lookup = { names };
@@ -16,12 +24,22 @@ impl Env for Records {
         self.port_of(name)
     }
 
-    fn in_set(&self, _name: &[u8], _width: u8, _value: u128) -> bool {
-        false
+    fn in_set(&self, name: &[u8], width: u8, value: u128) -> bool {
+        match self.set_of(name) {
+            Some(set) => has_member(set.members.as_slice(), width, value),
+            None => {
+                width == 32
+                    && name.ends_with(b"_ip4")
+                    && self.group_has_address(&name[..name.len() - 4], value)
+            }
+        }
     }
 
-    fn in_group(&self, _name: &[u8], _port: ObjId) -> bool {
-        false
+    fn in_group(&self, name: &[u8], port: ObjId) -> bool {
+        match self.group_of(name) {
+            Some(group) => is_among(port, group.ports.as_slice()),
+            None => false,
+        }
     }
 
     fn is_switch(&self, dp: ObjId) -> bool {
@@ -29,4 +47,88 @@ impl Env for Records {
     }
 
     ghost multicast_is_no_port = { λ _. (refl, refl) };
+}
+
+impl Records {
+    // The address set whose name has these bytes.
+    fn set_of(&self, name: &[u8]) -> Option<&AddrSet>
+        ensures { option_copied result ≡ set_named self.now name.now }
+    {
+        self.sets.tagged(&Named(name), None)
+    }
+
+    // The port group whose name has these bytes.
+    fn group_of(&self, name: &[u8]) -> Option<&Group>
+        ensures { option_copied result ≡ group_named self.now name.now }
+    {
+        self.groups.tagged(&Named(name), None)
+    }
+
+    // Whether the address is that of a port of the group of this name.
+    fn group_has_address(&self, name: &[u8], value: u128) -> bool
+        ensures { result ≡ group_has_address self.now name.now value }
+    {
+        match self.group_of(name) {
+            Some(group) => self.have_address(group.ports.as_slice(), value),
+            None => false,
+        }
+    }
+
+    // Whether one of these ports has the address.
+    fn have_address(&self, ports: &[ObjId], value: u128) -> bool
+        ensures { result ≡ list_any (λ number. has_address value (record_of (λ port. port.id) number self.now.ports)) ports.now }
+    {
+        ports.iter().any(|port| self.has_address(*port, value))
+    }
+
+    // Whether the port has the address.
+    fn has_address(&self, port: ObjId, value: u128) -> bool
+        ensures { result ≡ has_address value (record_of (λ port. port.id) port self.now.ports) }
+    {
+        match self.ports.get(port) {
+            Some(port) => are_addresses(port.addresses.as_slice(), value),
+            None => false,
+        }
+    }
+}
+
+// Whether one of the addresses of a port is this one.
+fn are_addresses(addresses: &[Addr], value: u128) -> bool
+    ensures { result ≡ list_any (λ ip. ip.0 == value) (flat_map ips_of addresses.now) }
+{
+    addresses.iter().any(|addr| is_address(addr, value))
+}
+
+// Whether an address of a port is this one.
+fn is_address(addr: &Addr, value: u128) -> bool
+    ensures { result ≡ list_any (λ ip. ip.0 == value) (ips_of addr.now) }
+{
+    match addr {
+        Addr::Unknown | Addr::Router => false,
+        Addr::Host { ips, .. } => ips.as_slice().iter().any(|ip| u128::from(ip.0) == value),
+    }
+}
+
+// Whether a number of so many bits is one of the members of a set.
+fn has_member(members: &[Member], width: u8, value: u128) -> bool
+    ensures { result ≡ list_any (is_member width value) members.now }
+{
+    members.iter().any(|member| is_member(*member, width, value))
+}
+
+// Whether a number of so many bits is a member of a set.
+fn is_member(member: Member, width: u8, value: u128) -> bool
+    ensures { result ≡ is_member width value member }
+{
+    match member {
+        Member::Mac(mac) => width == 48 && u128::from(mac.0) == value,
+        Member::Net(net) => width == 32 && value / size_of(net) == u128::from(net.base.0) / size_of(net),
+    }
+}
+
+// How many addresses a network has.
+fn size_of(net: Prefix) -> u128
+    ensures { result ≡ size_of net }
+{
+    1 << 32_u8.saturating_sub(net.len)
 }

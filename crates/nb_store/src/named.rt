@@ -13,49 +13,49 @@ impl Records {
     pub fn switch_named(&self, name: &Name) -> Option<&Switch>
         ensures { option_copied result ≡ switch_named self.now name.now }
     {
-        self.switches.tagged(&Named(name), None)
+        self.switches.tagged(&Named(name.as_slice()), None)
     }
 
     /// The router of this name.
     pub fn router_named(&self, name: &Name) -> Option<&Router>
         ensures { option_copied result ≡ router_named self.now name.now }
     {
-        self.routers.tagged(&Named(name), None)
+        self.routers.tagged(&Named(name.as_slice()), None)
     }
 
     /// The switch port of this name.
     pub fn port_named(&self, name: &Name) -> Option<&Port>
         ensures { option_copied result ≡ port_named self.now name.now }
     {
-        self.ports.tagged(&Named(name), None)
+        self.ports.tagged(&Named(name.as_slice()), None)
     }
 
     /// The router port of this name.
     pub fn router_port_named(&self, name: &Name) -> Option<&RouterPort>
         ensures { option_copied result ≡ router_port_named self.now name.now }
     {
-        self.router_ports.tagged(&Named(name), None)
+        self.router_ports.tagged(&Named(name.as_slice()), None)
     }
 
     /// The load balancer of this name.
     pub fn lb_named(&self, name: &Name) -> Option<&Lb>
         ensures { option_copied result ≡ lb_named self.now name.now }
     {
-        self.lbs.tagged(&Named(name), None)
+        self.lbs.tagged(&Named(name.as_slice()), None)
     }
 
     /// The address set of this name.
     pub fn set_named(&self, name: &Name) -> Option<&AddrSet>
         ensures { option_copied result ≡ set_named self.now name.now }
     {
-        self.sets.tagged(&Named(name), None)
+        self.sets.tagged(&Named(name.as_slice()), None)
     }
 
     /// The port group of this name.
     pub fn group_named(&self, name: &Name) -> Option<&Group>
         ensures { option_copied result ≡ group_named self.now name.now }
     {
-        self.groups.tagged(&Named(name), None)
+        self.groups.tagged(&Named(name.as_slice()), None)
     }
 
     /// The number of the switch of this name.

@@ -113,7 +113,9 @@ fn is_address(addr: &Addr, value: u128) -> bool
 fn has_member(members: &[Member], width: u8, value: u128) -> bool
     ensures { result ≡ list_any (is_member width value) members.now }
 {
-    members.iter().any(|member| is_member(*member, width, value))
+    members
+        .iter()
+        .any(|member| is_member(*member, width, value))
 }
 
 // Whether a number of so many bits is a member of a set.
@@ -122,7 +124,8 @@ fn is_member(member: Member, width: u8, value: u128) -> bool
 {
     match member {
         Member::Mac(mac) => width == 48 && u128::from(mac.0) == value,
-        Member::Net(net) => width == 32 && value / size_of(net) == u128::from(net.base.0) / size_of(net),
+        Member::Net(net) => width == 32
+            && value / size_of(net) == u128::from(net.base.0) / size_of(net),
     }
 }
 

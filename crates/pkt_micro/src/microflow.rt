@@ -4,7 +4,7 @@ ghost use Rattle.expr_core.specs.declared.role.Role.TheVariants as role;
 ghost use Rattle.pkt_micro.specs.Microflow.{microflow, is_memory};
 
 use crate::MicroFault;
-use crate::judge::{contradiction, packet_with, inport_of};
+use crate::judge::{contradiction, inport_of, packet_with};
 use crate::said::put_said;
 use expr_core::Typed;
 use nv_base::{Items, Name};

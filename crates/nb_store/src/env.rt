@@ -3,12 +3,12 @@ ghost use Rattle.std.specs.Prelude.{◌≡◌, refl};
 ghost use Rattle.std.specs.List.{flat_map, list_any};
 ghost use Rattle.std.specs.Option.{option_copied};
 ghost use Rattle.nb_model.specs.Addresses.{size_of};
-ghost use Rattle.nb_model.specs.Names.{names, is_member, has_address, group_has_address};
+ghost use Rattle.nb_model.specs.Names.{names, is_member, has_address, group_has, group_has_address};
 ghost use Rattle.nb_model.specs.Network.{set_named, group_named};
 ghost use Rattle.nb_model.specs.Readable.{ips_of};
-ghost use Rattle.nv_table.specs.Table.{record_of};
+ghost use Rattle.nb_store.specs.inner.Listed.{before, is_it};
+ghost use Rattle.nv_table.specs.Table.{record_of, NumbersRise};
 
-use crate::numbers::is_among;
 use crate::records::Records;
 use expr_core::Env;
 use nb_records::{Addr, AddrSet, Group, Member, Named};
@@ -36,10 +36,7 @@ impl Env for Records {
     }
 
     fn in_group(&self, name: &[u8], port: ObjId) -> bool {
-        match self.group_of(name) {
-            Some(group) => is_among(port, group.ports.as_slice()),
-            None => false,
-        }
+        self.group_has(name, port)
     }
 
     fn is_switch(&self, dp: ObjId) -> bool {
@@ -59,9 +56,22 @@ impl Records {
 
     // The port group whose name has these bytes.
     fn group_of(&self, name: &[u8]) -> Option<&Group>
-        ensures { option_copied result ≡ group_named self.now name.now }
+        ensures group { option_copied result ≡ group_named self.now name.now }
+        ensures rise { NumbersRise (λ group. group.id) self.now.groups }
     {
         self.groups.tagged(&Named(name), None)
+    }
+
+    // Whether the port is in the group of this name: whether, of the groups that have the port, it is the first from its number on.
+    // However many ports it has, this is two look-ups.
+    #[tactic(auto, using(crate::proofs::Listed::listed, crate::proofs::Listed::no_group))]
+    fn group_has(&self, name: &[u8], port: ObjId) -> bool
+        ensures { result ≡ group_has self.now name.now port }
+    {
+        let Some(group) = self.group_of(name) else {
+            return false;
+        };
+        is_it(group.id, self.group_with(port, before(group.id)))
     }
 
     // Whether the address is that of a port of the group of this name.
@@ -89,6 +99,26 @@ impl Records {
             Some(port) => are_addresses(port.addresses.as_slice(), value),
             None => false,
         }
+    }
+}
+
+// The number before this one, if there is one.
+fn before(number: ObjId) -> Option<ObjId>
+    ensures { result ≡ before number }
+{
+    match number.0.checked_sub(1) {
+        Some(low) => Some(ObjId(low)),
+        None => None,
+    }
+}
+
+// Whether a group was found, and has this number.
+fn is_it(number: ObjId, found: Option<&Group>) -> bool
+    ensures { result ≡ is_it number (option_copied found) }
+{
+    match found {
+        Some(group) => group.id == number,
+        None => false,
     }
 }
 

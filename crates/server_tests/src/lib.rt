@@ -12,4 +12,6 @@ mod rows;
 #[cfg(test)]
 mod serve;
 #[cfg(test)]
+mod shown;
+#[cfg(test)]
 mod stages;

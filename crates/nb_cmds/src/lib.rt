@@ -16,4 +16,4 @@ pub use laws::{
 pub use line::{Line, read_line};
 pub use query::Query;
 pub use readings::what_commands_ask_for_is_readable;
-pub use task::{Question, Task, task_of};
+pub use task::{Question, Task, is_minimal, task_of};

@@ -84,7 +84,7 @@ pub fn task_of(name: &[u8]) -> Option<Task>
 }
 
 /// Whether the word is `--minimal`.
-pub(crate) fn is_minimal(word: &Word) -> bool
+pub fn is_minimal(word: &Word) -> bool
     ensures { result ≡ is_minimal word.now }
 {
     word.text.as_slice() == b"--minimal".as_slice()

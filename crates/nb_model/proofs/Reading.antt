@@ -1,5 +1,5 @@
 -- What holds of what a reading gives, where it gives something: what the steps of readings keep.
-use Rattle.std.proofs.Common.{◌≡◌, ℕ, Bool, true, false, List, Option, Some, None, Result, Ok, Err, IfOk, IfSome, ok_or, option_map, option_and_then, refl, if◌then◌else◌}
+use Rattle.std.proofs.Common.{◌≡◌, Bool, true, false, Option, Some, None, Result, Ok, Err, IfOk, IfSome, ok_or, option_map, option_and_then, refl, if◌then◌else◌}
 use Rattle.std.specs.Bool.{IsTrue}
 use Rattle.nb_records.specs.declared.refusal.Refusal.{Refusal}
 use Rattle.nb_read.specs.Then.{and_then}

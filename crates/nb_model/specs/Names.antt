@@ -1,5 +1,5 @@
 -- What the names in matches and actions mean in a network (ovn-sb(5); ovn-nb(5), 'Address_Set TABLE' and 'Port_Group TABLE').
-use Rattle.std.specs.Prelude.{ℕ, ◌==◌, ◌-◌, ◌/◌, Bool, false, ◌&&◌, List, length, take, Option, Some, None, is_some, nat_eq, codes, if◌then◌else◌}
+use Rattle.std.specs.Prelude.{ℕ, ◌==◌, ◌-◌, ◌/◌, Bool, false, ◌&&◌, List, [], length, take, Option, Some, None, is_some, nat_eq, codes, if◌then◌else◌}
 use Rattle.std.specs.List.{starts_with, ends_with, find, flat_map, list_any}
 use Rattle.nv_base.specs.declared.object.ObjId.{ObjId}
 use Rattle.expr_core.specs.Lookup.{Lookup}

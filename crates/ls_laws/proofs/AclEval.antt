@@ -54,7 +54,7 @@ use Rattle.ls_laws.proofs.Selected.{first_of_takers}
 use Rattle.ls_laws.proofs.Tables.{IsSwitchRule, IsPortRule, IsAclRule, IsRule, filter_passes, table-gives}
 use Rattle.ls_laws.proofs.Takers.{lower_after, later_after, step_by}
 use Rattle.sb_model.specs.Stage.{last_table}
-use Rattle.sb_model.specs.declared.stage.DatapathKind.TheVariants.{Switch}
+use Rattle.sb_model.specs.declared.stage.DatapathKind.TheVariants as datapath
 
 -- ---- what the actions of an ACL do
 
@@ -72,7 +72,7 @@ answer_is packet = by (meets packet Tcp) refl (is_answerable packet)
 
 -- what is done to the packet that answers
 abbrev block : List Step
-block = turns_back ++ Jump true (last_table Switch) ∷ []
+block = turns_back ++ Jump true (last_table datapath.Switch) ∷ []
 
 -- the stage after that of a direction
 abbrev next_of : Way → Stage
@@ -93,7 +93,7 @@ module _ (net : Network) (way : Way) (packet : Values) where
   rejected_is w = ap (answered (names net) (stage_of w) block) (answer_is packet) ∙ by w (is_answerable packet)
     where
       by : (v : Way) (may : Bool) → answered (names net) (stage_of v) block (cond may (Some (rejection packet)) None)
-          ≡ cond may (Ends (Some (Made (sent_back (rejection packet)) (last_table Switch) Reject))) (Ends (Some (Drop acl_cause)))
+          ≡ cond may (Ends (Some (Made (sent_back (rejection packet)) (last_table datapath.Switch) Reject))) (Ends (Some (Drop acl_cause)))
       by From true = refl
       by From false = refl
       by To true = refl

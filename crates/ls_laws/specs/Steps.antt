@@ -26,7 +26,7 @@ use Rattle.tr_stage.specs.Machine.{Flows, StageEnd, flows_of, step}
 use Rattle.tr_stage.specs.Machine.StageEnd.{On, Ends}
 use Rattle.tr_stage.specs.declared.outcome.Outcome.TheVariants.{Leave, Deliver, Made, Drop}
 use Rattle.sb_model.specs.Stage.{last_table}
-use Rattle.sb_model.specs.declared.stage.DatapathKind.TheVariants.{Switch}
+use Rattle.sb_model.specs.declared.stage.DatapathKind.TheVariants as datapath
 use Rattle.nv_base.specs.Object.{flood_number, unknown_number}
 
 -- the flows of a network at one of its datapaths
@@ -74,7 +74,7 @@ sent_back packet = with_values packet ((Outport, value packet Inport) ∷ (Flags
 
 -- a rejected packet is answered, where it may be
 abbrev pub rejected : Values → StageEnd
-rejected packet = if is_answerable packet then Ends (Some (Made (sent_back (rejection packet)) (last_table Switch) Reject)) else Ends (Some (Drop Acl))
+rejected packet = if is_answerable packet then Ends (Some (Made (sent_back (rejection packet)) (last_table datapath.Switch) Reject)) else Ends (Some (Drop Acl))
 
 -- what follows a decision
 abbrev pub decided : Decision → Stage → Values → StageEnd

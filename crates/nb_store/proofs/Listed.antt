@@ -1,5 +1,5 @@
 -- Of the groups that list a port, the first from the number of a group on is that group exactly where it lists the port.
-use Rattle.std.proofs.Common.{◌≡◌, ℕ, ◌<◌, Bool, true, false, cond, ◌==◌, ◌&&◌, List, [], ◌∷◌, Option, Some, None, refl, sym, ap, ◌∙◌, subst, arith}
+use Rattle.std.proofs.Common.{◌≡◌, ℕ, ◌<◌, Bool, true, false, cond, ◌==◌, ◌-◌, ◌&&◌, List, [], ◌∷◌, Option, Some, None, refl, sym, ap, ◌∙◌, subst, arith}
 use Rattle.std.specs.Prelude.{find}
 use Rattle.std.specs.List.{AllByRecursion}
 use Rattle.std.specs.Str.{bytes_eq}
@@ -44,11 +44,12 @@ module _ (port : ObjId) (g : ObjId) where
   found_later : (name : List ℕ) (low : ObjId) (groups : List Group) (group : Group) → AllByRecursion (λ (x : Group). low.0 < x.id.0) groups
       → find (λ (x : Group). bytes_eq x.name name) groups ≡ Some group → low.0 < group.id.0
   found_later name low [] group all is = absurd cc
-  found_later name low (x ∷ groups) group all is = by (bytes_eq x.name name) is
+  found_later name low (x ∷ groups) group all is = by (bytes_eq x.name name) is (λ e. found_later name low groups group all.1 e)
     where
-      by : (b : Bool) → cond b (Some x) (find (λ (x : Group). bytes_eq x.name name) groups) ≡ Some group → low.0 < group.id.0
-      by true e = let same : x ≡ group = cc in subst (λ (y : Group). low.0 < y.id.0) same all.0
-      by false e = found_later name low groups group all.1 e
+      by : (b : Bool) → cond b (Some x) (find (λ (x : Group). bytes_eq x.name name) groups) ≡ Some group
+          → (find (λ (x : Group). bytes_eq x.name name) groups ≡ Some group → low.0 < group.id.0) → low.0 < group.id.0
+      by true e rest = let same : x ≡ group = cc in subst (λ (y : Group). low.0 < y.id.0) same all.0
+      by false e rest = rest e
 
   -- the group itself, and what follows it
   at_group : (group : Group) (groups : List Group) → group.id ≡ g → AllByRecursion (λ (x : Group). group.id.0 < x.id.0) groups → is_it g (find listing (group ∷ groups)) ≡ is_among port group.ports
@@ -62,13 +63,15 @@ module _ (port : ObjId) (g : ObjId) where
   pub first_listed : (name : List ℕ) (groups : List Group) (group : Group) → NumbersRise (λ (x : Group). x.id) groups → group.id ≡ g
       → find (λ (x : Group). bytes_eq x.name name) groups ≡ Some group → is_it g (find listing groups) ≡ is_among port group.ports
   first_listed name [] group rise is found = absurd cc
-  first_listed name (x ∷ groups) group rise is found = by (bytes_eq x.name name) found
+  first_listed name (x ∷ groups) group rise is found = by (bytes_eq x.name name) found (λ e. first_listed name groups group rise.1 is e)
     where
-      by : (b : Bool) → cond b (Some x) (find (λ (x : Group). bytes_eq x.name name) groups) ≡ Some group → is_it g (find listing (x ∷ groups)) ≡ is_among port group.ports
-      by true e = let same : x ≡ group = cc in subst (λ (y : Group). is_it g (find listing (y ∷ groups)) ≡ is_among port group.ports) (sym same) (at_group group groups is (subst (λ (y : Group). AllByRecursion (λ (z : Group). y.id.0 < z.id.0) groups) same rise.0))
-      by false e =
+      by : (b : Bool) → cond b (Some x) (find (λ (x : Group). bytes_eq x.name name) groups) ≡ Some group
+          → (find (λ (x : Group). bytes_eq x.name name) groups ≡ Some group → is_it g (find listing groups) ≡ is_among port group.ports)
+          → is_it g (find listing (x ∷ groups)) ≡ is_among port group.ports
+      by true e rest = let same : x ≡ group = cc in subst (λ (y : Group). is_it g (find listing (y ∷ groups)) ≡ is_among port group.ports) (sym same) (at_group group groups is (subst (λ (y : Group). AllByRecursion (λ (z : Group). y.id.0 < z.id.0) groups) same rise.0))
+      by false e rest =
           ap (λ b. is_it g (cond (b && is_among port x.ports) (Some x) (find listing groups))) (earlier_is_not x.id g (subst (λ (n : ObjId). x.id.0 < n.0) is (found_later name x.id groups group rise.0 e)))
-          ∙ first_listed name groups group rise.1 is e
+          ∙ rest e
 
 -- the group of a name has a port exactly where it is the first of those from its number on that list the port
 pub listed : (net : Network) (name : List ℕ) (port : ObjId) (group : Group) → NumbersRise (λ (x : Group). x.id) net.groups → group_named net name ≡ Some group

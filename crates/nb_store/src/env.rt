@@ -1,17 +1,16 @@
 //! What matches look up in the tables.
-ghost use Rattle.std.specs.Prelude.{◌≡◌, refl};
+ghost use Rattle.std.specs.Prelude.{◌≡◌, ◌==◌, refl};
 ghost use Rattle.std.specs.List.{flat_map, list_any};
 ghost use Rattle.std.specs.Option.{option_copied};
 ghost use Rattle.nb_model.specs.Addresses.{size_of};
 ghost use Rattle.nb_model.specs.Names.{names, is_member, has_address, group_has, group_has_address};
-ghost use Rattle.nb_model.specs.Network.{set_named, group_named};
 ghost use Rattle.nb_model.specs.Readable.{ips_of};
 ghost use Rattle.nb_store.specs.inner.Listed.{before, is_it};
-ghost use Rattle.nv_table.specs.Table.{record_of, NumbersRise};
+ghost use Rattle.nv_table.specs.Table.{record_of};
 
 use crate::records::Records;
 use expr_core::Env;
-use nb_records::{Addr, AddrSet, Group, Member, Named};
+use nb_records::{Addr, Group, Member};
 use nv_base::{Name, ObjId, Prefix};
 
 impl Env for Records {
@@ -47,21 +46,6 @@ impl Env for Records {
 }
 
 impl Records {
-    // The address set whose name has these bytes.
-    fn set_of(&self, name: &[u8]) -> Option<&AddrSet>
-        ensures { option_copied result ≡ set_named self.now name.now }
-    {
-        self.sets.tagged(&Named(name), None)
-    }
-
-    // The port group whose name has these bytes.
-    fn group_of(&self, name: &[u8]) -> Option<&Group>
-        ensures group { option_copied result ≡ group_named self.now name.now }
-        ensures rise { NumbersRise (λ group. group.id) self.now.groups }
-    {
-        self.groups.tagged(&Named(name), None)
-    }
-
     // Whether the port is in the group of this name: whether, of the groups that have the port, it is the first from its number on.
     // However many ports it has, this is two look-ups.
     #[tactic(auto, using(crate::proofs::Listed::listed, crate::proofs::Listed::no_group))]
@@ -114,7 +98,7 @@ fn before(number: ObjId) -> Option<ObjId>
 
 // Whether a group was found, and has this number.
 fn is_it(number: ObjId, found: Option<&Group>) -> bool
-    ensures { result ≡ is_it number (option_copied found) }
+    ensures { result ≡ is_it number (option_copied found.entry) }
 {
     match found {
         Some(group) => group.id == number,

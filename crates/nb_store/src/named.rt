@@ -3,6 +3,7 @@ ghost use Rattle.std.specs.Prelude.{◌≡◌};
 ghost use Rattle.std.specs.Option.{option_copied};
 ghost use Rattle.nb_model.specs.Network.{switch_named, router_named, port_named, router_port_named, lb_named, set_named, group_named, switch_id, router_id, port_id, router_port_id, lb_id, group_id};
 ghost use Rattle.nb_model.specs.Belongs.{owner_id};
+ghost use Rattle.nv_table.specs.Table.{NumbersRise};
 
 use crate::records::Records;
 use nb_records::{AddrSet, Group, Lb, Named, OwnerKind, Port, Router, RouterPort, Switch};
@@ -48,14 +49,29 @@ impl Records {
     pub fn set_named(&self, name: &Name) -> Option<&AddrSet>
         ensures { option_copied result ≡ set_named self.now name.now }
     {
-        self.sets.tagged(&Named(name.as_slice()), None)
+        self.set_of(name.as_slice())
+    }
+
+    /// The address set whose name has these bytes.
+    pub(crate) fn set_of(&self, name: &[u8]) -> Option<&AddrSet>
+        ensures { option_copied result ≡ set_named self.now name.now }
+    {
+        self.sets.tagged(&Named(name), None)
     }
 
     /// The port group of this name.
     pub fn group_named(&self, name: &Name) -> Option<&Group>
         ensures { option_copied result ≡ group_named self.now name.now }
     {
-        self.groups.tagged(&Named(name.as_slice()), None)
+        self.group_of(name.as_slice())
+    }
+
+    /// The port group whose name has these bytes.
+    pub(crate) fn group_of(&self, name: &[u8]) -> Option<&Group>
+        ensures group { option_copied result ≡ group_named self.now name.now }
+        ensures rise { NumbersRise (λ group. group.id) self.now.groups }
+    {
+        self.groups.tagged(&Named(name), None)
     }
 
     /// The number of the switch of this name.

@@ -349,12 +349,11 @@ pub(crate) enum Slip {
     IfExists,
     AllowRelated,
     RouterAddress,
-    GroupOwner,
     Ipv6,
 }
 
 /// What a slip looks like, and the hint.
-pub(crate) static SLIPS: [(&str, &str); 24] = [
+pub(crate) static SLIPS: [(&str, &str); 23] = [
     (
         "`ls-add sw0 # the first one`",
         "a comment stands on a line of its own: after other words `#` begins a word",
@@ -439,10 +438,6 @@ pub(crate) static SLIPS: [(&str, &str); 24] = [
     (
         "`lsp-set-addresses p1 router`",
         "routers are not built yet: write the MAC and the addresses of the router port",
-    ),
-    (
-        "`--type=port-group acl-add g0 to-lport 1 ip4 drop`",
-        "port groups are not built yet: add the ACL to the switch, with inport or outport in its match",
     ),
     (
         "`lsp-set-addresses p1 '00:00:00:00:00:01 fe80::1'`",

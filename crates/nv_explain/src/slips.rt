@@ -6,8 +6,8 @@ use crate::sentences::{Cause, Code, Slip, Wanted};
 use crate::told::number_of;
 use crate::wanted::wanted_at;
 use crate::wrong::wrong_words;
-use nb_edit::{Flag, Verb, verb_of};
 use nb_cmds::Task;
+use nb_edit::{Flag, Verb, verb_of};
 use nb_words::Command;
 use nv_base::{Name, OutOfMemory, read_ip4, read_prefix};
 use std::alloc::Global;
@@ -227,7 +227,6 @@ fn not_in_profile(text: &[u8]) -> Option<Slip> {
     match text {
         b"allow-related" => Some(Slip::AllowRelated),
         b"router" => Some(Slip::RouterAddress),
-        b"--type=port-group" => Some(Slip::GroupOwner),
         _ => {
             if !text.starts_with(b"-") && text.contains(&b':') {
                 Some(Slip::Ipv6)

@@ -1,7 +1,7 @@
 //! The forms of commands and of queries.
 use crate::sentences::{DATAPATH, OBJECT_NAME, PLACES, QUERIES, SET_NAME};
-use nb_edit::{Flag, Place, Tail, Verb};
 use nb_cmds::Question;
+use nb_edit::{Flag, Place, Tail, Verb};
 use nv_base::OutOfMemory;
 
 /// Appends a text.

@@ -4,9 +4,9 @@ use crate::place::{
     argument_number, arguments, most_words, name_of, place_at, takes_count, verb_in,
 };
 use crate::sentences::Cause;
+use nb_cmds::{Question, Task, is_minimal};
 use nb_edit::{Place, Verb, option_count};
 use nb_read::{nat_kind_of, proto_of, state_of, verdict_of, way_of};
-use nb_cmds::{Question, Task, is_minimal};
 use nb_words::{Command, Word};
 
 /// Why words are wrong, and the number of the word that shows it.

@@ -47,7 +47,7 @@ use Rattle.ls_laws.proofs.RuleStages.{acl_rule-gives, switch_rules-untracked, un
 use Rattle.tr_walk.specs.Reads.{FindsWhatItReads, FindWhatTheyRead, actions_find, answer_finds, once_changed}
 use Rattle.tr_walk.proofs.Ends.{every_image, every_piece}
 use Rattle.sb_model.specs.Stage.{last_table}
-use Rattle.sb_model.specs.declared.stage.DatapathKind.TheVariants.{Switch}
+use Rattle.sb_model.specs.declared.stage.DatapathKind.TheVariants as datapath
 
 -- a packet is ARP where it was before another field changed
 still_arp : (before packet : Values) → value packet EthType ≡ value before EthType → is_there before ArpOp ≡ true → is_there packet ArpSha ≡ true
@@ -74,7 +74,7 @@ module _ (known : Lookup) where
   -- ---- those of ACLs
 
   -- what answers a rejected packet came in by a port, as each packet did
-  rejected : (stage : Stage) (answer : Option Values) → answer_finds known stage (turns_back ++ step.Jump true (last_table Switch) ∷ []) answer ≡ true
+  rejected : (stage : Stage) (answer : Option Values) → answer_finds known stage (turns_back ++ step.Jump true (last_table datapath.Switch) ∷ []) answer ≡ true
   rejected stage None = refl
   rejected stage (Some packet) = refl
 

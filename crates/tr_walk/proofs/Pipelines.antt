@@ -217,7 +217,7 @@ module _ (laws : Laws) (net : Network) (sound : IsSound net) (stateless : IsStat
     acl_in : sees (run_from flows 125 LsInAclEval packet).outcome ≡ Some (carrying (means.decided (decision net dp From packet) packet (asked net port packet)))
     acl_in = ap sees (taken flows 124 LsInAclEval packet _ (here LsInAclEval (λ d. decided (decision net d From packet) LsInLb packet) (laws.decides_in net of.0 packet on))) ∙ by (decision net dp From packet)
       where
-        answer : (may : Bool) → sees (go_on (run_from flows 124) (cond may (Ends (Some (Made (sent_back (rejection packet)) (last_table Switch) Reject))) (Ends (Some (Drop Acl))))).outcome
+        answer : (may : Bool) → sees (go_on (run_from flows 124) (cond may (Ends (Some (Made (sent_back (rejection packet)) (last_table kinds.Switch) Reject))) (Ends (Some (Drop Acl))))).outcome
             ≡ Some (carrying (cond may (Makes Reject (numbered (value packet Inport)) (turned_back (rejection packet))) (Drops Acl)))
         answer true = rw (back_outport (rejection packet) rejection_is ∙ rejection_inport, carried_back (rejection packet) rejection_is) refl
         answer false = refl
@@ -257,9 +257,9 @@ module _ (laws : Laws) (net : Network) (sound : IsSound net) (stateless : IsStat
     unfolding stage_at all_stages
     begins_out = ap (λ (w : PipelineRun). w.outcome) (pipeline_begins flows Egress 0 packet LsOutPreAcl (ap (λ kind. stage_at kind Egress 0) of_switch))
 
-    begins_late : (run_pipeline flows Egress (last_table Switch) packet).outcome ≡ (run_from flows 128 LsOutCheckPortSec packet).outcome
+    begins_late : (run_pipeline flows Egress (last_table kinds.Switch) packet).outcome ≡ (run_from flows 128 LsOutCheckPortSec packet).outcome
     unfolding stage_at all_stages
-    begins_late = ap (λ (w : PipelineRun). w.outcome) (pipeline_begins flows Egress (last_table Switch) packet LsOutCheckPortSec (ap (λ kind. stage_at kind Egress (last_table Switch)) of_switch))
+    begins_late = ap (λ (w : PipelineRun). w.outcome) (pipeline_begins flows Egress (last_table kinds.Switch) packet LsOutCheckPortSec (ap (λ kind. stage_at kind Egress (last_table kinds.Switch)) of_switch))
 
     -- the last step
     checked_out : (budget : ℕ) → sees_out (run_from flows (suc budget) LsOutCheckPortSec packet).outcome ≡ Some (carrying (let_out port packet))
@@ -282,7 +282,7 @@ module _ (laws : Laws) (net : Network) (sound : IsSound net) (stateless : IsStat
         rejection_inport' true = reset_inport packet
         rejection_inport' false = error_inport packet
 
-        answer : (may : Bool) → sees_out (go_on (run_from flows 125) (cond may (Ends (Some (Made (sent_back (rejection packet)) (last_table Switch) Reject))) (Ends (Some (Drop Acl))))).outcome
+        answer : (may : Bool) → sees_out (go_on (run_from flows 125) (cond may (Ends (Some (Made (sent_back (rejection packet)) (last_table kinds.Switch) Reject))) (Ends (Some (Drop Acl))))).outcome
             ≡ Some (carrying (cond may (Makes Reject (numbered (value packet Inport)) (turned_back (rejection packet))) (Drops Acl)))
         answer true = rw (back_outport (rejection packet) (rejection_is' (meets packet Tcp)) ∙ rejection_inport' (meets packet Tcp), carried_back (rejection packet) (rejection_is' (meets packet Tcp))) refl
         answer false = refl
@@ -301,7 +301,7 @@ module _ (laws : Laws) (net : Network) (sound : IsSound net) (stateless : IsStat
     pub egress_is : option_map carrying (egress {S = State} net 0 port.id packet tt).passed ≡ Some (carrying (leaving_by net port packet))
     egress_is = rw at_dp egress_at
 
-    pub late_is : option_map carrying (egress {S = State} net (last_table Switch) port.id packet tt).passed ≡ Some (carrying (let_out port packet))
+    pub late_is : option_map carrying (egress {S = State} net (last_table kinds.Switch) port.id packet tt).passed ≡ Some (carrying (let_out port packet))
     late_is = rw at_dp (ap sees_out begins_late ∙ checked_out 127)
 
 module _ (laws : Laws) (net : Network) (sound : IsSound net) (stateless : IsStateless net) where

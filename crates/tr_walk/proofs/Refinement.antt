@@ -20,7 +20,7 @@ use Rattle.tr_walk.proofs.Pipelines as pipes
 use Rattle.tr_walk.proofs.StageLaws.{stage_laws}
 use Rattle.tr_walk.proofs.Kept.{arriving_kept, leaving_kept, let_out_kept, at_its_number, are_packets}
 use Rattle.sb_model.specs.Stage.{last_table}
-use Rattle.sb_model.specs.declared.stage.DatapathKind.TheVariants.{Switch}
+use Rattle.sb_model.specs.declared.stage.DatapathKind.TheVariants as datapath
 
 module _ (net : Network) (sound : IsSound net) (stateless : IsStateless net) where
   -- the port of a number, where the packet came in by it
@@ -51,7 +51,7 @@ module _ (net : Network) (sound : IsSound net) (stateless : IsStateless net) whe
               kept = subst (IsKept net) (sym (at_port_is (leaving_by net) is.port packet is.among)) (leaving_kept net sound packet inside.formed inside.by is.port is.among);
             });
         late = λ port packet state is inside.
-            subst (λ (number : ObjId). value packet Outport ≡ number.0 → SamePart net (egress net (last_table Switch) number packet state) (at_port {N = Unit {0}} net let_out number packet state)) is.is
+            subst (λ (number : ObjId). value packet Outport ≡ number.0 → SamePart net (egress net (last_table datapath.Switch) number packet state) (at_port {N = Unit {0}} net let_out number packet state)) is.is
             (λ to. record {
               passed = of_late is.port packet is.among inside.formed to ∙ sym (at_port_is let_out is.port packet is.among);
               state = refl;

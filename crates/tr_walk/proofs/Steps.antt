@@ -125,8 +125,8 @@ module _ (net : Network) (arrival : ObjId) (packet : Values) (old mid : List Eve
       → mid ++ leaving net (hops - 1) arrival (numbered (value packet Outport)) (table_for answer) (carried packet) ≡ old ++ answering net hops arrival answer packet
   made_leaves zero answer some first = absurd (some refl)
   made_leaves (suc hops) Reject some first =
-      ap (λ (n : ℕ). mid ++ leaving net n arrival (numbered (value packet Outport)) (last_table Switch) (carried packet)) (one_less hops)
-      ∙ ap (λ front. front ++ leaving net hops arrival (numbered (value packet Outport)) (last_table Switch) (carried packet)) first ∙ append_assoc old (events.Reject arrival ∷ []) _
+      ap (λ (n : ℕ). mid ++ leaving net n arrival (numbered (value packet Outport)) (last_table kinds.Switch) (carried packet)) (one_less hops)
+      ∙ ap (λ front. front ++ leaving net hops arrival (numbered (value packet Outport)) (last_table kinds.Switch) (carried packet)) first ∙ append_assoc old (events.Reject arrival ∷ []) _
   made_leaves (suc hops) Arp some first =
       ap (λ (n : ℕ). mid ++ leaving net n arrival (numbered (value packet Outport)) 0 (carried packet)) (one_less hops)
       ∙ ap (λ front. front ++ leaving net hops arrival (numbered (value packet Outport)) 0 (carried packet)) first ∙ append_assoc old [] _

@@ -18,7 +18,7 @@ use Rattle.tr_stage.specs.declared.outcome.Outcome.{Outcome}
 use Rattle.tr_stage.specs.declared.outcome.Outcome.TheVariants.{Leave, Deliver, Made, Drop}
 use Rattle.ls_laws.specs.Steps.{flows_at}
 use Rattle.sb_model.specs.Stage.{last_table}
-use Rattle.sb_model.specs.declared.stage.DatapathKind.TheVariants.{Switch}
+use Rattle.sb_model.specs.declared.stage.DatapathKind.TheVariants as datapath
 use Rattle.nv_base.specs.Object.{flood_number, unknown_number}
 
 -- what a walk leaves for the next one: nothing, as no switch tracks connections
@@ -38,7 +38,7 @@ target_of net dp number =
 
 -- a packet that is made leaves by its `outport`, late, which is by the last table
 abbrev pub made : Values → ℕ → Answer → Option Passed
-made packet table answer = if table == last_table Switch then Some (Makes answer (numbered (value packet Outport)) packet) else None
+made packet table answer = if table == last_table datapath.Switch then Some (Makes answer (numbered (value packet Outport)) packet) else None
 
 -- what becomes of a packet after ingress
 abbrev pub after_ingress : Network → ObjId → Option Outcome → Option Passed
@@ -68,7 +68,7 @@ egress net table port packet state = part_of after_egress (run_pipeline (flows_a
 
 -- the pipelines of the network as the parts of a walk
 abbrev pub pipelines : {S : Type 0} → Network → Parts Hit S
-pipelines net = record { arriving = ingress net; leaving = egress net 0; late = egress net (last_table Switch) }
+pipelines net = record { arriving = ingress net; leaving = egress net 0; late = egress net (last_table datapath.Switch) }
 
 -- what the rows do with a packet that comes in by a port and may take so many hops
 abbrev pub machine : {S : Type 0} → Network → ℕ → ObjId → Values → S → Walked Hit S

@@ -8,7 +8,7 @@ use Rattle.net_meaning.specs.Switches.{arriving_at, leaving_by, let_out, meaning
 use Rattle.net_meaning.specs.Walk.{Walked, carrying, events}
 use Rattle.tr_walk.specs.Machine.{State, ingress, egress, machine}
 use Rattle.sb_model.specs.Stage.{last_table}
-use Rattle.sb_model.specs.declared.stage.DatapathKind.TheVariants.{Switch}
+use Rattle.sb_model.specs.declared.stage.DatapathKind.TheVariants as datapath
 
 -- What a part of the machine makes of a packet is what the part of the meaning makes of it, in what goes on to the next part. The
 -- state is left as it is.
@@ -25,7 +25,7 @@ IsEgress net =
 abbrev pub IsLate : Network → Type 0
 IsLate net =
     (port : Port) (packet : Values) → Contains net.ports port → IsPacket packet → value packet Outport ≡ port.id.0
-    → option_map carrying (egress {S = State} net (last_table Switch) port.id packet tt).passed ≡ Some (carrying (let_out port packet))
+    → option_map carrying (egress {S = State} net (last_table datapath.Switch) port.id packet tt).passed ≡ Some (carrying (let_out port packet))
 
 -- two walks tell the same of packets, and leave the same state
 pub record AreAlike {N M S : Type 0} (one : Walked N S) (other : Walked M S) : Type 0 where

@@ -18,7 +18,7 @@ use Rattle.tr_walk.specs.Events.{event_of}
 use Rattle.tr_walk.specs.Machine.{State, numbered, after_ingress, after_egress, egress, pipelines}
 use Rattle.tr_walk.specs.Runnable.{AreRunnable}
 use Rattle.sb_model.specs.Stage.{last_table}
-use Rattle.sb_model.specs.declared.stage.DatapathKind.TheVariants.{Switch}
+use Rattle.sb_model.specs.declared.stage.DatapathKind.TheVariants as datapath
 
 -- the rows are those of a sound network, and each packet comes to an end in them
 pub record AreRowsOf (net : Network) (rows : List Row) : Type 0 where
@@ -35,7 +35,7 @@ onward net hops = hops_left net (pipelines net) hops
 
 -- the table of egress that an answer leaves by
 abbrev pub table_for : Answer → ℕ
-table_for Reject = last_table Switch
+table_for Reject = last_table datapath.Switch
 table_for Arp = 0
 
 module _ (net : Network) (hops : ℕ) where

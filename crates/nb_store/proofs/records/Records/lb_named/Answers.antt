@@ -1,7 +1,9 @@
 use Rattle.std.proofs.Common.{ap, ◌∙◌}
+use Rattle.std.specs.Prelude.{find}
+use Rattle.std.specs.Str.{bytes_eq}
 use Rattle.nb_model.specs.Network.{lb_named}
 use Rattle.nb_store.proofs.Found.{lb_found}
 use Rattle.nb_store.proofs.records.Records.lb_named.Goals as goal
 
 pub returns : goal.returns
-returns c = c.tagged.ensures.record ∙ lb_found c.args.name.now c.self.inside.lbs ∙ ap (λ net. lb_named net c.args.name.now) c.self.view_is
+returns c = c.tagged.ensures.record ∙ lb_found c.as_slice.result.now c.self.inside.lbs ∙ ap (λ name. find (λ r. bytes_eq r.name name) c.self.inside.lbs) c.as_slice.ensures ∙ ap (λ net. lb_named net c.args.name.now) c.self.view_is

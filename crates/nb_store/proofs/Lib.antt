@@ -4,5 +4,6 @@ pub mod Found
 pub mod Listed
 pub mod Owned
 pub mod Peering
+pub mod Pieces
 pub mod PlacedRecords
 pub mod Steps

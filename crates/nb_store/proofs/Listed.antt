@@ -28,7 +28,7 @@ itself_is g = by (g.0 == 0) refl
     by false e = grind (arith, nat_tests, e)
 
 module _ (port : ObjId) (g : ObjId) where
-  listing : Group → Bool
+  abbrev listing : Group → Bool
   listing x = is_after (before g) x.id && is_among port x.ports
 
   -- none of the later ones is it

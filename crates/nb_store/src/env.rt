@@ -1,6 +1,6 @@
 //! What matches look up in the tables.
 ghost use Rattle.std.specs.Prelude.{◌≡◌, ◌==◌, refl};
-ghost use Rattle.std.specs.List.{flat_map, list_any};
+ghost use Rattle.std.specs.List.{list_any};
 ghost use Rattle.std.specs.Option.{option_copied};
 ghost use Rattle.nb_model.specs.Addresses.{size_of};
 ghost use Rattle.nb_model.specs.Names.{names, is_member, has_address, group_has, group_has_address};
@@ -48,7 +48,6 @@ impl Env for Records {
 impl Records {
     // Whether the port is in the group of this name: whether, of the groups that have the port, it is the first from its number on.
     // However many ports it has, this is two look-ups.
-    #[tactic(auto, using(crate::proofs::Listed::listed, crate::proofs::Listed::no_group))]
     fn group_has(&self, name: &[u8], port: ObjId) -> bool
         ensures { result ≡ group_has self.now name.now port }
     {
@@ -76,6 +75,7 @@ impl Records {
     }
 
     // Whether the port has the address.
+    #[tactic(auto, using(crate::proofs::Pieces::any_of_pieces))]
     fn has_address(&self, port: ObjId, value: u128) -> bool
         ensures { result ≡ has_address value (record_of (λ port. port.id) port self.now.ports) }
     {
@@ -108,7 +108,7 @@ fn is_it(number: ObjId, found: Option<&Group>) -> bool
 
 // Whether one of the addresses of a port is this one.
 fn are_addresses(addresses: &[Addr], value: u128) -> bool
-    ensures { result ≡ list_any (λ ip. ip.0 == value) (flat_map ips_of addresses.now) }
+    ensures { result ≡ list_any (λ addr. list_any (λ ip. ip.0 == value) (ips_of addr)) addresses.now }
 {
     addresses.iter().any(|addr| is_address(addr, value))
 }

@@ -11,7 +11,7 @@ use Rattle.nb_model.specs.Belongs.{is_number}
 use Rattle.nb_model.specs.Effect.{effect, without, without_ports}
 use Rattle.nb_model.specs.Network.{Network, port_id, port_named, switch_id}
 use Rattle.nb_model.specs.Sound.{IsSound}
-use Rattle.nb_change.specs.Leaving.{without_switch}
+use Rattle.nb_change.specs.inner.Leaving.{without_switch}
 use Rattle.nb_store.proofs.PlacedRecords.{rises, apart_first}
 use Rattle.nb_change.proofs.Removed.{less_port, named_gone, none_gone, all_stay}
 

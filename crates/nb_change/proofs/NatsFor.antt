@@ -14,7 +14,7 @@ use Rattle.nb_model.specs.Effect.{effect, without}
 use Rattle.nb_model.specs.Network.{Network, same, router_id}
 use Rattle.nb_model.proofs.RecordLists.{found_holds}
 use Rattle.nv_table.specs.Table.{NumbersRise, without_number, is_after}
-use Rattle.nb_change.specs.Routers.{is_nat_for}
+use Rattle.nb_change.specs.inner.Routers.{is_nat_for}
 use Rattle.nb_change.proofs.OneByOne.{passed, to_see, seen_done, seen_rise, seen_same, seen_smaller, all_seen}
 use Rattle.nb_change.proofs.Goes.{none_goes}
 use Rattle.nb_change.proofs.RouterRemovals.{of_nats}

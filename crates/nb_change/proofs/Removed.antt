@@ -18,7 +18,7 @@ use Rattle.nb_model.specs.Readable.{are_apart}
 use Rattle.nb_model.proofs.RecordLists.{found_holds}
 use Rattle.nv_table.specs.Table.{NumbersRise, with_exchanged, without_number}
 use Rattle.nv_table.proofs.Undone.{rise_exchanged, rise_without}
-use Rattle.nb_change.specs.Leaving.{leave, leaving}
+use Rattle.nb_change.specs.inner.Leaving.{leave, leaving}
 use Rattle.nb_store.proofs.PlacedRecords.{IsPlaced, placed, none_without, named_once}
 
 -- Filters, one after another.

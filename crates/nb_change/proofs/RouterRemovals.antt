@@ -22,7 +22,7 @@ use Rattle.nb_model.specs.Sound.{IsSound}
 use Rattle.nb_model.proofs.RecordLists.{found_holds}
 use Rattle.nv_table.specs.Table.{NumbersRise, without_number}
 use Rattle.nv_table.proofs.Undone.{rise_without}
-use Rattle.nb_change.specs.Routers.{less_router_port, less_router}
+use Rattle.nb_change.specs.inner.Routers.{less_router_port, less_router}
 use Rattle.nb_store.proofs.PlacedRecords.{placed, none_without, named_once, rises}
 use Rattle.nb_change.proofs.Goes.{passing_goes, none_goes, apart_last}
 

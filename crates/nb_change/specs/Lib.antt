@@ -1,3 +1,1 @@
-pub mod Leaving
-pub mod Routers
 pub mod inner

@@ -5,7 +5,7 @@ ghost use Rattle.nb_model.specs.Effect.{without, is_asked, is_nat_at};
 ghost use Rattle.nb_model.specs.Network.{same};
 ghost use Rattle.nv_table.specs.Table.{NumbersRise};
 ghost use Rattle.nb_store.specs.Undo.{back_steps, removed};
-ghost use Rattle.nb_change.specs.Routers.{is_route_for, is_nat_for};
+ghost use Rattle.nb_change.specs.inner.Routers.{is_route_for, is_nat_for};
 
 use nb_records::{Nat, NatKind, Route, RouteBy};
 use nb_store::{Place, Work};

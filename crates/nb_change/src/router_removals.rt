@@ -5,7 +5,7 @@ ghost use Rattle.nb_model.specs.Network.{same};
 ghost use Rattle.nb_model.specs.Sound.{AreInOrder};
 ghost use Rattle.nv_table.specs.Table.{NumbersRise};
 ghost use Rattle.nb_store.specs.Undo.{back_steps};
-ghost use Rattle.nb_change.specs.Routers.{less_router_port, less_router};
+ghost use Rattle.nb_change.specs.inner.Routers.{less_router_port, less_router};
 
 use nb_store::{Place, Work};
 use nv_base::{ObjId, OutOfMemory};

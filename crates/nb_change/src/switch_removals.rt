@@ -5,7 +5,7 @@ ghost use Rattle.nb_model.specs.Network.{same};
 ghost use Rattle.nb_model.specs.Sound.{AreInOrder};
 ghost use Rattle.nv_table.specs.Table.{NumbersRise, without_number};
 ghost use Rattle.nb_store.specs.Undo.{back_steps};
-ghost use Rattle.nb_change.specs.Leaving.{leave, leaving, without_switch};
+ghost use Rattle.nb_change.specs.inner.Leaving.{leave, leaving, without_switch};
 
 use crate::acl_removals::remove_acls;
 use nb_records::Group;

@@ -1,5 +1,5 @@
 -- What the tests of an edit leave, and what they refuse.
-use Rattle.std.specs.Prelude.{◌≡◌, None, Some, Result}
+use Rattle.std.specs.Prelude.{◌≡◌, None, Result}
 use Rattle.nb_records.specs.declared.edit.Edit.{Edit}
 use Rattle.nb_records.specs.declared.refusal.Refusal.{Refusal}
 use Rattle.nb_model.specs.Network.{Network}
@@ -13,7 +13,3 @@ Passes net edit passed = (passed ≡ edit) × (first_refusal (tests net edit) �
 -- the edit, unless a test refuses it
 abbrev pub tested : Network → Edit → Result Edit Refusal
 tested net edit = unless (first_refusal (tests net edit)) edit
-
--- the refusal of the first test that fails
-abbrev pub Refuses : Network → Edit → Refusal → Type 0
-Refuses net edit refusal = first_refusal (tests net edit) ≡ Some refusal

@@ -5,7 +5,8 @@ ghost use Rattle.nb_model.specs.Network.{Network};
 ghost use Rattle.nb_model.specs.Readable.{IsReadable};
 ghost use Rattle.nb_model.specs.Sound.{IsSound};
 ghost use Rattle.nb_words.specs.Fault.{IsFaultOf};
-ghost use Rattle.nb_valid.specs.Tested.{tested, Passes, Refuses};
+ghost use Rattle.nb_valid.specs.Tested.{tested, Passes};
+ghost use Rattle.nb_valid.specs.inner.Refused.{Refuses};
 
 use crate::tests_acls::{test_acl_add, test_acl_del};
 use crate::tests_balancers::{

@@ -4,7 +4,8 @@ ghost use Rattle.expr_check.specs.Printed.{IsPrintable};
 ghost use Rattle.nb_records.specs.declared.edit.Edit.TheVariants as edit;
 ghost use Rattle.nb_read.specs.Readings.{role_of};
 ghost use Rattle.nb_model.specs.Sound.{IsSound};
-ghost use Rattle.nb_valid.specs.Tested.{Passes, Refuses};
+ghost use Rattle.nb_valid.specs.Tested.{Passes};
+ghost use Rattle.nb_valid.specs.inner.Refused.{Refuses};
 
 use expr_core::Typed;
 use nb_find::{acl_number, duplicate_if, wants_owner};

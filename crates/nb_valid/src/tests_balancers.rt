@@ -1,7 +1,8 @@
 //! The tests of the edits of load balancers.
 ghost use Rattle.std.specs.Prelude.{IfOk, IfErr, None, Some};
 ghost use Rattle.nb_records.specs.declared.edit.Edit.TheVariants as edit;
-ghost use Rattle.nb_valid.specs.Tested.{Passes, Refuses};
+ghost use Rattle.nb_valid.specs.Tested.{Passes};
+ghost use Rattle.nb_valid.specs.inner.Refused.{Refuses};
 
 use nb_find::{
     duplicate_if, has_vip, is_on_router, is_on_switch, may_want_lb, wants_lb, wants_on_router,

@@ -1,7 +1,8 @@
 //! The tests of the edits of switches and routers.
 ghost use Rattle.std.specs.Prelude.{IfOk, IfErr};
 ghost use Rattle.nb_records.specs.declared.edit.Edit.TheVariants as edit;
-ghost use Rattle.nb_valid.specs.Tested.{Passes, Refuses};
+ghost use Rattle.nb_valid.specs.Tested.{Passes};
+ghost use Rattle.nb_valid.specs.inner.Refused.{Refuses};
 
 use nb_find::{free, is_datapath, is_router, is_switch, may_want_router, may_want_switch};
 use nb_records::{Edit, Refusal};

@@ -1,7 +1,8 @@
 //! The tests of the edits of the ports of switches.
 ghost use Rattle.std.specs.Prelude.{IfOk, IfErr};
 ghost use Rattle.nb_records.specs.declared.edit.Edit.TheVariants as edit;
-ghost use Rattle.nb_valid.specs.Tested.{Passes, Refuses};
+ghost use Rattle.nb_valid.specs.Tested.{Passes};
+ghost use Rattle.nb_valid.specs.inner.Refused.{Refuses};
 
 use nb_find::{
     free, is_any_port, is_port_in_place, is_router_port_in_place, may_want_port,

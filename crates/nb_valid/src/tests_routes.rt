@@ -2,7 +2,8 @@
 ghost use Rattle.std.specs.Prelude.{IfOk, IfErr, None, Some};
 ghost use Rattle.nb_records.specs.declared.edit.Edit.TheVariants as edit;
 ghost use Rattle.nb_model.specs.Sound.{IsSound};
-ghost use Rattle.nb_valid.specs.Tested.{Passes, Refuses};
+ghost use Rattle.nb_valid.specs.Tested.{Passes};
+ghost use Rattle.nb_valid.specs.inner.Refused.{Refuses};
 
 use nb_find::{
     binding_like, has_nat, has_route, may_name_router_port, nat_like, no_duplicate, policy_or,

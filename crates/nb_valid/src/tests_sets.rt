@@ -5,7 +5,8 @@ ghost use Rattle.nb_records.specs.declared.edit.Edit.TheVariants as edit;
 ghost use Rattle.nb_model.specs.Network.{port_named};
 ghost use Rattle.nb_model.specs.Tests.{first_refusal, wants_port};
 ghost use Rattle.nb_words.specs.Fault.{IsFaultOf};
-ghost use Rattle.nb_valid.specs.Tested.{tested, Passes, Refuses};
+ghost use Rattle.nb_valid.specs.Tested.{tested, Passes};
+ghost use Rattle.nb_valid.specs.inner.Refused.{Refuses};
 ghost use Rattle.nb_valid.specs.inner.Refused.{IsFaultFor};
 
 use nb_find::{

@@ -1,7 +1,7 @@
 use Rattle.std.proofs.Common.{◌∙◌, ◌&&◌, refl, sym}
 use Rattle.nb_records.specs.declared.router.Nat.{Nat}
 use Rattle.nb_model.specs.Network.{same}
-use Rattle.nb_change.specs.Routers.{is_nat_for}
+use Rattle.nb_change.specs.inner.Routers.{is_nat_for}
 use Rattle.nb_change.proofs.NatsFor.{nat_smaller, nat_done, nat_rise, nat_same, nats_done}
 use Rattle.nb_change.proofs.OneByOne.{none_seen}
 use Rattle.nb_change.proofs.one_by_one.remove_nats_for.Goals as goal

@@ -1,7 +1,7 @@
 use Rattle.std.proofs.Common.{◌∙◌, ◌&&◌, refl, sym}
 use Rattle.nb_records.specs.declared.router.Route.{Route}
 use Rattle.nb_model.specs.Network.{same}
-use Rattle.nb_change.specs.Routers.{is_route_for}
+use Rattle.nb_change.specs.inner.Routers.{is_route_for}
 use Rattle.nb_change.proofs.RoutesFor.{route_smaller, route_done, route_rise, route_same, routes_done}
 use Rattle.nb_change.proofs.OneByOne.{none_seen}
 use Rattle.nb_change.proofs.one_by_one.remove_routes_for.Goals as goal

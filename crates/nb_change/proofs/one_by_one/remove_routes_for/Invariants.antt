@@ -5,7 +5,7 @@ use Rattle.nb_model.specs.Effect.{without}
 use Rattle.nb_model.specs.Network.{same}
 use Rattle.nv_table.specs.Table.{NumbersRise}
 use Rattle.nb_store.specs.Undo.{back_steps}
-use Rattle.nb_change.specs.Routers.{is_route_for}
+use Rattle.nb_change.specs.inner.Routers.{is_route_for}
 use Rattle.nb_change.proofs.OneByOne.{passed, to_see}
 use Rattle.nb_change.proofs.one_by_one.remove_routes_for.Given as goal
 

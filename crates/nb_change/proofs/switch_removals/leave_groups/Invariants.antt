@@ -3,7 +3,7 @@ use Rattle.std.specs.Prelude.{filter}
 use Rattle.nb_model.specs.Belongs.{is_among}
 use Rattle.nv_table.specs.Table.{NumbersRise}
 use Rattle.nb_store.specs.Undo.{back_steps}
-use Rattle.nb_change.specs.Leaving.{leaving}
+use Rattle.nb_change.specs.inner.Leaving.{leaving}
 use Rattle.nb_change.proofs.switch_removals.leave_groups.Given as goal
 
 -- the port would leave the groups that there are now as it would have left those before

@@ -1,1 +1,4 @@
+pub mod Delta
 pub mod Maker
+pub mod Node
+pub mod inner

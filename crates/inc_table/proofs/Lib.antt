@@ -1,0 +1,9 @@
+pub mod Applied
+pub mod Counted
+pub mod Ends
+pub mod Following
+pub mod Lengths
+pub mod Outputs
+pub mod Remade
+pub mod Told
+pub mod Walks

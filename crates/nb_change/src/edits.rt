@@ -75,19 +75,19 @@ fn run(work: &mut Work, alloc: Global, edit: Edit) -> Result<(), OutOfMemory>
         } => lsp_add(work, alloc, &switch, port, may_exist),
         Edit::LspDel { port, if_exists } => lsp_del(work, alloc, &port, if_exists),
         Edit::LspSetAddresses { port, addresses } => lsp_set_addresses(
-            work, alloc, &port, addresses,
+            work, alloc, port, addresses,
         ),
         Edit::LspSetPortSecurity { port, guards } => lsp_set_port_security(
-            work, alloc, &port, guards,
+            work, alloc, port, guards,
         ),
-        Edit::LspSetType { port, kind } => lsp_set_type(work, alloc, &port, kind),
+        Edit::LspSetType { port, kind } => lsp_set_type(work, alloc, port, kind),
         Edit::LspSetOptions { port, router_port } => lsp_set_options(
             work,
             alloc,
-            &port,
+            port,
             router_port,
         ),
-        Edit::LspSetEnabled { port, enabled } => lsp_set_enabled(work, alloc, &port, enabled),
+        Edit::LspSetEnabled { port, enabled } => lsp_set_enabled(work, alloc, port, enabled),
         Edit::LrpSetEnabled { port, enabled } => lrp_set_enabled(work, alloc, port, enabled),
         Edit::LrpAdd {
             router,

@@ -49,18 +49,26 @@ pub(crate) fn lsp_add(
 pub(crate) fn lsp_set_addresses(
     work: &mut Work,
     alloc: Global,
-    port: &Name,
+    port: Name,
     addresses: Items<Addr>,
 ) -> Result<(), OutOfMemory>
     requires sound { IsSound work.old.records }
-    ensures ok { OnOk result (work.new.records ≡ effect work.old.records (edit.LspSetAddresses port.now addresses)) }
+    ensures ok { OnOk result (work.new.records ≡ effect work.old.records (edit.LspSetAddresses port addresses)) }
     ensures back { back_steps work.new.steps.items work.new.records ≡ back_steps work.old.steps.items work.old.records }
 {
-    let Some(old) = work.records.port_named(port) else {
+    let Some(old) = work.records.port_named(&port) else {
         return Ok(());
     };
-    let mut changed = old.copy(alloc)?;
-    changed.addresses = addresses;
+    let changed = Port {
+        id: old.id,
+        switch: old.switch,
+        name: port,
+        kind: old.kind,
+        router_port: old.router_port.copy(alloc)?,
+        addresses,
+        security: old.security.copy(alloc)?,
+        enabled: old.enabled,
+    };
     work.store_port(alloc, changed)
 }
 
@@ -68,18 +76,26 @@ pub(crate) fn lsp_set_addresses(
 pub(crate) fn lsp_set_port_security(
     work: &mut Work,
     alloc: Global,
-    port: &Name,
+    port: Name,
     guards: Items<Guard>,
 ) -> Result<(), OutOfMemory>
     requires sound { IsSound work.old.records }
-    ensures ok { OnOk result (work.new.records ≡ effect work.old.records (edit.LspSetPortSecurity port.now guards)) }
+    ensures ok { OnOk result (work.new.records ≡ effect work.old.records (edit.LspSetPortSecurity port guards)) }
     ensures back { back_steps work.new.steps.items work.new.records ≡ back_steps work.old.steps.items work.old.records }
 {
-    let Some(old) = work.records.port_named(port) else {
+    let Some(old) = work.records.port_named(&port) else {
         return Ok(());
     };
-    let mut changed = old.copy(alloc)?;
-    changed.security = guards;
+    let changed = Port {
+        id: old.id,
+        switch: old.switch,
+        name: port,
+        kind: old.kind,
+        router_port: old.router_port.copy(alloc)?,
+        addresses: old.addresses.copy(alloc)?,
+        security: guards,
+        enabled: old.enabled,
+    };
     work.store_port(alloc, changed)
 }
 
@@ -87,18 +103,26 @@ pub(crate) fn lsp_set_port_security(
 pub(crate) fn lsp_set_type(
     work: &mut Work,
     alloc: Global,
-    port: &Name,
+    port: Name,
     kind: PortKind,
 ) -> Result<(), OutOfMemory>
     requires sound { IsSound work.old.records }
-    ensures ok { OnOk result (work.new.records ≡ effect work.old.records (edit.LspSetType port.now kind)) }
+    ensures ok { OnOk result (work.new.records ≡ effect work.old.records (edit.LspSetType port kind)) }
     ensures back { back_steps work.new.steps.items work.new.records ≡ back_steps work.old.steps.items work.old.records }
 {
-    let Some(old) = work.records.port_named(port) else {
+    let Some(old) = work.records.port_named(&port) else {
         return Ok(());
     };
-    let mut changed = old.copy(alloc)?;
-    changed.kind = kind;
+    let changed = Port {
+        id: old.id,
+        switch: old.switch,
+        name: port,
+        kind,
+        router_port: old.router_port.copy(alloc)?,
+        addresses: old.addresses.copy(alloc)?,
+        security: old.security.copy(alloc)?,
+        enabled: old.enabled,
+    };
     work.store_port(alloc, changed)
 }
 
@@ -106,18 +130,26 @@ pub(crate) fn lsp_set_type(
 pub(crate) fn lsp_set_options(
     work: &mut Work,
     alloc: Global,
-    port: &Name,
+    port: Name,
     router_port: Option<Name>,
 ) -> Result<(), OutOfMemory>
     requires sound { IsSound work.old.records }
-    ensures ok { OnOk result (work.new.records ≡ effect work.old.records (edit.LspSetOptions port.now router_port)) }
+    ensures ok { OnOk result (work.new.records ≡ effect work.old.records (edit.LspSetOptions port router_port)) }
     ensures back { back_steps work.new.steps.items work.new.records ≡ back_steps work.old.steps.items work.old.records }
 {
-    let Some(old) = work.records.port_named(port) else {
+    let Some(old) = work.records.port_named(&port) else {
         return Ok(());
     };
-    let mut changed = old.copy(alloc)?;
-    changed.router_port = router_port;
+    let changed = Port {
+        id: old.id,
+        switch: old.switch,
+        name: port,
+        kind: old.kind,
+        router_port,
+        addresses: old.addresses.copy(alloc)?,
+        security: old.security.copy(alloc)?,
+        enabled: old.enabled,
+    };
     work.store_port(alloc, changed)
 }
 
@@ -125,18 +157,26 @@ pub(crate) fn lsp_set_options(
 pub(crate) fn lsp_set_enabled(
     work: &mut Work,
     alloc: Global,
-    port: &Name,
+    port: Name,
     enabled: bool,
 ) -> Result<(), OutOfMemory>
     requires sound { IsSound work.old.records }
-    ensures ok { OnOk result (work.new.records ≡ effect work.old.records (edit.LspSetEnabled port.now enabled)) }
+    ensures ok { OnOk result (work.new.records ≡ effect work.old.records (edit.LspSetEnabled port enabled)) }
     ensures back { back_steps work.new.steps.items work.new.records ≡ back_steps work.old.steps.items work.old.records }
 {
-    let Some(old) = work.records.port_named(port) else {
+    let Some(old) = work.records.port_named(&port) else {
         return Ok(());
     };
-    let mut changed = old.copy(alloc)?;
-    changed.enabled = enabled;
+    let changed = Port {
+        id: old.id,
+        switch: old.switch,
+        name: port,
+        kind: old.kind,
+        router_port: old.router_port.copy(alloc)?,
+        addresses: old.addresses.copy(alloc)?,
+        security: old.security.copy(alloc)?,
+        enabled,
+    };
     work.store_port(alloc, changed)
 }
 

@@ -14,4 +14,7 @@ pub use commands::{
 pub use rules::{
     put_as_add, put_group_acl, put_lb_add, put_lr_lb_add, put_ls_lb_add, put_pg_add, put_switch_acl,
 };
-pub use words::{Word, put_word};
+pub use words::{
+    Word, nat_kind_text, proto_text, put_backends, put_each, put_ip4_word, put_mac_word,
+    put_net_word, put_network, put_networks, put_service, put_word, verdict_text, way_text,
+};

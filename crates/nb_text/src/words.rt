@@ -35,7 +35,7 @@ pub fn put_word(out: &mut Vec<u8>, word: &[u8]) -> Result<(), OutOfMemory>
 }
 
 /// Appends each of these as a word, after a space. After `OutOfMemory` more bytes may follow what was there.
-pub(crate) fn put_each<W: Word>(out: &mut Vec<u8>, words: &[W]) -> Result<(), OutOfMemory>
+pub fn put_each<W: Word>(out: &mut Vec<u8>, words: &[W]) -> Result<(), OutOfMemory>
     ensures ok { OnOk result (out.new.items ≡ out.old.items ++ each_spaced W.text words.now) }
     ensures err { OnErr result (GrowsAtEnd out.old.items out.new.items) }
 {
@@ -136,7 +136,7 @@ impl Word for Member {
 }
 
 /// Appends networks with their lengths, each after a space. After `OutOfMemory` more bytes may follow what was there.
-pub(crate) fn put_networks(out: &mut Vec<u8>, nets: &[Prefix]) -> Result<(), OutOfMemory>
+pub fn put_networks(out: &mut Vec<u8>, nets: &[Prefix]) -> Result<(), OutOfMemory>
     ensures ok { OnOk result (out.new.items ≡ out.old.items ++ each_spaced prefix_text nets.now) }
     ensures err { OnErr result (GrowsAtEnd out.old.items out.new.items) }
 {
@@ -147,7 +147,7 @@ pub(crate) fn put_networks(out: &mut Vec<u8>, nets: &[Prefix]) -> Result<(), Out
 }
 
 /// Appends a network with its length, after a space. After `OutOfMemory` more bytes may follow what was there.
-pub(crate) fn put_network(out: &mut Vec<u8>, net: Prefix) -> Result<(), OutOfMemory>
+pub fn put_network(out: &mut Vec<u8>, net: Prefix) -> Result<(), OutOfMemory>
     ensures ok { OnOk result (out.new.items ≡ out.old.items ++ spaced (prefix_text net)) }
     ensures err { OnErr result (GrowsAtEnd out.old.items out.new.items) }
 {
@@ -157,7 +157,7 @@ pub(crate) fn put_network(out: &mut Vec<u8>, net: Prefix) -> Result<(), OutOfMem
 }
 
 /// Appends a MAC, after a space. After `OutOfMemory` more bytes may follow what was there.
-pub(crate) fn put_mac_word(out: &mut Vec<u8>, mac: Mac) -> Result<(), OutOfMemory>
+pub fn put_mac_word(out: &mut Vec<u8>, mac: Mac) -> Result<(), OutOfMemory>
     ensures ok { OnOk result (out.new.items ≡ out.old.items ++ spaced (mac_text mac)) }
     ensures err { OnErr result (GrowsAtEnd out.old.items out.new.items) }
 {
@@ -167,7 +167,7 @@ pub(crate) fn put_mac_word(out: &mut Vec<u8>, mac: Mac) -> Result<(), OutOfMemor
 }
 
 /// Appends an address, after a space. After `OutOfMemory` more bytes may follow what was there.
-pub(crate) fn put_ip4_word(out: &mut Vec<u8>, addr: Ip4) -> Result<(), OutOfMemory>
+pub fn put_ip4_word(out: &mut Vec<u8>, addr: Ip4) -> Result<(), OutOfMemory>
     ensures ok { OnOk result (out.new.items ≡ out.old.items ++ spaced (ip4_text addr)) }
     ensures err { OnErr result (GrowsAtEnd out.old.items out.new.items) }
 {
@@ -176,7 +176,7 @@ pub(crate) fn put_ip4_word(out: &mut Vec<u8>, addr: Ip4) -> Result<(), OutOfMemo
 
 /// Appends a prefix, as an address where its length is 32, after a space. After `OutOfMemory` more bytes may follow what was
 /// there.
-pub(crate) fn put_net_word(out: &mut Vec<u8>, net: Prefix) -> Result<(), OutOfMemory>
+pub fn put_net_word(out: &mut Vec<u8>, net: Prefix) -> Result<(), OutOfMemory>
     ensures ok { OnOk result (out.new.items ≡ out.old.items ++ spaced (net_text net)) }
     ensures err { OnErr result (GrowsAtEnd out.old.items out.new.items) }
 {
@@ -184,11 +184,7 @@ pub(crate) fn put_net_word(out: &mut Vec<u8>, net: Prefix) -> Result<(), OutOfMe
 }
 
 /// Appends an address, and a port where there is one. After `OutOfMemory` more bytes may follow what was there.
-pub(crate) fn put_service(
-    out: &mut Vec<u8>,
-    addr: Ip4,
-    port: Option<u16>,
-) -> Result<(), OutOfMemory>
+pub fn put_service(out: &mut Vec<u8>, addr: Ip4, port: Option<u16>) -> Result<(), OutOfMemory>
     ensures ok { OnOk result (out.new.items ≡ out.old.items ++ service_text addr port) }
     ensures err { OnErr result (GrowsAtEnd out.old.items out.new.items) }
 {
@@ -209,7 +205,7 @@ fn put_service_port(out: &mut Vec<u8>, port: u16) -> Result<(), OutOfMemory>
 }
 
 /// Appends backends with commas between. After `OutOfMemory` more bytes may follow what was there.
-pub(crate) fn put_backends(out: &mut Vec<u8>, backends: &[Backend]) -> Result<(), OutOfMemory>
+pub fn put_backends(out: &mut Vec<u8>, backends: &[Backend]) -> Result<(), OutOfMemory>
     ensures ok { OnOk result (out.new.items ≡ out.old.items ++ backends_text [] backends.now) }
     ensures err { OnErr result (GrowsAtEnd out.old.items out.new.items) }
 {
@@ -223,7 +219,7 @@ pub(crate) fn put_backends(out: &mut Vec<u8>, backends: &[Backend]) -> Result<()
 }
 
 /// The word for the type of a NAT rule.
-pub(crate) fn nat_kind_text(kind: NatKind) -> &'static str
+pub fn nat_kind_text(kind: NatKind) -> &'static str
     ensures { result.now ≡ nat_kind_text kind }
 {
     match kind {
@@ -234,7 +230,7 @@ pub(crate) fn nat_kind_text(kind: NatKind) -> &'static str
 }
 
 /// The word for a protocol.
-pub(crate) fn proto_text(proto: Proto) -> &'static str
+pub fn proto_text(proto: Proto) -> &'static str
     ensures { result.now ≡ proto_text proto }
 {
     match proto {
@@ -244,7 +240,7 @@ pub(crate) fn proto_text(proto: Proto) -> &'static str
 }
 
 /// The word for the direction of an ACL.
-pub(crate) fn way_text(way: Way) -> &'static str
+pub fn way_text(way: Way) -> &'static str
     ensures { result.now ≡ way_text way }
 {
     match way {
@@ -254,7 +250,7 @@ pub(crate) fn way_text(way: Way) -> &'static str
 }
 
 /// The word for the verdict of an ACL.
-pub(crate) fn verdict_text(verdict: Verdict) -> &'static str
+pub fn verdict_text(verdict: Verdict) -> &'static str
     ensures { result.now ≡ verdict_text verdict }
 {
     match verdict {

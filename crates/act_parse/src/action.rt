@@ -1,10 +1,14 @@
 //! Actions, with blocks.
 ghost use Rattle.std.specs.Prelude.{◌≡◌, ◌≤◌, ◌<◌, length, IfOk};
-ghost use Rattle.act_steps.specs.Reading as reading;
-ghost use Rattle.act_steps.specs.Gives.{Reads};
+ghost use Rattle.act_parse.specs.inner.Reading as reading;
+ghost use Rattle.act_parse.specs.inner.Gives.{Reads};
 
+use crate::keyword::block_of;
+use crate::lexer::{after_word, is_at, token, tokens, word};
+use crate::step::step;
+use crate::stop::Read;
+use crate::wanted::Wanted;
 use act_core::{Action, Step};
-use act_steps::{Read, after_word, block_of, is_at, step, token, tokens, word};
 use nv_base::Items;
 use std::alloc::Global;
 
@@ -13,7 +17,7 @@ fn spaced_step<'a>(alloc: Global, text: &'a [u8]) -> Read<'a, Step>
     ensures reads { Reads result (reading.spaced_step text.now) }
     ensures left { IfOk result (λ x. length x.1.now < length text.now) }
 {
-    let (step, rest) = step(alloc, text)?;
+    let (step, rest) = step(alloc, Wanted::Step, text)?;
     let ((), rest) = token(" ", rest)?;
     Ok((step, rest))
 }
@@ -26,7 +30,7 @@ fn all_steps<'a>(alloc: Global, text: &'a [u8]) -> Read<'a, Items<Step>>
     let (first, mut left) = spaced_step(alloc, text)?;
     let mut steps = Items::new(alloc);
     steps.push(first)?;
-    while !is_at("}", left) {
+    while !is_at(b"}", left) {
         let (next, rest) = spaced_step(alloc, left)?;
         steps.push(next)?;
         left = rest;
@@ -56,7 +60,7 @@ fn action<'a>(alloc: Global, text: &'a [u8]) -> Read<'a, Action>
             Ok((kind.of(steps), rest))
         }
         None => {
-            let (step, rest) = step(alloc, text)?;
+            let (step, rest) = step(alloc, Wanted::Action, text)?;
             Ok((Action::Step(step), rest))
         }
     }

@@ -2,7 +2,19 @@
 #![tactic(auto)]
 
 mod action;
+mod assignment;
+mod constant;
+mod ending;
+mod fault;
+mod keyword;
+mod lexer;
+mod number;
 mod reader;
+mod step;
+mod stop;
+mod targets;
+mod value;
+mod wanted;
 
-pub use act_steps::ActionFault;
+pub use fault::ActionFault;
 pub use reader::parse_actions;

@@ -1,5 +1,5 @@
 use Rattle.std.proofs.Common.{sym, ◌∙◌}
-use Rattle.act_steps.proofs.Loops.{actions_begin, actions_more}
+use Rattle.act_parse.proofs.Loops.{actions_begin, actions_more}
 use Rattle.act_parse.proofs.action.actions.Goals as goal
 
 pub loop-alloc-init : goal.loop-alloc-init

@@ -1,5 +1,5 @@
 use Rattle.std.proofs.Common.{length}
-use Rattle.act_steps.proofs.Loops.{ActionsSoFar}
+use Rattle.act_parse.proofs.Loops.{ActionsSoFar}
 use Rattle.act_parse.proofs.action.actions.Given as goal
 
 abbrev pub invariant-loop-alloc : goal.invariant-loop-alloc

@@ -1,6 +1,6 @@
 use Rattle.std.proofs.Common.{sym, ◌∙◌, arith}
 use Rattle.std.proofs.lemmas.Result.{err_from_is_err_and}
-use Rattle.act_steps.proofs.Loops.{steps_begin, steps_more, steps_end, steps_fail, stuck_after}
+use Rattle.act_parse.proofs.Loops.{steps_begin, steps_more, steps_end, steps_fail, stuck_after}
 use Rattle.act_parse.proofs.action.all_steps.Goals as goal
 
 pub loop-alloc-init : goal.loop-alloc-init

@@ -1,5 +1,5 @@
 use Rattle.std.proofs.Common.{length}
-use Rattle.act_steps.proofs.Loops.{StepsSoFar}
+use Rattle.act_parse.proofs.Loops.{StepsSoFar}
 use Rattle.act_parse.proofs.action.all_steps.Given as goal
 
 abbrev pub invariant-loop-alloc : goal.invariant-loop-alloc

@@ -1,5 +1,5 @@
 use Rattle.std.proofs.Common.{refl}
-use Rattle.act_steps.proofs.Loops.{stuck_after}
+use Rattle.act_parse.proofs.Loops.{stuck_after}
 use Rattle.act_parse.proofs.action.block.Goals as goal
 
 pub returns-in_err-rest-clause-reads : goal.returns-in_err-rest-clause-reads

@@ -1,4 +1,4 @@
-use Rattle.act_steps.proofs.Loops.{stuck_after}
+use Rattle.act_parse.proofs.Loops.{stuck_after}
 use Rattle.act_parse.proofs.action.spaced_step.Goals as goal
 
 pub returns-in_err-step-clause-reads : goal.returns-in_err-step-clause-reads

@@ -1,0 +1,6 @@
+-- What private contracts and proofs cite. No clause of a public call does, so a reader need not believe it.
+pub mod Token
+pub mod Keyword
+pub mod Wanted
+pub mod Reading
+pub mod Gives

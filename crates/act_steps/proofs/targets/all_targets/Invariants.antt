@@ -1,9 +1,0 @@
-use Rattle.std.proofs.Common.{length}
-use Rattle.act_steps.proofs.Loops.{TargetsSoFar}
-use Rattle.act_steps.proofs.targets.all_targets.Given as goal
-
-abbrev pub invariant-loop-rest : goal.invariant-loop-rest
-invariant-loop-rest l = TargetsSoFar l.text l.has_port l.targets l.left
-
-abbrev pub decreases-loop-rest : goal.decreases-loop-rest
-decreases-loop-rest l = length l.left

@@ -1,4 +1,0 @@
-pub mod Gives
-pub mod Token
-pub mod Keyword
-pub mod Reading

@@ -65,16 +65,18 @@ filled o (p ∷ ps) (suc k) bytes = elim (cases_lt (length (decimal o)) (suc k))
       let left = suc k - length (decimal o) - 1 in
       let more = filled p ps left bytes.1 in
       let far : suc k ≡ length (decimal o) + suc left = omega (arith, long) in
-      let front : take (suc k) (decimal o ++ 46 ∷ text (p ∷ ps)) ≡ decimal o ++ 46 ∷ take left (text (p ∷ ps)) = ap (λ (n : ℕ). take n (decimal o ++ 46 ∷ text (p ∷ ps))) far ∙ take-append-add (decimal o) (46 ∷ text (p ∷ ps)) (suc left) in
-      (
-        o, more.0 ∷ more.1, suc (suc more.2),
+      let front : take (suc k) (decimal o ++ 46 ∷ text (p ∷ ps)) ≡ decimal o ++ 46 ∷ take left (text (p ∷ ps)) = ap (λ (n : ℕ). take n (decimal o ++ 46 ∷ text (p ∷ ps))) far ∙ take-append-add (decimal o) (46 ∷ text (p ∷ ps)) (suc left) in (
+        o,
+        more.0 ∷ more.1,
+        suc (suc more.2),
         ap (λ xs. xs ++ drop more.2 (zeros (p ∷ ps))) front ∙ append_assoc (decimal o) (46 ∷ take left (text (p ∷ ps))) (drop more.2 (zeros (p ∷ ps))) ∙ ap (λ xs. decimal o ++ 46 ∷ xs) more.3,
         (omega arith, more.4),
       )
   | inr short ↦
-      let front = some_front o (suc k) bytes.0 (omega arith) in
-      (
-        front.0, all_zero (p ∷ ps), 1,
+      let front = some_front o (suc k) bytes.0 (omega arith) in (
+        front.0,
+        all_zero (p ∷ ps),
+        1,
         ap (λ xs. xs ++ 46 ∷ zeros (p ∷ ps)) (take-append-le (suc k) (decimal o) (46 ∷ text (p ∷ ps)) short ∙ front.1) ∙ ap (λ xs. decimal front.0 ++ 46 ∷ xs) (zeros_text p ps),
         (front.2, zeros_less (p ∷ ps)),
       )

@@ -4,7 +4,6 @@ ghost use Rattle.std.specs.List.{list_any};
 ghost use Rattle.nv_base.specs.Field.{field_name, all_fields};
 ghost use Rattle.act_parse.specs.inner.Token.{is_at};
 ghost use Rattle.act_parse.specs.inner.Keyword as keyword;
-
 ghost use Rattle.act_parse.specs.inner.Wanted as want;
 
 use crate::lexer::is_at;

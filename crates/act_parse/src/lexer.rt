@@ -57,9 +57,7 @@ pub(crate) fn decimal_len(text: &[u8]) -> usize
     ensures count { result ≡ prefix_len lexical.is_in_decimal text.now }
     ensures within { result ≤ length text.now }
 {
-    text.iter()
-        .take_while(|byte| is_in_decimal(**byte))
-        .count()
+    text.iter().take_while(|byte| is_in_decimal(**byte)).count()
 }
 
 /// Whether this byte may be in an address: a digit or `.`.
@@ -74,9 +72,7 @@ pub(crate) fn address_len(text: &[u8]) -> usize
     ensures count { result ≡ prefix_len lexical.is_in_address text.now }
     ensures within { result ≤ length text.now }
 {
-    text.iter()
-        .take_while(|byte| is_in_address(**byte))
-        .count()
+    text.iter().take_while(|byte| is_in_address(**byte)).count()
 }
 
 /// Whether this byte may be in a constant or in the name of a field.

@@ -13,7 +13,12 @@ use nv_base::{Ip4, OutOfMemory};
 use std::alloc::Global;
 
 /// The decimal that is written so, if it is not below the first number and below the limit.
-pub(crate) fn decimal_of(alloc: Global, first: u32, limit: u32, text: &[u8]) -> Result<Option<u32>, OutOfMemory>
+pub(crate) fn decimal_of(
+    alloc: Global,
+    first: u32,
+    limit: u32,
+    text: &[u8],
+) -> Result<Option<u32>, OutOfMemory>
     ensures value { IfOk result (λ found. found ≡ lexical.decimal_of first limit text.now) }
     ensures small { IfOk result (λ found. IfSome found (λ n. n < limit)) }
 {
@@ -44,7 +49,9 @@ pub(crate) fn address_of(alloc: Global, text: &[u8]) -> Result<Option<Ip4>, OutO
     ensures { IfOk result (λ found. found ≡ lexical.address_of text.now) }
 {
     match constant(alloc, text)? {
-        Some(addr) if addr.form == Form::Ip4 && addr.value < 1 << 32 => Ok(Some(Ip4(addr.value as u32))),
+        Some(addr) if addr.form == Form::Ip4 && addr.value < 1 << 32 => Ok(Some(Ip4(
+            addr.value as u32,
+        ))),
         _ => Ok(None),
     }
 }

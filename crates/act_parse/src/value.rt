@@ -27,15 +27,20 @@ fn field_value(field: Field, bits: Bits, text: &[u8]) -> Option<Step>
     ensures { result ≡ want.field_value field bits (field_words.field_of text.now) }
 {
     match field_of(text) {
-        Some(from) if u32::from(from.width()) == bits.count(field.width()) => Some(
-            Step::Copy(field, bits, from),
-        ),
+        Some(from) if u32::from(from.width()) == bits.count(field.width()) => Some(Step::Copy(
+            field, bits, from,
+        )),
         _ => None,
     }
 }
 
 /// What the part becomes, if the text is a constant that fits it or a field that is as wide.
-pub(crate) fn value_of(alloc: Global, field: Field, bits: Bits, text: &[u8]) -> Result<Option<Step>, OutOfMemory>
+pub(crate) fn value_of(
+    alloc: Global,
+    field: Field,
+    bits: Bits,
+    text: &[u8],
+) -> Result<Option<Step>, OutOfMemory>
     ensures { IfOk result (λ found. found ≡ want.value_of field bits text.now) }
 {
     match constant(alloc, text)? {

@@ -123,7 +123,12 @@ fn ends_with(alloc: Global, wanted: Wanted, front: &[u8], text: &[u8]) -> Result
 }
 
 /// Whether the front with some end of one of these texts is what is wanted.
-fn ends_with_any(alloc: Global, wanted: Wanted, front: &[u8], texts: &[&str]) -> Result<bool, OutOfMemory>
+fn ends_with_any(
+    alloc: Global,
+    wanted: Wanted,
+    front: &[u8],
+    texts: &[&str],
+) -> Result<bool, OutOfMemory>
     ensures { IfOk result (λ is. is ≡ list_any (want.ends_with wanted front.now) (map shown texts.now)) }
 {
     for text in texts {

@@ -1,0 +1,7 @@
+//! What drives nodes of any kind: a node that is stale is brought to its inputs again.
+#![tactic(auto)]
+
+mod map;
+mod settles;
+
+pub use settles::{Settles, settle};

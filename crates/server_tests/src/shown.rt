@@ -1,9 +1,9 @@
 use expr_core::Typed;
+use nb_read::acl_match;
 use nb_records::{
     Acl, Addr, AddrSet, Backend, Binding, Frontend, Group, Guard, Lb, Member, Nat, NatKind, Port,
     PortKind, Proto, Route, RouteBy, Router, RouterPort, Switch, Verdict, Vip, Way,
 };
-use nb_read::acl_match;
 use nb_show::put_network;
 use nb_store::{Records, Work};
 use nv_base::{Ip4, Items, Mac, Name, ObjId, OutOfMemory, Prefix};

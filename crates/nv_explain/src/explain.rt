@@ -172,11 +172,11 @@ fn put_filled(
     sentence: &str,
     number: usize,
 ) -> Result<(), OutOfMemory> {
-    let mut space = "";
-    for word in sentence.split(' ') {
-        put(out, space)?;
+    for (place, word) in sentence.split(' ').enumerate() {
+        if place > 0 {
+            put(out, " ")?;
+        }
         put_or_fill(out, case, word, number)?;
-        space = " ";
     }
     Ok(())
 }

@@ -12,10 +12,12 @@ use std::rt::Env;
 use std::{env, io};
 
 fn main(rt: HostRuntime) -> ExitCode {
-    match argument_count(&rt) {
-        Ok(0 | 1) => {}
-        Ok(_) => return refuse_arguments(&rt),
-        Err(_) => return ExitCode::from(Status::Usage.code()),
+    let Ok(count) = argument_count(&rt) else {
+        // An argument is not UTF-8.
+        return ExitCode::from(Status::Usage.code());
+    };
+    if count > 1 {
+        return refuse_arguments(&rt);
     }
     let mut source = StdSource::new(rt.stdin());
     let mut sink = StdSink::new(rt.stdout());

@@ -1,0 +1,169 @@
+use crate::kept::Doubled;
+use crate::script::{Fault, read_delta, read_key};
+use inc_table::{Change, NodeState, Owned, Report};
+use nv_base::{OutOfMemory, put_dec};
+use std::alloc::Global;
+
+/// How many entries are written one by one.
+const WRITTEN: usize = 8;
+
+/// Two nodes that double: one that makes all anew at a delta of more than 2 keys, and one at a delta of more than 1,024.
+#[derive(Drop)]
+pub(crate) struct Nodes {
+    few: Doubled<2>,
+    many: Doubled<1024>,
+}
+
+impl Nodes {
+    pub(crate) fn new(alloc: Global) -> Self {
+        Nodes {
+            few: Doubled::new(alloc, 0),
+            many: Doubled::new(alloc, 0),
+        }
+    }
+
+    /// Appends the answer to a line.
+    pub(crate) fn put_answer(
+        &mut self,
+        alloc: Global,
+        out: &mut Vec<u8>,
+        line: &[u8],
+    ) -> Result<(), OutOfMemory> {
+        let mut words = Vec::new(alloc);
+        for word in line.split(|byte| *byte == b' ') {
+            words.push(word)?;
+        }
+        let words = words.as_slice();
+        let answered = if words.len() < 2 {
+            Err(Fault::Word(1))
+        } else if words[0] == b"map2".as_slice() {
+            answer(alloc, out, &mut self.few, &words[1..])
+        } else if words[0] == b"map1024".as_slice() {
+            answer(alloc, out, &mut self.many, &words[1..])
+        } else {
+            Err(Fault::Word(1))
+        };
+        match answered {
+            Ok(()) => {}
+            Err(fault) => put_fault(out, fault)?,
+        }
+        out.push(b'\n')?;
+        Ok(())
+    }
+}
+
+// Does what the words after the node's name say, and appends what came of it.
+fn answer<const FALL: usize>(
+    alloc: Global,
+    out: &mut Vec<u8>,
+    doubled: &mut Doubled<FALL>,
+    words: &[&[u8]],
+) -> Result<(), Fault> {
+    if words.is_empty() {
+        return Err(Fault::Word(2));
+    }
+    let command = words[0];
+    if command == b"change".as_slice() {
+        let delta = read_delta(alloc, &words[1..], 3)?;
+        put_report(out, &doubled.change(delta)?)?;
+    } else if command == b"start".as_slice() {
+        *doubled = Doubled::new(alloc, read_refused(&words[1..])?);
+        put_text(out, b"started")?;
+    } else if words.len() > 1 {
+        return Err(Fault::Word(3));
+    } else if command == b"rebuild".as_slice() {
+        put_report(out, &doubled.rebuild()?)?;
+    } else if command == b"settle".as_slice() {
+        put_count(out, b"made ", doubled.settle()?)?;
+    } else if command == b"table".as_slice() {
+        put_table(out, doubled.node.table())?;
+    } else if command == b"state".as_slice() {
+        put_state(out, doubled.node.state())?;
+    } else {
+        return Err(Fault::Word(2));
+    }
+    Ok(())
+}
+
+// The number of the call that is to be refused memory, or 0 where there is no word.
+fn read_refused(words: &[&[u8]]) -> Result<u64, Fault> {
+    if words.is_empty() {
+        return Ok(0);
+    }
+    if words.len() > 1 {
+        return Err(Fault::Word(4));
+    }
+    Ok(u64::from(read_key(words[0]).ok_or(Fault::Word(3))?))
+}
+
+fn put_text(out: &mut Vec<u8>, text: &[u8]) -> Result<(), OutOfMemory> {
+    out.extend_from_slice(text)?;
+    Ok(())
+}
+
+fn put_count(out: &mut Vec<u8>, text: &[u8], count: u64) -> Result<(), OutOfMemory> {
+    out.extend_from_slice(text)?;
+    put_dec(out, u128::from(count))
+}
+
+fn put_report(out: &mut Vec<u8>, report: &Report<u32, u64>) -> Result<(), OutOfMemory> {
+    put_count(out, b"made ", report.made)?;
+    if report.fell_back {
+        out.extend_from_slice(b", all anew")?;
+    }
+    out.extend_from_slice(b"; changed")?;
+    let changes = report.changed.as_slice();
+    if changes.len() > WRITTEN {
+        return put_count(out, b" keys: ", changes.len() as u64);
+    }
+    for entry in changes {
+        put_change(out, entry)?;
+    }
+    Ok(())
+}
+
+fn put_change(out: &mut Vec<u8>, entry: &(u32, Change<u64>)) -> Result<(), OutOfMemory> {
+    match &entry.1 {
+        Change::Put(value) => put_entry(out, entry.0, *value),
+        Change::Gone => put_count(out, b" -", u64::from(entry.0)),
+    }
+}
+
+fn put_entry(out: &mut Vec<u8>, key: u32, value: u64) -> Result<(), OutOfMemory> {
+    put_count(out, b" ", u64::from(key))?;
+    put_count(out, b"=", value)
+}
+
+// The entries, or the first ones and how many there are.
+fn put_table(out: &mut Vec<u8>, table: &Owned<u32, u64>) -> Result<(), OutOfMemory> {
+    put_count(out, b"entries: ", table.len() as u64)?;
+    let mut last = None;
+    for _ in 0..WRITTEN {
+        let Some((key, value)) = table.first_after(last) else {
+            return Ok(());
+        };
+        put_entry(out, *key, *value)?;
+        last = Some(key);
+    }
+    if table.first_after(last).is_some() {
+        out.extend_from_slice(b" ..")?;
+    }
+    Ok(())
+}
+
+fn put_state(out: &mut Vec<u8>, state: NodeState) -> Result<(), OutOfMemory> {
+    match state {
+        NodeState::Fresh => put_text(out, b"fresh"),
+        NodeState::Stale => put_text(out, b"stale"),
+    }
+}
+
+fn put_fault(out: &mut Vec<u8>, fault: Fault) -> Result<(), OutOfMemory> {
+    match fault {
+        Fault::Word(place) => put_count(out, b"refused: word ", place as u64),
+        Fault::Order(place) => put_count(out, b"refused: order of word ", place as u64),
+        Fault::Unchanged => put_text(out, b"refused: unchanged"),
+        Fault::Stale => put_text(out, b"refused: stale"),
+        Fault::Memory => put_text(out, b"out of memory"),
+    }
+}

@@ -12,6 +12,4 @@ mod rows;
 #[cfg(test)]
 mod serve;
 #[cfg(test)]
-mod shown;
-#[cfg(test)]
 mod stages;

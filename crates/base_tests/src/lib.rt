@@ -4,9 +4,13 @@
 #[cfg(test)]
 mod base;
 #[cfg(test)]
+mod connections;
+#[cfg(test)]
 mod io;
 #[cfg(test)]
 mod maps;
+#[cfg(test)]
+mod neighbours;
 #[cfg(test)]
 mod packets;
 mod ports;

@@ -1,9 +1,9 @@
 pub mod Applied
+pub mod Changed
 pub mod Counted
 pub mod Ends
 pub mod Following
-pub mod Lengths
+pub mod Gone
 pub mod Outputs
-pub mod Remade
+pub mod Sides
 pub mod Told
-pub mod Walks

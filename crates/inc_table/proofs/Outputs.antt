@@ -11,8 +11,7 @@ use Rattle.std.specs.List.Sorted.{IsStrictlySortedBy}
 use Rattle.nv_map.specs.Map.{KeysRise, value_at}
 use Rattle.inc_table.specs.declared.delta.Change.{Change}
 use Rattle.inc_table.specs.declared.delta.Change.TheVariants.{Put, Gone}
-use Rattle.inc_table.specs.Delta.{left_by, IsAbove, IsApplied}
-use Rattle.inc_table.specs.inner.Walk.{change_to}
+use Rattle.inc_table.specs.Delta.{left_by, change_to, IsAbove, IsApplied}
 use Rattle.inc_table.specs.Node.{outputs_of}
 use Rattle.inc_table.proofs.Applied.{applied_at, applied_more, tied, same_lists}
 

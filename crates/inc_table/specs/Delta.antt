@@ -1,5 +1,5 @@
 -- Deltas: what changes at which keys of a list of entries whose keys rise.
-use Rattle.std.specs.Prelude.{◌≡◌, Bool, not, true, false, List, [], ◌∷◌, Option, None, Some, if◌then◌else◌}
+use Rattle.std.specs.Prelude.{◌≡◌, Bool, not, true, false, List, [], ◌∷◌, Option, None, Some, map, if◌then◌else◌}
 use Rattle.std.specs.List.{AllByRecursion, list_all}
 use Rattle.std.specs.Map.{keys_of}
 use Rattle.std.specs.declared.cmp.Ordering.{Ordering}
@@ -12,6 +12,11 @@ use Rattle.inc_table.specs.declared.delta.Change.TheVariants.{Put, Gone}
 abbrev pub left_by : {V : Type 0} → Change V → Option V
 left_by (Put value) = Some value
 left_by Gone = None
+
+-- the change that leaves this at its key
+abbrev pub change_to : {V : Type 0} → Option V → Change V
+change_to None = Gone
+change_to (Some value) = Put value
 
 -- what is at a key after its change, or with none
 abbrev pub after_change : {V : Type 0} → Option (Change V) → Option V → Option V
@@ -53,6 +58,10 @@ module _ {K V : Type 0} (cmp : K → K → Ordering) where
 abbrev pub told_at : {K V : Type 0} → K → Option (Change V) → List (K × Change V)
 told_at key None = []
 told_at key (Some change) = (key, change) ∷ []
+
+-- the delta that puts all of these
+abbrev pub puts_of : {K V : Type 0} → List (K × V) → List (K × Change V)
+puts_of entries = map (λ e. (e.0, Put e.1)) entries
 
 -- the value at a key after these deltas, one after the other
 abbrev pub after_all : {K V : Type 0} → (K → K → Ordering) → K → List (List (K × Change V)) → Option V → Option V

@@ -1,32 +1,34 @@
-ghost use Rattle.std.specs.Prelude.{◌≡◌, [], ◌∷◌, ◌++◌, length, None, Some, OnOk, OnErr, IfOk, IsTrue, ◌↔◌};
+ghost use Rattle.std.specs.Prelude.{◌≡◌, ◌<◌, ◌^◌, [], ◌∷◌, ◌++◌, length, None, Some, OnOk, OnErr, IfOk, IsTrue, ◌↔◌};
 ghost use Rattle.std.specs.Option.{option_copied, option_map};
 
 use crate::{Change, Delta};
 use nv_base::{Kept, OutOfMemory};
-use nv_map::{Entry, Map};
 use std::alloc::Global;
+use std::collections::BTreeMap;
+use std::collections::btree_map::Iter;
 use std::marker::Model;
+use std::ops::Bound;
 
 /// Entries by rising key, owned. A clause sees the list of keys and values.
 #[derive(Drop)]
 pub struct Owned<K: Ord, V> {
     alloc: Global,
-    entries: Map<K, V>,
-    count: usize,
+    entries: BTreeMap<K, V>,
 }
 
 impl<K: Ord, V> Model for Owned<K, V> {
-    ghost use Rattle.std.specs.Prelude.{◌≡◌, List, length};
+    ghost use Rattle.std.specs.Prelude.{List};
+    ghost use Rattle.nv_map.specs.Map.{KeysRise};
 
     ghost Value = { List (K × V) };
 
-    ghost view = { λ owned. owned.entries };
+    ghost view = { λ owned. owned.entries.entries };
 
-    ghost invariant = { λ owned. owned.count ≡ length owned.entries };
+    ghost invariant = { λ owned. KeysRise K.cmp owned.entries.entries };
 }
 
 impl<K: Ord + Kept + Drop, V: Drop> Owned<K, V> {
-    ghost use Rattle.nv_map.specs.Map.{KeysRise, value_at, entry_at, entry_after, with_entry, without_key};
+    ghost use Rattle.nv_map.specs.Map.{KeysRise, value_at, entry_after};
     ghost use Rattle.inc_table.specs.declared.delta.Change.TheVariants.{Put, Gone};
     ghost use Rattle.inc_table.specs.Delta.{IsAbove, IsApplied};
 
@@ -36,8 +38,7 @@ impl<K: Ord + Kept + Drop, V: Drop> Owned<K, V> {
     {
         Owned {
             alloc,
-            entries: Map::new(),
-            count: 0,
+            entries: BTreeMap::new(alloc),
         }
     }
 
@@ -45,7 +46,7 @@ impl<K: Ord + Kept + Drop, V: Drop> Owned<K, V> {
     pub fn len(&self) -> usize
         ensures { result ≡ length self.now }
     {
-        self.count
+        self.entries.len()
     }
 
     /// Whether there is no entry.
@@ -68,7 +69,22 @@ impl<K: Ord + Kept + Drop, V: Drop> Owned<K, V> {
         ensures entry { option_map (λ e. (e.0.now, e.1.now)) result ≡ entry_after K.cmp (option_copied key.entry) self.now }
         ensures rise { KeysRise K.cmp self.now }
     {
-        self.entries.first_after(key)
+        match key {
+            None => self.entries.iter().next(),
+            Some(key) => self
+                .entries
+                .range((Bound::Excluded(key), Bound::Unbounded))
+                .next(),
+        }
+    }
+
+    /// The entries, by rising key.
+    pub fn iter(&self) -> Iter<'_, K, V>
+        ensures entries { result ≡ self.now }
+        ensures rise { KeysRise K.cmp self.now }
+        ensures fits { length self.now < 2 ^ 63 }
+    {
+        self.entries.iter()
     }
 
     /// Puts an entry last. Its key is above the last one, and so above all. After `OutOfMemory` the entries are as before.
@@ -77,20 +93,7 @@ impl<K: Ord + Kept + Drop, V: Drop> Owned<K, V> {
         ensures ok { OnOk result (self.new ≡ self.old ++ (key, value) ∷ []) }
         ensures err { OnErr result (self.new ≡ self.old) }
     {
-        self.insert(Entry::new(self.alloc, key, value)?)
-    }
-
-    // Puts an entry in, whose key is not there.
-    fn insert(&mut self, entry: Entry<K, V>) -> Result<(), OutOfMemory>
-        requires { value_at K.cmp entry.0 self.old ≡ None }
-        ensures ok { OnOk result (self.new ≡ with_entry K.cmp entry self.old) }
-        ensures err { OnErr result (self.new ≡ self.old) }
-    {
-        if self.count == usize::MAX {
-            return Err(OutOfMemory);
-        }
-        self.entries.put(entry);
-        self.count += 1;
+        self.entries.insert(key, value)?;
         Ok(())
     }
 
@@ -100,12 +103,7 @@ impl<K: Ord + Kept + Drop, V: Drop> Owned<K, V> {
         ensures err { OnErr result (self.new ≡ self.old) }
         ensures rise { KeysRise K.cmp self.new }
     {
-        if self.entries.get(key).is_some() {
-            self.entries.exchange(key, value);
-            return Ok(());
-        }
-        let entry = Entry::new(self.alloc, key.copy(self.alloc)?, value)?;
-        self.insert(entry)?;
+        self.entries.insert(key.copy(self.alloc)?, value)?;
         Ok(())
     }
 
@@ -115,33 +113,31 @@ impl<K: Ord + Kept + Drop, V: Drop> Owned<K, V> {
         ensures applied { IsApplied K.cmp ((key.now, Gone) ∷ []) self.old self.new }
         ensures rise { KeysRise K.cmp self.new }
     {
-        match self.take(key) {
-            None => None,
-            Some(entry) => {
-                let (_, value) = entry.into_parts();
-                Some(value)
-            }
-        }
+        self.entries.remove(key)
     }
 
-    // Takes the entry of a key out.
-    fn take(&mut self, key: &K) -> Option<Entry<K, V>>
-        ensures entry { result ≡ entry_at K.cmp key.now self.old }
-        ensures entries { self.new ≡ without_key K.cmp key.now self.old }
-        ensures rise { KeysRise K.cmp self.old }
+    /// Applies a change of a key. Where none is there that goes, nothing changes. After `OutOfMemory` the entries are as before.
+    pub fn apply(&mut self, key: &K, change: Change<V>) -> Result<(), OutOfMemory>
+        ensures ok { OnOk result (IsApplied K.cmp ((key.now, change) ∷ []) self.old self.new) }
+        ensures err { OnErr result (self.new ≡ self.old) }
+        ensures rise { KeysRise K.cmp self.new }
     {
-        let taken = self.entries.take(key);
-        if taken.is_some() {
-            self.count -= 1;
+        match change {
+            Change::Put(value) => self.set(key, value),
+            Change::Gone => {
+                self.remove(key);
+                Ok(())
+            }
         }
-        taken
     }
 }
 
 impl<K: Ord + Kept + Drop, V: Kept + Drop> Owned<K, V> {
+    ghost use Rattle.std.specs.Prelude.{List};
+    ghost use Rattle.std.specs.declared.cmp.Ordering.TheVariants.{Less};
     ghost use Rattle.nv_map.specs.Map.{KeysRise, value_at};
     ghost use Rattle.inc_table.specs.declared.delta.Change.TheVariants.{Put, Gone};
-    ghost use Rattle.inc_table.specs.Delta.{IsAbove, IsApplied, alters, alters_each, change_between, told_at};
+    ghost use Rattle.inc_table.specs.Delta.{IsAbove, IsApplied, IsDifference, alters, alters_each, change_between, change_to, puts_of, told_at};
     ghost use Rattle.inc_table.specs.inner.Walk.{is_there};
 
     /// The same entries.
@@ -149,12 +145,32 @@ impl<K: Ord + Kept + Drop, V: Kept + Drop> Owned<K, V> {
         ensures { IfOk result (λ copied. copied ≡ self.now) }
     {
         let mut copied = Owned::new(alloc);
-        let mut last = None;
-        while let Some((key, value)) = self.first_after(last) {
+        for (key, value) in self.iter() {
             copied.put(key.copy(alloc)?, value.copy(alloc)?)?;
-            last = Some(key);
         }
         Ok(copied)
+    }
+
+    /// The delta that puts all of these: it leads from no entries to these.
+    pub fn puts(&self, alloc: Global) -> Result<Delta<K, V>, OutOfMemory>
+        ensures puts { IfOk result (λ delta. delta ≡ puts_of self.now) }
+        ensures rise { KeysRise K.cmp self.now }
+    {
+        let mut delta = Delta::new(alloc);
+        for (key, value) in self.iter() {
+            let change = Change::Put(value.copy(alloc)?);
+            delta.push(key.copy(alloc)?, change)?;
+        }
+        Ok(delta)
+    }
+
+    /// The delta of these entries as they are: empty. It takes no memory.
+    pub fn unchanged(&self) -> Delta<K, V>
+        ensures none { result ≡ [] }
+        ensures difference { IsDifference K.cmp V.eq self.now self.now result }
+        ensures rise { KeysRise K.cmp self.now }
+    {
+        Delta::new(self.alloc)
     }
 
     /// Whether each change of a delta changes something: a value that is put is not there yet, and a key that goes is there.
@@ -218,5 +234,25 @@ impl<K: Ord + Kept + Drop, V: Kept + Drop> Owned<K, V> {
             told.push(key.copy(self.alloc)?, Change::Gone)?;
         }
         Ok(())
+    }
+    /// Puts a value at a key, or takes the one that is there out, and tells it where that changes anything. What told all that changed
+    /// before tells all that changed after. At `OutOfMemory` no more is known of the entries and of what was told.
+    pub fn change_at(
+        &mut self,
+        key: &K,
+        value: Option<V>,
+        told: &mut Delta<K, V>,
+    ) -> Result<(), OutOfMemory>
+        requires { IsAbove K.cmp key.now told.old }
+        ensures applied { OnOk result (IsApplied K.cmp ((key.now, change_to value) ∷ []) self.old self.new) }
+        ensures told { OnOk result (told.new ≡ told.old ++ told_at key.now (change_between V.eq (value_at K.cmp key.now self.old) value)) }
+        ensures rise { KeysRise K.cmp self.new }
+        ensures difference { OnOk result ((first : List (K × V)) → IsDifference K.cmp V.eq first self.old told.old → IsDifference K.cmp V.eq first self.new told.new) }
+        ensures above { OnOk result ((next : K) → K.cmp key.now next ≡ Less → IsAbove K.cmp next told.new) }
+    {
+        match value {
+            None => self.strike(key, told),
+            Some(value) => self.replace(key, value, told),
+        }
     }
 }

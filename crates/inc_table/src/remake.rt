@@ -2,11 +2,12 @@
 ghost use Rattle.std.specs.Prelude.{◌≡◌, ◌∷◌, ◌++◌, [], nat_lt, length, count_by, true, false, OnOk, OnErr, IfOk, Some, None};
 ghost use Rattle.std.specs.Option.{option_copied, option_map};
 ghost use Rattle.nv_map.specs.Map.{KeysRise, value_at};
-ghost use Rattle.inc_table.specs.Delta.{IsAbove, IsApplied, IsDifference, change_between, left_by, told_at};
+ghost use Rattle.inc_table.specs.Delta.{IsAbove, IsApplied, IsDifference, change_between, change_to, left_by, told_at};
 ghost use Rattle.inc_table.specs.Maker.{more_made};
 ghost use Rattle.inc_table.specs.Node.{outputs_of, is_put, made_by};
-ghost use Rattle.inc_table.specs.inner.Walk.{change_to, key_after, least, made_one};
+ghost use Rattle.inc_table.specs.inner.Walk.{entry_list, made_one};
 
+use crate::ahead::{Ahead, least};
 use crate::{Change, Delta, Maker, Owned, Report};
 use nv_base::{Kept, OutOfMemory};
 use std::alloc::Global;
@@ -111,18 +112,103 @@ where
     ensures made { IfOk result (λ report. report.made ≡ length inputs.now) }
     ensures counted { IfOk result (λ report. M.made maker.new ≡ more_made report.made (M.made maker.old)) }
 {
+    let mut made = Owned::new(alloc);
     let mut changed = Delta::new(alloc);
-    let mut last = None;
-    while let Some(key) = next_key(inputs, table, last.as_ref()) {
-        let key = key.copy(alloc)?;
-        make_at(alloc, maker, &key, inputs.get(&key), table, &mut changed)?;
-        last = Some(key);
+    let mut inputs_ahead = Ahead::new(inputs);
+    let mut outs_ahead = Ahead::new(table);
+    while let Some(key) = least(inputs_ahead.key(), outs_ahead.key()) {
+        let input = inputs_ahead.take(key);
+        let old = outs_ahead.take(key);
+        make_next(alloc, maker, key, input, old, &mut made, &mut changed)?;
     }
+    *table = made;
     Ok(Report {
         made: inputs.len() as u64,
         fell_back: true,
         changed,
     })
+}
+
+// Makes the output of a key, where it has an input, and tells what it is where another one was there, or none.
+fn make_next<M: Maker>(
+    alloc: Global,
+    maker: &mut M,
+    key: &M::Key,
+    input: Option<&M::Input>,
+    old: Option<&M::Out>,
+    made: &mut Owned<M::Key, M::Out>,
+    changed: &mut Delta<M::Key, M::Out>,
+) -> Result<(), OutOfMemory>
+where
+    M::Key: Drop,
+    M::Input: Drop,
+    M::Out: Drop,
+    requires made { IsAbove M.Key.cmp key.now made.old }
+    requires changed { IsAbove M.Key.cmp key.now changed.old }
+    ensures made { OnOk result (made.new ≡ made.old ++ entry_list key.now (option_map (M.out_of key.now) (option_copied input.entry))) }
+    ensures told { OnOk result (changed.new ≡ changed.old ++ told_at key.now (change_between M.Out.eq (option_copied old.entry) (option_map (M.out_of key.now) (option_copied input.entry)))) }
+    ensures counted { OnOk result (M.made maker.new ≡ made_one (option_copied input.entry) (M.made maker.old)) }
+{
+    let out = make_from(alloc, maker, key, input)?;
+    tell(alloc, key, old, &out, changed)?;
+    match out {
+        None => Ok(()),
+        Some(out) => made.put(key.copy(alloc)?, out),
+    }
+}
+
+// Makes the output of a key, where it has an input.
+fn make_from<M: Maker>(
+    alloc: Global,
+    maker: &mut M,
+    key: &M::Key,
+    input: Option<&M::Input>,
+) -> Result<Option<M::Out>, OutOfMemory>
+    ensures out { IfOk result (λ out. out ≡ option_map (M.out_of key.now) (option_copied input.entry)) }
+    ensures counted { OnOk result (M.made maker.new ≡ made_one (option_copied input.entry) (M.made maker.old)) }
+{
+    match input {
+        None => Ok(None),
+        Some(input) => Ok(Some(maker.make(alloc, key, input)?)),
+    }
+}
+
+// Tells what changed at a key, where anything did.
+fn tell<K: Ord + Kept + Drop, V: Kept + Drop>(
+    alloc: Global,
+    key: &K,
+    old: Option<&V>,
+    new: &Option<V>,
+    changed: &mut Delta<K, V>,
+) -> Result<(), OutOfMemory>
+    requires { IsAbove K.cmp key.now changed.old }
+    ensures told { OnOk result (changed.new ≡ changed.old ++ told_at key.now (change_between V.eq (option_copied old.entry) new.now)) }
+{
+    match change_between(alloc, old, new)? {
+        None => Ok(()),
+        Some(change) => changed.push(key.copy(alloc)?, change),
+    }
+}
+
+// What changed, where anything did.
+fn change_between<V: Kept + Drop>(
+    alloc: Global,
+    old: Option<&V>,
+    new: &Option<V>,
+) -> Result<Option<Change<V>>, OutOfMemory>
+    ensures { IfOk result (λ change. change ≡ change_between V.eq (option_copied old.entry) new.now) }
+{
+    match (old, new) {
+        (None, None) => Ok(None),
+        (None, Some(new)) => Ok(Some(Change::Put(new.copy(alloc)?))),
+        (Some(_), None) => Ok(Some(Change::Gone)),
+        (Some(old), Some(new)) => {
+            if old == new {
+                return Ok(None);
+            }
+            Ok(Some(Change::Put(new.copy(alloc)?)))
+        }
+    }
 }
 
 // Makes the output of a key anew. Where it has no input, it has no output.
@@ -144,31 +230,8 @@ where
     ensures rise { OnOk result (KeysRise M.Key.cmp table.new) }
     ensures counted { OnOk result (M.made maker.new ≡ made_one (option_copied input.entry) (M.made maker.old)) }
 {
-    match input {
-        None => table.strike(key, changed),
-        Some(input) => {
-            let out = maker.make(alloc, key, input)?;
-            table.replace(key, out, changed)
-        }
-    }
-}
-
-// The least key of either that is above the one given.
-fn next_key<'a, K: Ord + Kept + Drop, A: Drop, B: Drop>(
-    one: &'a Owned<K, A>,
-    other: &'a Owned<K, B>,
-    last: Option<&K>,
-) -> Option<&'a K>
-    ensures key { option_copied result ≡ least K.cmp (key_after K.cmp (option_copied last.entry) one.now) (key_after K.cmp (option_copied last.entry) other.now) }
-    ensures one { KeysRise K.cmp one.now }
-    ensures other { KeysRise K.cmp other.now }
-{
-    match (one.first_after(last), other.first_after(last)) {
-        (None, None) => None,
-        (None, Some((key, _))) => Some(key),
-        (Some((key, _)), None) => Some(key),
-        (Some((key, _)), Some((other, _))) => { if key > other { Some(other) } else { Some(key) } }
-    }
+    let out = make_from(alloc, maker, key, input)?;
+    table.change_at(key, out, changed)
 }
 
 // The value that a change puts, if it does.

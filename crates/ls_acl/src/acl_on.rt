@@ -9,19 +9,18 @@ ghost use Rattle.net_rows.specs.Acls.{
   acl_rules_at,
   acl_on_rules,
 };
-ghost use Rattle.net_rows.specs.Unit.{rule, said_by, unit_of, unit_rows};
+ghost use Rattle.net_rows.specs.Unit.{rule, said_by, unit_of};
 ghost use Rattle.sb_model.specs.Make.{all_of};
 ghost use Rattle.ls_acl.specs.inner.Parts.{blocking_rule, refusing_rule};
 
 use crate::actions::{blocks, ending, goes_on, passes};
 use act_core::Action;
 use expr_core::{Pred, Typed};
-use inc_table::Maker;
 use nb_records::{Verdict, Way};
-use net_rows::{AclOnInput, Rule, Unit};
+use net_rows::{AclOnInput, Rule, Unit, UnitKind};
 use nv_base::{Items, Kept, ObjId, OutOfMemory};
 use sb_model::{Stage, both, predicate};
-use sb_rows::{NewRows, RowList};
+use sb_rows::NewRows;
 use std::alloc::Global;
 
 // The greatest priority of an ACL.
@@ -30,55 +29,36 @@ const GREATEST_PRIORITY: u16 = 32_767;
 // By so much the priority of an ACL's rows is above its own.
 const ABOVE: u16 = 1000;
 
-/// Makes the rows of an ACL on a switch to which it applies (ovn-northd(8), 'from-lport ACLs' and 'to-lport ACLs'; stages,
-/// registers and priorities are not from OVN). The key is both, the ACL first. An ACL of a priority above 32,767 has none.
+/// An ACL on a switch to which it applies (ovn-northd(8), 'from-lport ACLs' and 'to-lport ACLs'; stages, registers and priorities are
+/// not from OVN). The key is both, the ACL first. An ACL of a priority above 32,767 has no rows.
 #[derive(Drop)]
-pub struct AclOn {
-    // How many outputs were made.
-    made: u64,
-}
+pub struct AclOn;
 
-impl AclOn {
-    /// A maker that made nothing yet.
-    pub fn new() -> Self
-        ensures { result.made ≡ 0 }
-    {
-        AclOn { made: 0 }
-    }
-}
-
-impl Maker for AclOn {
+impl UnitKind for AclOn {
     type Key = (ObjId, ObjId);
 
     type Input = AclOnInput;
 
-    type Out = RowList;
+    ghost unit_for = { λ key input. unit_of key.1 key.0 };
 
-    ghost out_of = { λ key input. unit_rows (unit_of key.1 key.0) (acl_on_rules input) };
+    ghost rules_of = { acl_on_rules };
 
-    ghost made = { λ maker. maker.made };
+    fn unit(&self, key: &(ObjId, ObjId), _input: &AclOnInput) -> Unit {
+        Unit::of(key.1, key.0)
+    }
 
-    #[tactic(auto, unfolding(net_rows::specs::Unit::unit_rows))]
-    fn make(
-        &mut self,
+    fn put(
+        &self,
         alloc: Global,
-        key: &(ObjId, ObjId),
+        rows: &mut NewRows,
+        unit: Unit,
         input: &AclOnInput,
-    ) -> Result<RowList, OutOfMemory> {
-        let (acl, switch) = *key;
-        let unit = Unit {
-            dp: switch,
-            hint: acl,
-        };
-        let mut rows = NewRows::new(alloc);
-        add_acl_on_rows(alloc, &mut rows, unit, input)?;
-        let list = rows.into_list()?;
-        self.made = self.made.saturating_add(1);
-        Ok(list)
+    ) -> Result<(), OutOfMemory> {
+        put_acl_on_rules(alloc, rows, unit, input)
     }
 }
 
-fn add_acl_on_rows(
+fn put_acl_on_rules(
     alloc: Global,
     rows: &mut NewRows,
     unit: Unit,
@@ -87,13 +67,13 @@ fn add_acl_on_rows(
     ensures { OnOk result (rows.new ≡ rows.old ++ said_by unit (acl_on_rules acl.now)) }
 {
     if acl.priority <= GREATEST_PRIORITY {
-        add_rows_at(alloc, rows, unit, acl.priority + ABOVE, acl)?;
+        put_rules_at(alloc, rows, unit, acl.priority + ABOVE, acl)?;
     }
     Ok(())
 }
 
 // The rows of the ACL, of this priority.
-fn add_rows_at(
+fn put_rules_at(
     alloc: Global,
     rows: &mut NewRows,
     unit: Unit,
@@ -103,8 +83,8 @@ fn add_rows_at(
     ensures { OnOk result (rows.new ≡ rows.old ++ said_by unit (acl_rules_at priority acl.now)) }
 {
     if acl.tracks {
-        add_untracking_row(alloc, rows, unit, priority, acl)?;
-        add_tracked_rows(alloc, rows, unit, priority, acl)?;
+        put_untracking_rule(alloc, rows, unit, priority, acl)?;
+        put_tracked_rules(alloc, rows, unit, priority, acl)?;
     } else {
         let actions = ending(alloc, acl.verdict)?;
         unit.put(
@@ -154,7 +134,7 @@ fn stage_of(way: Way) -> Stage
 }
 
 // On a switch that tracks: what an `allow-stateless` ACL takes is not tracked.
-fn add_untracking_row(
+fn put_untracking_rule(
     alloc: Global,
     rows: &mut NewRows,
     unit: Unit,
@@ -175,7 +155,7 @@ fn add_untracking_row(
 }
 
 // On a switch that tracks: the rows in the stage in which ACLs decide.
-fn add_tracked_rows(
+fn put_tracked_rules(
     alloc: Global,
     rows: &mut NewRows,
     unit: Unit,
@@ -188,7 +168,7 @@ fn add_tracked_rows(
         Verdict::Allow | Verdict::AllowRelated => passes(alloc, true)?,
         Verdict::AllowStateless => goes_on(alloc)?,
         Verdict::Drop | Verdict::Reject => {
-            return add_refusing_rows(alloc, rows, unit, priority, acl);
+            return put_refusing_rules(alloc, rows, unit, priority, acl);
         }
     };
     unit.put(
@@ -198,7 +178,7 @@ fn add_tracked_rows(
 }
 
 // On a switch that tracks: an ACL that refuses packets blocks the connections of those that are established.
-fn add_refusing_rows(
+fn put_refusing_rules(
     alloc: Global,
     rows: &mut NewRows,
     unit: Unit,

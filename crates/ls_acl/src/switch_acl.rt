@@ -1,7 +1,7 @@
 //! The rows that a switch has in the stages of ACLs.
 ghost use Rattle.std.specs.Prelude.{◌≡◌, ◌++◌, IfOk, OnOk};
 ghost use Rattle.net_rows.specs.Acls.{is_shut_out, is_reply, tracking_rules, switch_acl_rules};
-ghost use Rattle.net_rows.specs.Unit.{said_by, unit_of_datapath, unit_rows};
+ghost use Rattle.net_rows.specs.Unit.{said_by, unit_of_datapath};
 ghost use Rattle.ls_acl.specs.inner.Parts.{
   default_rule,
   default_rules,
@@ -20,61 +20,42 @@ use crate::actions::{asks_to_track, drops, goes_on, goes_on_after, passes};
 use crate::both::put_in_both;
 use act_core::{Action, Step};
 use expr_core::{Bits, Pred, Typed, TypedAtom};
-use inc_table::Maker;
-use net_rows::{Rule, SwitchAclInput, Unit};
+use net_rows::{Rule, SwitchAclInput, Unit, UnitKind};
 use nv_base::{Field, Items, ObjId, OutOfMemory};
 use sb_model::{Stage, bit_is_set, both, either, one_step, predicate, takes_each};
-use sb_rows::{NewRows, RowList};
+use sb_rows::NewRows;
 use std::alloc::Global;
 
-/// Makes the rows that a switch has in the stages of ACLs (ovn-northd(8), 'from-lport ACLs' and 'to-lport ACLs'; stages,
-/// registers and priorities are not from OVN). The key is the switch.
+/// What a switch has in the stages of ACLs (ovn-northd(8), 'from-lport ACLs' and 'to-lport ACLs'; stages, registers and priorities are
+/// not from OVN). The key is the switch.
 #[derive(Drop)]
-pub struct SwitchAcl {
-    // How many outputs were made.
-    made: u64,
-}
+pub struct SwitchAcl;
 
-impl SwitchAcl {
-    /// A maker that made nothing yet.
-    pub fn new() -> Self
-        ensures { result.made ≡ 0 }
-    {
-        SwitchAcl { made: 0 }
-    }
-}
-
-impl Maker for SwitchAcl {
+impl UnitKind for SwitchAcl {
     type Key = ObjId;
 
     type Input = SwitchAclInput;
 
-    type Out = RowList;
+    ghost unit_for = { λ switch input. unit_of_datapath switch };
 
-    ghost out_of = { λ key input. unit_rows (unit_of_datapath key) (switch_acl_rules input) };
+    ghost rules_of = { switch_acl_rules };
 
-    ghost made = { λ maker. maker.made };
+    fn unit(&self, key: &ObjId, _input: &SwitchAclInput) -> Unit {
+        Unit::of_datapath(*key)
+    }
 
-    #[tactic(auto, unfolding(net_rows::specs::Unit::unit_rows))]
-    fn make(
-        &mut self,
+    fn put(
+        &self,
         alloc: Global,
-        key: &ObjId,
+        rows: &mut NewRows,
+        unit: Unit,
         input: &SwitchAclInput,
-    ) -> Result<RowList, OutOfMemory> {
-        let unit = Unit {
-            dp: *key,
-            hint: ObjId(0),
-        };
-        let mut rows = NewRows::new(alloc);
-        add_switch_acl_rows(alloc, &mut rows, unit, *input)?;
-        let list = rows.into_list()?;
-        self.made = self.made.saturating_add(1);
-        Ok(list)
+    ) -> Result<(), OutOfMemory> {
+        put_switch_acl_rules(alloc, rows, unit, *input)
     }
 }
 
-fn add_switch_acl_rows(
+fn put_switch_acl_rules(
     alloc: Global,
     rows: &mut NewRows,
     unit: Unit,
@@ -82,15 +63,15 @@ fn add_switch_acl_rows(
 ) -> Result<(), OutOfMemory>
     ensures { OnOk result (rows.new ≡ rows.old ++ said_by unit (switch_acl_rules input)) }
 {
-    add_default_rows(alloc, rows, unit, input.tracks)?;
+    put_default_rules(alloc, rows, unit, input.tracks)?;
     if input.tracks {
-        add_tracking_rows(alloc, rows, unit, input.balances)?;
+        put_tracking_rules(alloc, rows, unit, input.balances)?;
     }
     Ok(())
 }
 
 // The rows that act where no other does.
-fn add_default_rows(
+fn put_default_rules(
     alloc: Global,
     rows: &mut NewRows,
     unit: Unit,
@@ -122,7 +103,7 @@ fn default_rule(stage: Stage, actions: Items<Action>) -> Rule
 }
 
 // The rows of a switch that tracks connections.
-fn add_tracking_rows(
+fn put_tracking_rules(
     alloc: Global,
     rows: &mut NewRows,
     unit: Unit,
@@ -130,13 +111,13 @@ fn add_tracking_rows(
 ) -> Result<(), OutOfMemory>
     ensures { OnOk result (rows.new ≡ rows.old ++ said_by unit (tracking_rules balances)) }
 {
-    add_rows_to_track(alloc, rows, unit, balances)?;
-    add_rows_of_connections(alloc, rows, unit)?;
+    put_rules_to_track(alloc, rows, unit, balances)?;
+    put_rules_of_connections(alloc, rows, unit)?;
     Ok(())
 }
 
 // The rows by which packets are tracked.
-fn add_rows_to_track(
+fn put_rules_to_track(
     alloc: Global,
     rows: &mut NewRows,
     unit: Unit,
@@ -194,12 +175,16 @@ fn tracking_rule(alloc: Global, balances: bool) -> Result<Rule, OutOfMemory>
 }
 
 // The rows that act on what is known of the connection of a packet.
-fn add_rows_of_connections(alloc: Global, rows: &mut NewRows, unit: Unit) -> Result<(), OutOfMemory>
+fn put_rules_of_connections(
+    alloc: Global,
+    rows: &mut NewRows,
+    unit: Unit,
+) -> Result<(), OutOfMemory>
     ensures { OnOk result (rows.new ≡ rows.old ++ said_by unit rules_of_connections) }
 {
     let for_shut_out = rule_for_shut_out(alloc)?;
     put_in_both(alloc, rows, unit, for_shut_out, Stage::LsOutAclEval)?;
-    add_rows_for_replies(alloc, rows, unit)?;
+    put_rules_for_replies(alloc, rows, unit)?;
     let keeping = keeping_rule(alloc)?;
     put_in_both(alloc, rows, unit, keeping, Stage::LsOutStateful)?;
     Ok(())
@@ -236,7 +221,7 @@ fn is_reply(alloc: Global) -> Result<Typed, OutOfMemory>
 }
 
 // Replies, and what is related to a connection, go on.
-fn add_rows_for_replies(alloc: Global, rows: &mut NewRows, unit: Unit) -> Result<(), OutOfMemory>
+fn put_rules_for_replies(alloc: Global, rows: &mut NewRows, unit: Unit) -> Result<(), OutOfMemory>
     ensures { OnOk result (rows.new ≡ rows.old ++ said_by unit rules_for_replies) }
 {
     let for_replies = rule_for_replies(alloc)?;

@@ -13,7 +13,7 @@ use sb_rows::NewRows;
 use std::alloc::Global;
 
 /// The port's own request for its address goes on, and that of others is answered.
-pub(crate) fn add_arp_rows(
+pub(crate) fn put_arp_rules(
     alloc: Global,
     rows: &mut NewRows,
     unit: Unit,

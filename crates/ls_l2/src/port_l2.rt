@@ -4,83 +4,48 @@ ghost use Rattle.nb_model.specs.Belongs.{is_router_kind};
 ghost use Rattle.nb_model.specs.Readable.{macs_of};
 ghost use Rattle.nb_model.specs.Ports.{is_router_word};
 ghost use Rattle.net_rows.specs.Lookup.{arp_rules, arp_rules_of, lookup_rule, more_macs, looked_up, host_rules, port_l2_rules};
-ghost use Rattle.net_rows.specs.Unit.{said_by, unit_of, unit_rows};
+ghost use Rattle.net_rows.specs.Unit.{said_by, unit_of};
 ghost use Rattle.ls_l2.specs.inner.Macs.{own_macs, peer_macs};
 
-use crate::arp::add_arp_rows;
-use inc_table::Maker;
+use crate::arp::put_arp_rules;
 use nb_records::{Addr, PortKind};
-use net_rows::{PortL2Input, Rule, Unit};
+use net_rows::{PortL2Input, Rule, Unit, UnitKind};
 use nv_base::{Field, Ip4, Kept, Mac, Name, ObjId, OutOfMemory};
 use sb_model::{Stage, as_mac, equals, goes_out_by};
-use sb_rows::{NewRows, RowList};
+use sb_rows::NewRows;
 use std::alloc::Global;
-use std::marker::Model;
 
-/// Makes the rows of a switch port in the stages of ARP replies and of the lookup: a host is answered for, and a packet for
-/// a MAC of the port goes out by it (ovn-northd(8), 'Ingress Table: ARP/ND responder' and 'Ingress Table: Destination
-/// Lookup'). A clause sees how many outputs it made.
+/// A switch port in the stages of ARP replies and of the lookup: a host is answered for, and a packet for a MAC of the port goes out by
+/// it (ovn-northd(8), 'Ingress Table: ARP/ND responder' and 'Ingress Table: Destination Lookup'). The key is the port.
 #[derive(Drop)]
-pub struct PortL2 {
-    made: u64,
-}
+pub struct PortL2;
 
-impl Model for PortL2 {
-    ghost use Rattle.std.specs.Prelude.{ℕ};
-
-    ghost Value = { ℕ };
-
-    ghost view = { λ m. m.made };
-}
-
-impl PortL2 {
-    /// It has made nothing.
-    pub fn new() -> Self
-        ensures { result ≡ 0 }
-    {
-        PortL2 { made: 0 }
-    }
-}
-
-impl Maker for PortL2 {
+impl UnitKind for PortL2 {
     type Key = ObjId;
 
     type Input = PortL2Input;
 
-    type Out = RowList;
+    ghost unit_for = { λ port input. unit_of input.dp port };
 
-    ghost out_of = { λ key input. unit_rows (unit_of input.dp key) (port_l2_rules input) };
+    ghost rules_of = { port_l2_rules };
 
-    ghost made = { λ made. made };
+    fn unit(&self, key: &ObjId, input: &PortL2Input) -> Unit {
+        Unit::of(input.dp, *key)
+    }
 
-    fn make(
-        &mut self,
+    fn put(
+        &self,
         alloc: Global,
-        key: &ObjId,
+        rows: &mut NewRows,
+        unit: Unit,
         input: &PortL2Input,
-    ) -> Result<RowList, OutOfMemory> {
-        let rows = port_l2_rows(alloc, *key, input)?;
-        self.made = self.made.saturating_add(1);
-        Ok(rows)
+    ) -> Result<(), OutOfMemory> {
+        put_port_l2_rules(alloc, rows, unit, input)
     }
 }
 
-// The rows, in row order.
-#[tactic(auto, unfolding(net_rows::specs::Unit::unit_rows))]
-fn port_l2_rows(alloc: Global, port: ObjId, input: &PortL2Input) -> Result<RowList, OutOfMemory>
-    ensures { IfOk result (λ rows. rows ≡ unit_rows (unit_of input.now.dp port) (port_l2_rules input.now)) }
-{
-    let unit = Unit {
-        dp: input.dp,
-        hint: port,
-    };
-    let mut rows = NewRows::new(alloc);
-    add_port_l2_rows(alloc, &mut rows, unit, input)?;
-    rows.into_list()
-}
-
 #[tactic(auto, unfolding(net_rows::specs::Lookup::port_l2_rules))]
-fn add_port_l2_rows(
+fn put_port_l2_rules(
     alloc: Global,
     rows: &mut NewRows,
     unit: Unit,
@@ -91,13 +56,13 @@ fn add_port_l2_rows(
     if !input.enabled {
         return Ok(());
     }
-    add_host_rows(alloc, rows, unit, input)?;
-    add_lookup_rows(alloc, rows, unit, input)?;
+    put_host_rules(alloc, rows, unit, input)?;
+    put_lookup_rules(alloc, rows, unit, input)?;
     Ok(())
 }
 
 // A host is answered for.
-fn add_host_rows(
+fn put_host_rules(
     alloc: Global,
     rows: &mut NewRows,
     unit: Unit,
@@ -108,12 +73,12 @@ fn add_host_rows(
     match input.kind {
         PortKind::Router => Ok(()),
         PortKind::Host => {
-            add_rows_of_addresses(alloc, rows, unit, &input.name, input.addresses.as_slice())
+            put_rules_of_addresses(alloc, rows, unit, &input.name, input.addresses.as_slice())
         }
     }
 }
 
-fn add_rows_of_addresses(
+fn put_rules_of_addresses(
     alloc: Global,
     rows: &mut NewRows,
     unit: Unit,
@@ -123,12 +88,12 @@ fn add_rows_of_addresses(
     ensures { OnOk result (rows.new ≡ rows.old ++ said_by unit (flat_map (arp_rules_of name.now) addresses.now)) }
 {
     for addr in addresses {
-        add_rows_of_address(alloc, rows, unit, name, addr)?;
+        put_rules_of_address(alloc, rows, unit, name, addr)?;
     }
     Ok(())
 }
 
-fn add_rows_of_address(
+fn put_rules_of_address(
     alloc: Global,
     rows: &mut NewRows,
     unit: Unit,
@@ -140,12 +105,12 @@ fn add_rows_of_address(
     match addr {
         Addr::Unknown | Addr::Router => Ok(()),
         Addr::Host { mac, ips } => {
-            add_rows_of_ips(alloc, rows, unit, name, *mac, ips.as_slice())
+            put_rules_of_ips(alloc, rows, unit, name, *mac, ips.as_slice())
         }
     }
 }
 
-fn add_rows_of_ips(
+fn put_rules_of_ips(
     alloc: Global,
     rows: &mut NewRows,
     unit: Unit,
@@ -156,13 +121,13 @@ fn add_rows_of_ips(
     ensures { OnOk result (rows.new ≡ rows.old ++ said_by unit (flat_map (arp_rules name.now mac) ips.now)) }
 {
     for ip in ips {
-        add_arp_rows(alloc, rows, unit, name, mac, *ip)?;
+        put_arp_rules(alloc, rows, unit, name, mac, *ip)?;
     }
     Ok(())
 }
 
 // A packet for a MAC that the port takes goes out by it.
-fn add_lookup_rows(
+fn put_lookup_rules(
     alloc: Global,
     rows: &mut NewRows,
     unit: Unit,
@@ -170,13 +135,13 @@ fn add_lookup_rows(
 ) -> Result<(), OutOfMemory>
     ensures { OnOk result (rows.new ≡ rows.old ++ said_by unit (map (lookup_rule input.now.name) (looked_up input.now))) }
 {
-    add_own_lookup_rows(alloc, rows, unit, input)?;
-    add_peer_lookup_rows(alloc, rows, unit, input)?;
+    put_own_lookup_rules(alloc, rows, unit, input)?;
+    put_peer_lookup_rules(alloc, rows, unit, input)?;
     Ok(())
 }
 
 // What is for the MACs of its addresses.
-fn add_own_lookup_rows(
+fn put_own_lookup_rules(
     alloc: Global,
     rows: &mut NewRows,
     unit: Unit,
@@ -185,12 +150,12 @@ fn add_own_lookup_rows(
     ensures { OnOk result (rows.new ≡ rows.old ++ said_by unit (map (lookup_rule input.now.name) (own_macs input.now))) }
 {
     for addr in input.addresses.as_slice() {
-        add_lookup_rows_of(alloc, rows, unit, &input.name, addr)?;
+        put_lookup_rules_of(alloc, rows, unit, &input.name, addr)?;
     }
     Ok(())
 }
 
-fn add_lookup_rows_of(
+fn put_lookup_rules_of(
     alloc: Global,
     rows: &mut NewRows,
     unit: Unit,
@@ -206,7 +171,7 @@ fn add_lookup_rows_of(
 }
 
 // What is for the MAC of its peer, where it stands for a router.
-fn add_peer_lookup_rows(
+fn put_peer_lookup_rules(
     alloc: Global,
     rows: &mut NewRows,
     unit: Unit,
@@ -215,7 +180,7 @@ fn add_peer_lookup_rows(
     ensures { OnOk result (rows.new ≡ rows.old ++ said_by unit (map (lookup_rule input.now.name) (peer_macs input.now))) }
 {
     if stands_for_router(input) {
-        add_more_lookup_rows(alloc, rows, unit, input)
+        put_more_lookup_rules(alloc, rows, unit, input)
     } else {
         Ok(())
     }
@@ -250,7 +215,7 @@ fn is_router_word(addr: &Addr) -> bool
 }
 
 // A MAC that the port has itself too has one row.
-fn add_more_lookup_rows(
+fn put_more_lookup_rules(
     alloc: Global,
     rows: &mut NewRows,
     unit: Unit,

@@ -1,73 +1,44 @@
-ghost use Rattle.std.specs.Prelude.{◌≡◌, ◌++◌, IfOk, OnOk};
+ghost use Rattle.std.specs.Prelude.{◌≡◌, ◌++◌, OnOk};
 ghost use Rattle.net_rows.specs.LoadBalancers.{switch_lb_rules};
-ghost use Rattle.net_rows.specs.Unit.{said_by, unit_of_datapath, unit_rows};
+ghost use Rattle.net_rows.specs.Unit.{said_by, unit_of_datapath};
 
 use act_core::Step;
-use inc_table::Maker;
-use net_rows::{Rule, Unit};
+use net_rows::{Rule, Unit, UnitKind};
 use nv_base::{ObjId, OutOfMemory};
 use sb_model::{Stage, one_step, takes_each};
-use sb_rows::{NewRows, RowList};
+use sb_rows::NewRows;
 use std::alloc::Global;
-use std::marker::Model;
 
-/// Makes the row of load balancing that each switch has: what no virtual address takes goes on (ovn-northd(8), 'Ingress
-/// Table: LB'). A clause sees how many outputs it made.
+/// The load balancing that each switch has: what no virtual address takes goes on (ovn-northd(8), 'Ingress Table: LB'). The key is the
+/// switch.
 #[derive(Drop)]
-pub struct SwitchLb {
-    made: u64,
-}
+pub struct SwitchLb;
 
-impl Model for SwitchLb {
-    ghost use Rattle.std.specs.Prelude.{ℕ};
-
-    ghost Value = { ℕ };
-
-    ghost view = { λ m. m.made };
-}
-
-impl SwitchLb {
-    /// It has made nothing.
-    pub fn new() -> Self
-        ensures { result ≡ 0 }
-    {
-        SwitchLb { made: 0 }
-    }
-}
-
-impl Maker for SwitchLb {
+impl UnitKind for SwitchLb {
     type Key = ObjId;
 
     type Input = ();
 
-    type Out = RowList;
+    ghost unit_for = { λ switch input. unit_of_datapath switch };
 
-    ghost out_of = { λ key input. unit_rows (unit_of_datapath key) switch_lb_rules };
+    ghost rules_of = { λ input. switch_lb_rules };
 
-    ghost made = { λ made. made };
+    fn unit(&self, key: &ObjId, _input: &()) -> Unit {
+        Unit::of_datapath(*key)
+    }
 
-    fn make(&mut self, alloc: Global, key: &ObjId, _input: &()) -> Result<RowList, OutOfMemory> {
-        let rows = switch_lb_rows(alloc, *key)?;
-        self.made = self.made.saturating_add(1);
-        Ok(rows)
+    fn put(
+        &self,
+        alloc: Global,
+        rows: &mut NewRows,
+        unit: Unit,
+        _input: &(),
+    ) -> Result<(), OutOfMemory> {
+        put_switch_lb_rules(alloc, rows, unit)
     }
 }
 
-// The rows, in row order.
-#[tactic(auto, unfolding(net_rows::specs::Unit::unit_rows))]
-fn switch_lb_rows(alloc: Global, switch: ObjId) -> Result<RowList, OutOfMemory>
-    ensures { IfOk result (λ rows. rows ≡ unit_rows (unit_of_datapath switch) switch_lb_rules) }
-{
-    let unit = Unit {
-        dp: switch,
-        hint: ObjId(0),
-    };
-    let mut rows = NewRows::new(alloc);
-    add_switch_lb_rows(alloc, &mut rows, unit)?;
-    rows.into_list()
-}
-
-fn add_switch_lb_rows(alloc: Global, rows: &mut NewRows, unit: Unit) -> Result<(), OutOfMemory>
+fn put_switch_lb_rules(alloc: Global, rows: &mut NewRows, unit: Unit) -> Result<(), OutOfMemory>
     ensures { OnOk result (rows.new ≡ rows.old ++ said_by unit switch_lb_rules) }
 {
     let rule = Rule {

@@ -3,7 +3,6 @@
 
 mod addresses;
 mod guard;
-mod made;
 mod one_step;
 mod port_sec;
 mod switch_sec;

@@ -1,79 +1,45 @@
-ghost use Rattle.std.specs.Prelude.{◌≡◌, ◌++◌, IfOk, OnOk};
+ghost use Rattle.std.specs.Prelude.{◌≡◌, ◌++◌, OnOk};
 ghost use Rattle.std.specs.List.{flat_map};
 ghost use Rattle.net_rows.specs.PortSecurity.{port_sec_rules, disabled_rules, guarded_rules, guard_rules};
-ghost use Rattle.net_rows.specs.Unit.{unit_of, said_by, unit_rows};
+ghost use Rattle.net_rows.specs.Unit.{unit_of, said_by};
 
 use crate::guard::put_guard_rules;
-use crate::made::one_more;
 use crate::one_step::one_step_rule;
 use act_core::Step;
-use inc_table::Maker;
 use nb_records::Guard;
-use net_rows::{PortSecInput, Unit};
+use net_rows::{PortSecInput, Unit, UnitKind};
 use nv_base::{Field, Kept, Name, ObjId, OutOfMemory};
 use sb_model::{Stage, is_port};
-use sb_rows::{NewRows, RowList};
+use sb_rows::NewRows;
 use std::alloc::Global;
-use std::marker::Model;
 
-/// Makes the rows of port security of a switch port (ovn-northd(8), 'Ingress Table 0: Admission Control and Ingress Port
-/// Security check' and 'Egress Table: Egress Port Security'). A clause sees how often it made those of one.
+/// The port security of a switch port (ovn-northd(8), 'Ingress Table 0: Admission Control and Ingress Port Security check' and 'Egress
+/// Table: Egress Port Security'). The key is the port.
 #[derive(Drop)]
-pub struct PortSec {
-    made: u64,
-}
+pub struct PortSec;
 
-impl Model for PortSec {
-    ghost use Rattle.std.specs.Prelude.{ℕ};
-
-    ghost Value = { ℕ };
-
-    ghost view = { λ m. m.made };
-}
-
-impl PortSec {
-    /// A maker that has made nothing.
-    pub fn new() -> Self
-        ensures { result ≡ 0 }
-    {
-        PortSec { made: 0 }
-    }
-}
-
-impl Maker for PortSec {
+impl UnitKind for PortSec {
     type Key = ObjId;
 
     type Input = PortSecInput;
 
-    type Out = RowList;
+    ghost unit_for = { λ port input. unit_of input.dp port };
 
-    ghost out_of = { λ port input. unit_rows (unit_of input.dp port) (port_sec_rules input) };
+    ghost rules_of = { port_sec_rules };
 
-    ghost made = { λ made. made };
-
-    fn make(
-        &mut self,
-        alloc: Global,
-        key: &ObjId,
-        input: &PortSecInput,
-    ) -> Result<RowList, OutOfMemory> {
-        let rows = rows_of_port(alloc, *key, input)?;
-        self.made = one_more(self.made);
-        Ok(rows)
+    fn unit(&self, key: &ObjId, input: &PortSecInput) -> Unit {
+        Unit::of(input.dp, *key)
     }
-}
 
-#[tactic(auto, unfolding(net_rows::specs::Unit::unit_rows))]
-fn rows_of_port(alloc: Global, port: ObjId, input: &PortSecInput) -> Result<RowList, OutOfMemory>
-    ensures { IfOk result (λ rows. rows ≡ unit_rows (unit_of input.now.dp port) (port_sec_rules input.now)) }
-{
-    let unit = Unit {
-        dp: input.dp,
-        hint: port,
-    };
-    let mut rows = NewRows::new(alloc);
-    put_port_rules(alloc, &mut rows, unit, input)?;
-    rows.into_list()
+    fn put(
+        &self,
+        alloc: Global,
+        rows: &mut NewRows,
+        unit: Unit,
+        input: &PortSecInput,
+    ) -> Result<(), OutOfMemory> {
+        put_port_rules(alloc, rows, unit, input)
+    }
 }
 
 fn put_port_rules(

@@ -19,7 +19,9 @@ use Rattle.nb_model.specs.Sound.{IsSound, switch_ids, port_ids}
 use Rattle.nb_model.proofs.Lists.{all_parts}
 use Rattle.nb_model.proofs.Alike.{same_names}
 use Rattle.nb_model.proofs.RecordLists.{found_holds}
-use Rattle.nv_table.specs.Table.{with_exchanged, NumbersRise}
+use Rattle.nv_table.specs.Table.{with_exchanged, NumbersRise, record_of}
+use Rattle.nv_table.proofs.Found.{found_there, own_record}
+use Rattle.nv_table.proofs.Undone.{taken_back}
 use Rattle.nb_store.proofs.PlacedRecords.{new_last, named_changed, none_changed, rises, apart_first}
 
 -- ports whose parts are the same
@@ -92,6 +94,13 @@ module _ (net : Network) (sound : IsSound net) where
       let is : name ≡ old.name = sym (same_names old.name name (found_holds (λ (x : Port). bytes_eq x.name name) net.ports old (sym found))) in
       ap (λ (p : Port). record net { ports = with_exchanged (λ x. x.id) p net.ports }) (fields is)
       ∙ ap (λ (all : List Port). record net { ports = all }) (sym (named_changed (λ (x : Port). x.id) (λ (x : Port). x.name) name change old net.ports (sym found) ports_rise ports_apart keeps))
+
+  -- what is set is as it was
+  pub unchanged_port : (name : List ℕ) (change : Port → Port) (old : Port) → Some old ≡ port_named net name → old ≡ change old → net ≡ set_port net name change
+  unchanged_port name change old found same =
+      let there : record_of (λ (x : Port). x.id) old.id net.ports ≡ Some old = own_record (λ (x : Port). x.id) old net.ports ports_rise (found_there (λ (x : Port). bytes_eq x.name name) old net.ports (sym found)).0 in
+      ap (λ (all : List Port). record net { ports = all }) (sym (taken_back (λ (x : Port). x.id) old.id old net.ports ports_rise there))
+      ∙ changed_port name change old old found (ap (λ (p : Port). p.id) (sym same)) (λ is. same)
 
   -- no port of the name
   pub no_port : (name : List ℕ) (change : Port → Port) → None ≡ port_named net name → net ≡ set_port net name change

@@ -9,10 +9,7 @@ use crate::acl_edits::acl_del;
 use crate::acls::acl_add;
 use crate::balancers::{lb_add, lb_del, lr_lb_add, lr_lb_del, ls_lb_add, ls_lb_del};
 use crate::groups::{pg_add, pg_del, pg_set_ports};
-use crate::ports::{
-    lsp_add, lsp_del, lsp_set_addresses, lsp_set_enabled, lsp_set_options, lsp_set_port_security,
-    lsp_set_type,
-};
+use crate::ports::{PortChange, lsp_add, lsp_del, lsp_set};
 use crate::routers::{lr_add, lr_del, lrp_add, lrp_del, lrp_set_enabled};
 use crate::routes::{lr_nat_add, lr_nat_del, lr_route_add, lr_route_del, smb_add, smb_del};
 use crate::sets::{as_add, as_del, as_set};
@@ -74,20 +71,31 @@ fn run(work: &mut Work, alloc: Global, edit: Edit) -> Result<(), OutOfMemory>
             may_exist,
         } => lsp_add(work, alloc, &switch, port, may_exist),
         Edit::LspDel { port, if_exists } => lsp_del(work, alloc, &port, if_exists),
-        Edit::LspSetAddresses { port, addresses } => lsp_set_addresses(
-            work, alloc, port, addresses,
-        ),
-        Edit::LspSetPortSecurity { port, guards } => lsp_set_port_security(
-            work, alloc, port, guards,
-        ),
-        Edit::LspSetType { port, kind } => lsp_set_type(work, alloc, port, kind),
-        Edit::LspSetOptions { port, router_port } => lsp_set_options(
+        Edit::LspSetAddresses { port, addresses } => lsp_set(
             work,
             alloc,
-            port,
-            router_port,
+            &port,
+            PortChange::Addresses(addresses),
         ),
-        Edit::LspSetEnabled { port, enabled } => lsp_set_enabled(work, alloc, port, enabled),
+        Edit::LspSetPortSecurity { port, guards } => lsp_set(
+            work,
+            alloc,
+            &port,
+            PortChange::Security(guards),
+        ),
+        Edit::LspSetType { port, kind } => lsp_set(work, alloc, &port, PortChange::Kind(kind)),
+        Edit::LspSetOptions { port, router_port } => lsp_set(
+            work,
+            alloc,
+            &port,
+            PortChange::RouterPort(router_port),
+        ),
+        Edit::LspSetEnabled { port, enabled } => lsp_set(
+            work,
+            alloc,
+            &port,
+            PortChange::Enabled(enabled),
+        ),
         Edit::LrpSetEnabled { port, enabled } => lrp_set_enabled(work, alloc, port, enabled),
         Edit::LrpAdd {
             router,

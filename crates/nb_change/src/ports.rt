@@ -1,7 +1,8 @@
 //! Edits of the ports of switches.
 ghost use Rattle.std.specs.Prelude.{◌≡◌, OnOk};
 ghost use Rattle.nb_records.specs.declared.edit.Edit.TheVariants as edit;
-ghost use Rattle.nb_model.specs.Effect.{effect};
+ghost use Rattle.nb_change.specs.inner.Ports.{changed_by};
+ghost use Rattle.nb_model.specs.Effect.{effect, set_port};
 ghost use Rattle.nb_model.specs.Sound.{IsSound};
 ghost use Rattle.nb_store.specs.Undo.{back_steps};
 
@@ -45,138 +46,56 @@ pub(crate) fn lsp_add(
     )
 }
 
-/// `lsp-set-addresses`
-pub(crate) fn lsp_set_addresses(
-    work: &mut Work,
-    alloc: Global,
-    port: Name,
-    addresses: Items<Addr>,
-) -> Result<(), OutOfMemory>
-    requires sound { IsSound work.old.records }
-    ensures ok { OnOk result (work.new.records ≡ effect work.old.records (edit.LspSetAddresses port addresses)) }
-    ensures back { back_steps work.new.steps.items work.new.records ≡ back_steps work.old.steps.items work.old.records }
-{
-    let Some(old) = work.records.port_named(&port) else {
-        return Ok(());
-    };
-    let changed = Port {
-        id: old.id,
-        switch: old.switch,
-        name: port,
-        kind: old.kind,
-        router_port: old.router_port.copy(alloc)?,
-        addresses,
-        security: old.security.copy(alloc)?,
-        enabled: old.enabled,
-    };
-    work.store_port(alloc, changed)
+/// What a command sets of a port.
+#[derive(Drop)]
+pub(crate) enum PortChange {
+    /// `lsp-set-addresses`
+    Addresses(Items<Addr>),
+    /// `lsp-set-port-security`
+    Security(Items<Guard>),
+    /// `lsp-set-type`
+    Kind(PortKind),
+    /// `lsp-set-options`: the router port that it has for its peer.
+    RouterPort(Option<Name>),
+    /// `lsp-set-enabled`
+    Enabled(bool),
 }
 
-/// `lsp-set-port-security`
-pub(crate) fn lsp_set_port_security(
-    work: &mut Work,
-    alloc: Global,
-    port: Name,
-    guards: Items<Guard>,
-) -> Result<(), OutOfMemory>
-    requires sound { IsSound work.old.records }
-    ensures ok { OnOk result (work.new.records ≡ effect work.old.records (edit.LspSetPortSecurity port guards)) }
-    ensures back { back_steps work.new.steps.items work.new.records ≡ back_steps work.old.steps.items work.old.records }
+// The port with what is set.
+fn changed(port: Port, change: PortChange) -> Port
+    ensures { result ≡ changed_by change port }
 {
-    let Some(old) = work.records.port_named(&port) else {
-        return Ok(());
-    };
-    let changed = Port {
-        id: old.id,
-        switch: old.switch,
-        name: port,
-        kind: old.kind,
-        router_port: old.router_port.copy(alloc)?,
-        addresses: old.addresses.copy(alloc)?,
-        security: guards,
-        enabled: old.enabled,
-    };
-    work.store_port(alloc, changed)
+    match change {
+        PortChange::Addresses(addresses) => Port { addresses, ..port },
+        PortChange::Security(security) => Port { security, ..port },
+        PortChange::Kind(kind) => Port { kind, ..port },
+        PortChange::RouterPort(router_port) => Port {
+            router_port,
+            ..port
+        },
+        PortChange::Enabled(enabled) => Port { enabled, ..port },
+    }
 }
 
-/// `lsp-set-type`
-pub(crate) fn lsp_set_type(
+/// Sets something of a port. Where it is so already, nothing changes.
+pub(crate) fn lsp_set(
     work: &mut Work,
     alloc: Global,
-    port: Name,
-    kind: PortKind,
+    port: &Name,
+    change: PortChange,
 ) -> Result<(), OutOfMemory>
     requires sound { IsSound work.old.records }
-    ensures ok { OnOk result (work.new.records ≡ effect work.old.records (edit.LspSetType port kind)) }
+    ensures ok { OnOk result (work.new.records ≡ set_port work.old.records port.now (changed_by change)) }
     ensures back { back_steps work.new.steps.items work.new.records ≡ back_steps work.old.steps.items work.old.records }
 {
-    let Some(old) = work.records.port_named(&port) else {
+    let Some(old) = work.records.port_named(port) else {
         return Ok(());
     };
-    let changed = Port {
-        id: old.id,
-        switch: old.switch,
-        name: port,
-        kind,
-        router_port: old.router_port.copy(alloc)?,
-        addresses: old.addresses.copy(alloc)?,
-        security: old.security.copy(alloc)?,
-        enabled: old.enabled,
-    };
-    work.store_port(alloc, changed)
-}
-
-/// `lsp-set-options`
-pub(crate) fn lsp_set_options(
-    work: &mut Work,
-    alloc: Global,
-    port: Name,
-    router_port: Option<Name>,
-) -> Result<(), OutOfMemory>
-    requires sound { IsSound work.old.records }
-    ensures ok { OnOk result (work.new.records ≡ effect work.old.records (edit.LspSetOptions port router_port)) }
-    ensures back { back_steps work.new.steps.items work.new.records ≡ back_steps work.old.steps.items work.old.records }
-{
-    let Some(old) = work.records.port_named(&port) else {
+    let changed = changed(old.copy(alloc)?, change);
+    if changed == *old {
+        drop(changed);
         return Ok(());
-    };
-    let changed = Port {
-        id: old.id,
-        switch: old.switch,
-        name: port,
-        kind: old.kind,
-        router_port,
-        addresses: old.addresses.copy(alloc)?,
-        security: old.security.copy(alloc)?,
-        enabled: old.enabled,
-    };
-    work.store_port(alloc, changed)
-}
-
-/// `lsp-set-enabled`
-pub(crate) fn lsp_set_enabled(
-    work: &mut Work,
-    alloc: Global,
-    port: Name,
-    enabled: bool,
-) -> Result<(), OutOfMemory>
-    requires sound { IsSound work.old.records }
-    ensures ok { OnOk result (work.new.records ≡ effect work.old.records (edit.LspSetEnabled port enabled)) }
-    ensures back { back_steps work.new.steps.items work.new.records ≡ back_steps work.old.steps.items work.old.records }
-{
-    let Some(old) = work.records.port_named(&port) else {
-        return Ok(());
-    };
-    let changed = Port {
-        id: old.id,
-        switch: old.switch,
-        name: port,
-        kind: old.kind,
-        router_port: old.router_port.copy(alloc)?,
-        addresses: old.addresses.copy(alloc)?,
-        security: old.security.copy(alloc)?,
-        enabled,
-    };
+    }
     work.store_port(alloc, changed)
 }
 

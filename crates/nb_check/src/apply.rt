@@ -1,13 +1,13 @@
 //! Edits of the records of a sound network, one by one: each is done, or changes nothing.
 ghost use Rattle.std.specs.Prelude.{◌≡◌, ◌+◌, ◌<◌, ◌≤◌, Ok, None, OnOk, OnErr, IfOk, IfErr, length};
-ghost use Rattle.std.specs.List.{AllByRecursion};
+ghost use Rattle.std.specs.List.{AllByRecursion, list_all};
 ghost use Rattle.nb_model.specs.Amounts.{first_over};
 ghost use Rattle.nb_model.specs.Effect.{effect};
 ghost use Rattle.nb_model.specs.Readable.{IsReadable};
 ghost use Rattle.nb_model.specs.Sound.{IsSound};
 ghost use Rattle.nb_model.specs.Tests.{refusal};
 ghost use Rattle.nb_model.specs.Transactions.{unless, applied, edited};
-ghost use Rattle.nb_store.specs.Undo.{back};
+ghost use Rattle.nb_store.specs.Undo.{back, changes_nothing};
 ghost use Rattle.nb_words.specs.Fault.{IsFaultOf};
 ghost use Rattle.nb_limits.specs.Ceilings.{AreCeilings};
 ghost use Rattle.nb_check.specs.inner.Undone.{back_all};
@@ -135,6 +135,13 @@ fn apply_next(
             Err(LineFault::Memory)
         }
     }
+}
+
+/// Whether none of these edits changed anything.
+pub(crate) fn change_nothing(undos: &[Undo]) -> bool
+    ensures { result ≡ list_all changes_nothing undos.now }
+{
+    undos.iter().all(|undo| undo.changes_nothing())
 }
 
 /// Undoes edits, the last one first (not from OVN). It takes no memory.

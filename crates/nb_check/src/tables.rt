@@ -1,4 +1,4 @@
-ghost use Rattle.std.specs.Prelude.{◌≡◌, ◌+◌, ◌<◌, ◌⊎◌, None, Ok, OnOk, OnErr, IfOk, IfErr, length};
+ghost use Rattle.std.specs.Prelude.{◌≡◌, ◌+◌, ◌<◌, ◌⊎◌, false, None, Ok, OnOk, OnErr, IfOk, IfErr, length};
 ghost use Rattle.std.specs.List.{AllByRecursion};
 ghost use Rattle.nb_records.specs.declared.refusal.Kind.TheVariants as kinds;
 ghost use Rattle.nb_model.specs.Amounts.{amount};
@@ -12,7 +12,7 @@ ghost use Rattle.nb_store.specs.Undo.{back};
 ghost use Rattle.nb_words.specs.Fault.{IsFaultOf};
 ghost use Rattle.nv_base.specs.Object.{number_limit};
 
-use crate::apply::{apply, apply_each, undo_all};
+use crate::apply::{apply, apply_each, change_nothing, undo_all};
 use nb_limits::{Ceilings, amount};
 use nb_records::{Edit, Kind};
 use nb_store::{Records, Undo};
@@ -97,22 +97,27 @@ impl Tables {
 
     /// Does what all edits of a line ask for, each of the network that those before it leave; at the first that is
     /// refused the line is refused as that one (not from OVN: ovn-nbctl(8) runs the commands of one call as one
-    /// transaction). Then, or where memory runs out, none is done.
-    pub fn apply_all(&mut self, alloc: Global, edits: Items<Edit>) -> Result<(), LineFault>
+    /// transaction). Then, or where memory runs out, none is done. The answer is whether there may be a change: `false` where the
+    /// network is as before.
+    #[tactic(auto, using(crate::proofs::Undone::nothing_undone))]
+    pub fn apply_all(&mut self, alloc: Global, edits: Items<Edit>) -> Result<bool, LineFault>
         requires readable { AllByRecursion IsReadable edits }
         requires room { self.old.next + length edits < number_limit }
         ensures done { OnOk result (edited self.old edits ≡ Ok self.new) }
+        ensures unchanged { IfOk result (λ changed. changed ≡ false → self.new ≡ self.old) }
         ensures refused { IfErr result (λ fault. IsFaultOf (edited self.old edits) fault) }
         ensures same { OnErr result (self.new ≡ self.old) }
     {
         let mut undos = Vec::new(alloc);
         let before = self.known;
         let edits = edits.into_items();
-        let result = apply_each(alloc, &mut self.records, &mut self.known, edits, &mut undos);
-        if result.is_err() {
-            undo_all(&mut self.records, undos);
-            self.known = before;
+        match apply_each(alloc, &mut self.records, &mut self.known, edits, &mut undos) {
+            Ok(()) => Ok(!change_nothing(&undos)),
+            Err(fault) => {
+                undo_all(&mut self.records, undos);
+                self.known = before;
+                Err(fault)
+            }
         }
-        result
     }
 }

@@ -6,19 +6,19 @@ ghost use Rattle.nb_text.specs.Words.{each_spaced};
 ghost use Rattle.nb_text.specs.Commands.{command_line, script};
 ghost use Rattle.nb_dump.specs.Edits.{port_name, members_edits, switch_lb_edits, router_lb_edits};
 
-use crate::Objects;
 use crate::names::{lb_name, port_name};
 use nb_records::{Group, Router, Switch};
+use nb_store::Records;
 use nb_text::{put_lr_lb_add, put_ls_lb_add, put_word};
 use nv_base::{ObjId, OutOfMemory};
 
 // The names of ports, each after a space.
-fn put_port_names(out: &mut Vec<u8>, objects: &Objects, ports: &[ObjId]) -> Result<(), OutOfMemory>
-    ensures ok { OnOk result (out.new.items ≡ out.old.items ++ each_spaced (port_name objects.now) ports.now) }
+fn put_port_names(out: &mut Vec<u8>, records: &Records, ports: &[ObjId]) -> Result<(), OutOfMemory>
+    ensures ok { OnOk result (out.new.items ≡ out.old.items ++ each_spaced (port_name records.now) ports.now) }
     ensures err { OnErr result (GrowsAtEnd out.old.items out.new.items) }
 {
     for port in ports {
-        put_word(out, port_name(objects, *port))?;
+        put_word(out, port_name(records, *port))?;
     }
     Ok(())
 }
@@ -26,16 +26,16 @@ fn put_port_names(out: &mut Vec<u8>, objects: &Objects, ports: &[ObjId]) -> Resu
 // `pg-set-ports`
 fn put_pg_set_ports(
     out: &mut Vec<u8>,
-    objects: &Objects,
+    records: &Records,
     name: &[u8],
     ports: &[ObjId],
 ) -> Result<(), OutOfMemory>
-    ensures ok { OnOk result (out.new.items ≡ out.old.items ++ command_line (edit.PgSetPorts name.now (map (port_name objects.now) ports.now))) }
+    ensures ok { OnOk result (out.new.items ≡ out.old.items ++ command_line (edit.PgSetPorts name.now (map (port_name records.now) ports.now))) }
     ensures err { OnErr result (GrowsAtEnd out.old.items out.new.items) }
 {
     out.extend_from_slice(b"pg-set-ports")?;
     put_word(out, name)?;
-    put_port_names(out, objects, ports)?;
+    put_port_names(out, records, ports)?;
     out.push(b'\n')?;
     Ok(())
 }
@@ -44,31 +44,31 @@ fn put_pg_set_ports(
 #[tactic(auto, using(crate::proofs::Scripts::no_members, crate::proofs::Scripts::some_members))]
 pub(crate) fn put_members(
     out: &mut Vec<u8>,
-    objects: &Objects,
+    records: &Records,
     group: &Group,
 ) -> Result<(), OutOfMemory>
-    ensures ok { OnOk result (out.new.items ≡ out.old.items ++ script (members_edits objects.now group.now)) }
+    ensures ok { OnOk result (out.new.items ≡ out.old.items ++ script (members_edits records.now group.now)) }
     ensures err { OnErr result (GrowsAtEnd out.old.items out.new.items) }
 {
     let ports = group.ports.as_slice();
     if ports.is_empty() {
         Ok(())
     } else {
-        put_pg_set_ports(out, objects, group.name.as_slice(), ports)
+        put_pg_set_ports(out, records, group.name.as_slice(), ports)
     }
 }
 
 /// The load balancers of a switch.
 pub(crate) fn put_switch_lbs(
     out: &mut Vec<u8>,
-    objects: &Objects,
+    records: &Records,
     switch: &Switch,
 ) -> Result<(), OutOfMemory>
-    ensures ok { OnOk result (out.new.items ≡ out.old.items ++ script (switch_lb_edits objects.now switch.now)) }
+    ensures ok { OnOk result (out.new.items ≡ out.old.items ++ script (switch_lb_edits records.now switch.now)) }
     ensures err { OnErr result (GrowsAtEnd out.old.items out.new.items) }
 {
     for lb in switch.lbs.as_slice() {
-        put_ls_lb_add(out, switch.name.as_slice(), lb_name(objects, *lb))?;
+        put_ls_lb_add(out, switch.name.as_slice(), lb_name(records, *lb))?;
     }
     Ok(())
 }
@@ -76,14 +76,14 @@ pub(crate) fn put_switch_lbs(
 /// The load balancers of a router.
 pub(crate) fn put_router_lbs(
     out: &mut Vec<u8>,
-    objects: &Objects,
+    records: &Records,
     router: &Router,
 ) -> Result<(), OutOfMemory>
-    ensures ok { OnOk result (out.new.items ≡ out.old.items ++ script (router_lb_edits objects.now router.now)) }
+    ensures ok { OnOk result (out.new.items ≡ out.old.items ++ script (router_lb_edits records.now router.now)) }
     ensures err { OnErr result (GrowsAtEnd out.old.items out.new.items) }
 {
     for lb in router.lbs.as_slice() {
-        put_lr_lb_add(out, router.name.as_slice(), lb_name(objects, *lb))?;
+        put_lr_lb_add(out, router.name.as_slice(), lb_name(records, *lb))?;
     }
     Ok(())
 }

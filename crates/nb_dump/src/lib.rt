@@ -5,9 +5,7 @@ mod dump;
 mod ends;
 mod names;
 mod next;
-mod objects;
 mod parts;
 mod records;
 
 pub use dump::put_dump;
-pub use objects::Objects;

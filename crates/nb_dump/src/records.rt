@@ -4,12 +4,12 @@ ghost use Rattle.nv_base.specs.Growth.{GrowsAtEnd};
 ghost use Rattle.nb_text.specs.Commands.{script};
 ghost use Rattle.nb_dump.specs.Edits.{kind_edits, option_edits, address_edits, guard_edits, port_state_edits, router_port_state_edits};
 
-use crate::Objects;
 use crate::names::{group_name, router_name, router_port_name, switch_name};
 use nb_records::{
     Acl, Addr, AddrSet, Binding, Group, Guard, Lb, Nat, Port, PortKind, Route, Router, RouterPort,
     Switch,
 };
+use nb_store::Records;
 use nb_text::{
     put_as_add, put_group_acl, put_lb_add, put_lr_add, put_lr_nat_add, put_lr_route_add,
     put_lrp_add, put_ls_add, put_lsp_add, put_lsp_set_addresses, put_lsp_set_options,
@@ -30,8 +30,8 @@ pub(crate) trait Scripted: Record {
     ghost edits: { Network → Self → List Edit };
 
     /// Appends the commands that make it again.
-    fn put(&self, out: &mut Vec<u8>, objects: &Objects) -> Result<(), OutOfMemory>
-        ensures ok { OnOk result (out.new.items ≡ out.old.items ++ script (edits objects.now self.now)) }
+    fn put(&self, out: &mut Vec<u8>, records: &Records) -> Result<(), OutOfMemory>
+        ensures ok { OnOk result (out.new.items ≡ out.old.items ++ script (edits records.now self.now)) }
         ensures err { OnErr result (GrowsAtEnd out.old.items out.new.items) };
 }
 
@@ -40,7 +40,7 @@ impl Scripted for Switch {
 
     ghost edits = { switch_edits };
 
-    fn put(&self, out: &mut Vec<u8>, _objects: &Objects) -> Result<(), OutOfMemory> {
+    fn put(&self, out: &mut Vec<u8>, _records: &Records) -> Result<(), OutOfMemory> {
         put_ls_add(out, self.name.as_slice())
     }
 }
@@ -50,7 +50,7 @@ impl Scripted for Router {
 
     ghost edits = { router_edits };
 
-    fn put(&self, out: &mut Vec<u8>, _objects: &Objects) -> Result<(), OutOfMemory> {
+    fn put(&self, out: &mut Vec<u8>, _records: &Records) -> Result<(), OutOfMemory> {
         put_lr_add(out, self.name.as_slice())
     }
 }
@@ -120,9 +120,9 @@ impl Scripted for Port {
 
     ghost edits = { port_edits };
 
-    fn put(&self, out: &mut Vec<u8>, objects: &Objects) -> Result<(), OutOfMemory> {
+    fn put(&self, out: &mut Vec<u8>, records: &Records) -> Result<(), OutOfMemory> {
         let name = self.name.as_slice();
-        put_lsp_add(out, switch_name(objects, self.switch), name)?;
+        put_lsp_add(out, switch_name(records, self.switch), name)?;
         put_kind(out, name, self.kind)?;
         put_option(out, name, &self.router_port)?;
         put_addresses(out, name, self.addresses.as_slice())?;
@@ -149,8 +149,8 @@ impl Scripted for RouterPort {
 
     ghost edits = { router_port_edits };
 
-    fn put(&self, out: &mut Vec<u8>, objects: &Objects) -> Result<(), OutOfMemory> {
-        put_lrp_add(out, router_name(objects, self.router), self)?;
+    fn put(&self, out: &mut Vec<u8>, records: &Records) -> Result<(), OutOfMemory> {
+        put_lrp_add(out, router_name(records, self.router), self)?;
         put_router_port_state(out, self.name.as_slice(), self.enabled)?;
         Ok(())
     }
@@ -161,8 +161,8 @@ impl Scripted for Route {
 
     ghost edits = { route_edits };
 
-    fn put(&self, out: &mut Vec<u8>, objects: &Objects) -> Result<(), OutOfMemory> {
-        put_lr_route_add(out, router_name(objects, self.router), self)
+    fn put(&self, out: &mut Vec<u8>, records: &Records) -> Result<(), OutOfMemory> {
+        put_lr_route_add(out, router_name(records, self.router), self)
     }
 }
 
@@ -171,8 +171,8 @@ impl Scripted for Nat {
 
     ghost edits = { nat_edits };
 
-    fn put(&self, out: &mut Vec<u8>, objects: &Objects) -> Result<(), OutOfMemory> {
-        put_lr_nat_add(out, router_name(objects, self.router), self)
+    fn put(&self, out: &mut Vec<u8>, records: &Records) -> Result<(), OutOfMemory> {
+        put_lr_nat_add(out, router_name(records, self.router), self)
     }
 }
 
@@ -181,7 +181,7 @@ impl Scripted for Lb {
 
     ghost edits = { lb_edits };
 
-    fn put(&self, out: &mut Vec<u8>, _objects: &Objects) -> Result<(), OutOfMemory> {
+    fn put(&self, out: &mut Vec<u8>, _records: &Records) -> Result<(), OutOfMemory> {
         for vip in self.vips.as_slice() {
             put_lb_add(out, self.name.as_slice(), vip, self.proto)?;
         }
@@ -194,10 +194,10 @@ impl Scripted for Acl {
 
     ghost edits = { acl_edits };
 
-    fn put(&self, out: &mut Vec<u8>, objects: &Objects) -> Result<(), OutOfMemory> {
-        match objects.switches.get(self.owner) {
+    fn put(&self, out: &mut Vec<u8>, records: &Records) -> Result<(), OutOfMemory> {
+        match records.switches().get(self.owner) {
             Some(switch) => put_switch_acl(out, switch.name.as_slice(), self),
-            None => put_group_acl(out, group_name(objects, self.owner), self),
+            None => put_group_acl(out, group_name(records, self.owner), self),
         }
     }
 }
@@ -207,7 +207,7 @@ impl Scripted for AddrSet {
 
     ghost edits = { set_edits };
 
-    fn put(&self, out: &mut Vec<u8>, _objects: &Objects) -> Result<(), OutOfMemory> {
+    fn put(&self, out: &mut Vec<u8>, _records: &Records) -> Result<(), OutOfMemory> {
         put_as_add(out, self)
     }
 }
@@ -217,7 +217,7 @@ impl Scripted for Group {
 
     ghost edits = { group_edits };
 
-    fn put(&self, out: &mut Vec<u8>, _objects: &Objects) -> Result<(), OutOfMemory> {
+    fn put(&self, out: &mut Vec<u8>, _records: &Records) -> Result<(), OutOfMemory> {
         put_pg_add(out, self.name.as_slice())
     }
 }
@@ -227,7 +227,7 @@ impl Scripted for Binding {
 
     ghost edits = { binding_edits };
 
-    fn put(&self, out: &mut Vec<u8>, objects: &Objects) -> Result<(), OutOfMemory> {
-        put_smb_add(out, router_port_name(objects, self.port), self)
+    fn put(&self, out: &mut Vec<u8>, records: &Records) -> Result<(), OutOfMemory> {
+        put_smb_add(out, router_port_name(records, self.port), self)
     }
 }

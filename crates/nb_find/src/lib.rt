@@ -13,10 +13,8 @@ pub use balancers::{
     has_vip, is_on_router, is_on_switch, wants_on_router, wants_on_switch, wants_protocol,
 };
 pub use names::{
-    duplicate_if, free, is_any_port, is_datapath, is_group, is_port, is_router, is_set, is_switch,
-    may_want_group, may_want_lb, may_want_port, may_want_router, may_want_router_port,
-    may_want_set, may_want_switch, no_duplicate, wants_group, wants_lb, wants_owner, wants_port,
-    wants_router, wants_router_port, wants_set, wants_switch, with_some,
+    Wanted, duplicate_if, free, is_any_port, is_datapath, is_group, is_port, is_router, is_set,
+    is_switch, may_want, no_duplicate, wants, wants_owner, with_some,
 };
 pub use ports::{is_port_in_place, is_router_port_in_place};
 pub use routes::{

@@ -1,14 +1,31 @@
 //! The names that an edit wants: of an object that is there, or of none.
 ghost use Rattle.std.specs.Prelude.{◌≡◌, IfOk, IfErr, OnOk, None, Some, is_some};
 ghost use Rattle.nb_model.specs.Network.{switch_named, router_named, port_named, router_port_named, lb_named, set_named, group_named};
-ghost use Rattle.nb_model.specs.Tests.{wants, if_exists, wants_free, wants_some, duplicate, duplicate_if, wants_switch, wants_router, wants_port, wants_router_port, wants_lb, wants_set, wants_group, wants_owner, is_datapath, is_any_port};
+ghost use Rattle.nb_model.specs.Tests.{wants, if_exists, wants_free, wants_some, duplicate, duplicate_if, wants_owner, is_datapath, is_any_port};
+ghost use Rattle.nb_find.specs.Wanted.{is_there, is_other, wants_of};
 
 use nb_records::{OwnerKind, Refusal};
 use nb_store::Records;
 use nv_base::{Name, ObjId};
 
+/// A kind of objects that commands name. Switches and routers share their names, and so do the ports of both.
+#[derive(Clone, Copy)]
+pub enum Wanted {
+    Switch,
+    Router,
+    /// A port of a switch.
+    Port,
+    RouterPort,
+    /// A load balancer.
+    Lb,
+    /// An address set.
+    Set,
+    /// A port group.
+    Group,
+}
+
 // The name of an object that is there, else the refusal: another kind has the name, or none has.
-fn wanted(name: Name, there: bool, other: bool) -> Result<Name, Refusal>
+fn named(name: Name, there: bool, other: bool) -> Result<Name, Refusal>
     ensures ok { IfOk result (λ passed. (passed ≡ name) × (wants name there other ≡ None)) }
     ensures refused { IfErr result (λ refusal. wants name there other ≡ Some refusal) }
 {
@@ -29,7 +46,7 @@ fn wanted_if(given: bool, name: Name, there: bool, other: bool) -> Result<Name, 
     if given && !there && !other {
         Ok(name)
     } else {
-        wanted(name, there, other)
+        named(name, there, other)
     }
 }
 
@@ -139,71 +156,42 @@ pub fn is_any_port(records: &Records, name: &Name) -> bool
     is_port(records, name) || is_router_port(records, name)
 }
 
-/// The name, which a switch has, else the refusal.
-pub fn wants_switch(records: &Records, name: Name) -> Result<Name, Refusal>
-    ensures ok { IfOk result (λ passed. (passed ≡ name) × (wants_switch records.now name ≡ None)) }
-    ensures refused { IfErr result (λ refusal. wants_switch records.now name ≡ Some refusal) }
+// Whether an object of the kind has the name.
+fn is_there(records: &Records, kind: Wanted, name: &Name) -> bool
+    ensures { result ≡ is_there kind records.now name.now }
 {
-    let there = is_switch(records, &name);
-    let other = is_router(records, &name);
-    wanted(name, there, other)
+    match kind {
+        Wanted::Switch => is_switch(records, name),
+        Wanted::Router => is_router(records, name),
+        Wanted::Port => is_port(records, name),
+        Wanted::RouterPort => is_router_port(records, name),
+        Wanted::Lb => is_lb(records, name),
+        Wanted::Set => is_set(records, name),
+        Wanted::Group => is_group(records, name),
+    }
 }
 
-/// The name, which a router has, else the refusal.
-pub fn wants_router(records: &Records, name: Name) -> Result<Name, Refusal>
-    ensures ok { IfOk result (λ passed. (passed ≡ name) × (wants_router records.now name ≡ None)) }
-    ensures refused { IfErr result (λ refusal. wants_router records.now name ≡ Some refusal) }
+// Whether an object of the other kind that shares the names of this one has the name.
+fn is_other(records: &Records, kind: Wanted, name: &Name) -> bool
+    ensures { result ≡ is_other kind records.now name.now }
 {
-    let there = is_router(records, &name);
-    let other = is_switch(records, &name);
-    wanted(name, there, other)
+    match kind {
+        Wanted::Switch => is_router(records, name),
+        Wanted::Router => is_switch(records, name),
+        Wanted::Port => is_router_port(records, name),
+        Wanted::RouterPort => is_port(records, name),
+        Wanted::Lb | Wanted::Set | Wanted::Group => false,
+    }
 }
 
-/// The name, which a port of a switch has, else the refusal.
-pub fn wants_port(records: &Records, name: Name) -> Result<Name, Refusal>
-    ensures ok { IfOk result (λ passed. (passed ≡ name) × (wants_port records.now name ≡ None)) }
-    ensures refused { IfErr result (λ refusal. wants_port records.now name ≡ Some refusal) }
+/// The name, which an object of the kind has, else the refusal.
+pub fn wants(records: &Records, kind: Wanted, name: Name) -> Result<Name, Refusal>
+    ensures ok { IfOk result (λ passed. (passed ≡ name) × (wants_of kind records.now name ≡ None)) }
+    ensures refused { IfErr result (λ refusal. wants_of kind records.now name ≡ Some refusal) }
 {
-    let there = is_port(records, &name);
-    let other = is_router_port(records, &name);
-    wanted(name, there, other)
-}
-
-/// The name, which a port of a router has, else the refusal.
-pub fn wants_router_port(records: &Records, name: Name) -> Result<Name, Refusal>
-    ensures ok { IfOk result (λ passed. (passed ≡ name) × (wants_router_port records.now name ≡ None)) }
-    ensures refused { IfErr result (λ refusal. wants_router_port records.now name ≡ Some refusal) }
-{
-    let there = is_router_port(records, &name);
-    let other = is_port(records, &name);
-    wanted(name, there, other)
-}
-
-/// The name, which a load balancer has, else the refusal.
-pub fn wants_lb(records: &Records, name: Name) -> Result<Name, Refusal>
-    ensures ok { IfOk result (λ passed. (passed ≡ name) × (wants_lb records.now name ≡ None)) }
-    ensures refused { IfErr result (λ refusal. wants_lb records.now name ≡ Some refusal) }
-{
-    let there = is_lb(records, &name);
-    wanted(name, there, false)
-}
-
-/// The name, which an address set has, else the refusal.
-pub fn wants_set(records: &Records, name: Name) -> Result<Name, Refusal>
-    ensures ok { IfOk result (λ passed. (passed ≡ name) × (wants_set records.now name ≡ None)) }
-    ensures refused { IfErr result (λ refusal. wants_set records.now name ≡ Some refusal) }
-{
-    let there = is_set(records, &name);
-    wanted(name, there, false)
-}
-
-/// The name, which a port group has, else the refusal.
-pub fn wants_group(records: &Records, name: Name) -> Result<Name, Refusal>
-    ensures ok { IfOk result (λ passed. (passed ≡ name) × (wants_group records.now name ≡ None)) }
-    ensures refused { IfErr result (λ refusal. wants_group records.now name ≡ Some refusal) }
-{
-    let there = is_group(records, &name);
-    wanted(name, there, false)
+    let there = is_there(records, kind, &name);
+    let other = is_other(records, kind, &name);
+    named(name, there, other)
 }
 
 /// The name, which an owner of ACLs has, else the refusal.
@@ -212,79 +200,22 @@ pub fn wants_owner(records: &Records, of: Option<OwnerKind>, name: Name) -> Resu
     ensures refused { IfErr result (λ refusal. wants_owner records.now of name ≡ Some refusal) }
 {
     match of {
-        Some(OwnerKind::Switch) => wants_switch(records, name),
-        Some(OwnerKind::Group) => wants_group(records, name),
+        Some(OwnerKind::Switch) => wants(records, Wanted::Switch, name),
+        Some(OwnerKind::Group) => wants(records, Wanted::Group, name),
         None => {
             let there = records.owner_id(None, &name).is_some();
             let other = is_router(records, &name);
-            wanted(name, there, other)
+            named(name, there, other)
         }
     }
 }
 
-/// The name, which a switch has or need not have, else the refusal.
-pub fn may_want_switch(records: &Records, name: Name, given: bool) -> Result<Name, Refusal>
-    ensures ok { IfOk result (λ passed. (passed ≡ name) × (if_exists given (wants_switch records.now name) ≡ None)) }
-    ensures refused { IfErr result (λ refusal. if_exists given (wants_switch records.now name) ≡ Some refusal) }
+/// The name, which an object of the kind has or need not have, else the refusal.
+pub fn may_want(records: &Records, kind: Wanted, name: Name, given: bool) -> Result<Name, Refusal>
+    ensures ok { IfOk result (λ passed. (passed ≡ name) × (if_exists given (wants_of kind records.now name) ≡ None)) }
+    ensures refused { IfErr result (λ refusal. if_exists given (wants_of kind records.now name) ≡ Some refusal) }
 {
-    let there = is_switch(records, &name);
-    let other = is_router(records, &name);
+    let there = is_there(records, kind, &name);
+    let other = is_other(records, kind, &name);
     wanted_if(given, name, there, other)
-}
-
-/// The name, which a router has or need not have, else the refusal.
-pub fn may_want_router(records: &Records, name: Name, given: bool) -> Result<Name, Refusal>
-    ensures ok { IfOk result (λ passed. (passed ≡ name) × (if_exists given (wants_router records.now name) ≡ None)) }
-    ensures refused { IfErr result (λ refusal. if_exists given (wants_router records.now name) ≡ Some refusal) }
-{
-    let there = is_router(records, &name);
-    let other = is_switch(records, &name);
-    wanted_if(given, name, there, other)
-}
-
-/// The name, which a port of a switch has or need not have, else the refusal.
-pub fn may_want_port(records: &Records, name: Name, given: bool) -> Result<Name, Refusal>
-    ensures ok { IfOk result (λ passed. (passed ≡ name) × (if_exists given (wants_port records.now name) ≡ None)) }
-    ensures refused { IfErr result (λ refusal. if_exists given (wants_port records.now name) ≡ Some refusal) }
-{
-    let there = is_port(records, &name);
-    let other = is_router_port(records, &name);
-    wanted_if(given, name, there, other)
-}
-
-/// The name, which a port of a router has or need not have, else the refusal.
-pub fn may_want_router_port(records: &Records, name: Name, given: bool) -> Result<Name, Refusal>
-    ensures ok { IfOk result (λ passed. (passed ≡ name) × (if_exists given (wants_router_port records.now name) ≡ None)) }
-    ensures refused { IfErr result (λ refusal. if_exists given (wants_router_port records.now name) ≡ Some refusal) }
-{
-    let there = is_router_port(records, &name);
-    let other = is_port(records, &name);
-    wanted_if(given, name, there, other)
-}
-
-/// The name, which a load balancer has or need not have, else the refusal.
-pub fn may_want_lb(records: &Records, name: Name, given: bool) -> Result<Name, Refusal>
-    ensures ok { IfOk result (λ passed. (passed ≡ name) × (if_exists given (wants_lb records.now name) ≡ None)) }
-    ensures refused { IfErr result (λ refusal. if_exists given (wants_lb records.now name) ≡ Some refusal) }
-{
-    let there = is_lb(records, &name);
-    wanted_if(given, name, there, false)
-}
-
-/// The name, which an address set has or need not have, else the refusal.
-pub fn may_want_set(records: &Records, name: Name, given: bool) -> Result<Name, Refusal>
-    ensures ok { IfOk result (λ passed. (passed ≡ name) × (if_exists given (wants_set records.now name) ≡ None)) }
-    ensures refused { IfErr result (λ refusal. if_exists given (wants_set records.now name) ≡ Some refusal) }
-{
-    let there = is_set(records, &name);
-    wanted_if(given, name, there, false)
-}
-
-/// The name, which a port group has or need not have, else the refusal.
-pub fn may_want_group(records: &Records, name: Name, given: bool) -> Result<Name, Refusal>
-    ensures ok { IfOk result (λ passed. (passed ≡ name) × (if_exists given (wants_group records.now name) ≡ None)) }
-    ensures refused { IfErr result (λ refusal. if_exists given (wants_group records.now name) ≡ Some refusal) }
-{
-    let there = is_group(records, &name);
-    wanted_if(given, name, there, false)
 }

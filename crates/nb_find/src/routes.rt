@@ -8,7 +8,7 @@ ghost use Rattle.nb_model.specs.Network.{same};
 ghost use Rattle.nb_model.specs.Sound.{IsSound};
 ghost use Rattle.nb_model.specs.Tests.{may_name_router_port, route_like, nat_like, binding_like};
 
-use crate::names::wants_router_port;
+use crate::names::{Wanted, wants};
 use nb_records::{Nat, NatKind, Refusal, RouteBy};
 use nb_store::Records;
 use nv_base::{Ip4, Name, ObjId, Prefix};
@@ -30,7 +30,7 @@ pub fn may_name_router_port(records: &Records, name: Option<Name>) -> Result<Opt
 {
     match name {
         None => Ok(None),
-        Some(name) => Ok(Some(wants_router_port(records, name)?)),
+        Some(name) => Ok(Some(wants(records, Wanted::RouterPort, name)?)),
     }
 }
 

@@ -7,6 +7,7 @@ use Rattle.nv_base.specs.declared.ip4.Ip4.{Ip4}
 use Rattle.expr_check.specs.Printed.{IsPrintable}
 use Rattle.expr_core.specs.Formula.{Formula}
 use Rattle.expr_core.specs.declared.typed.TypedAtom.{TypedAtom}
+pub use Rattle.nb_records.specs.Tags.{ips_of}
 use Rattle.nb_records.specs.declared.acl.Way.{Way}
 use Rattle.nb_records.specs.declared.balancer.Backend.{Backend}
 use Rattle.nb_records.specs.declared.balancer.Frontend.{Frontend}
@@ -49,16 +50,11 @@ is_ip4 a = nat_lt a.0 (2 ^ 32)
 abbrev pub is_block : Block → Bool
 is_block p = is_ip4 p.base && nat_le p.len 32
 
--- the MACs and the IPv4 addresses of the addresses of a port
+-- the MAC of an address of a port
 abbrev pub macs_of : Addr → List ℕ
 macs_of addr.Unknown = []
 macs_of addr.Router = []
 macs_of (addr.Host mac ips) = mac ∷ []
-
-abbrev pub ips_of : Addr → List Ip4
-ips_of addr.Unknown = []
-ips_of addr.Router = []
-ips_of (addr.Host mac ips) = ips
 
 abbrev pub same_number : ℕ → ℕ → Bool
 same_number a b = a == b

@@ -1,5 +1,7 @@
 -- What records are found by, beside their numbers, and the amounts that are added up over them.
-use Rattle.std.specs.Prelude.{ℕ, ◌+◌, List, [], ◌∷◌, ◌-◌, ◌^◌, min, length, map, sum, Option, Some, None}
+use Rattle.std.specs.Prelude.{ℕ, ◌+◌, List, [], ◌∷◌, ◌++◌, ◌-◌, ◌^◌, min, length, map, sum, nat_le, if◌then◌else◌, Option, Some, None}
+use Rattle.std.specs.List.{flat_map}
+use Rattle.nv_base.specs.declared.ip4.Ip4.{Ip4}
 use Rattle.nv_base.specs.declared.object.ObjId.{ObjId}
 use Rattle.std.specs.declared.cmp.Ordering.{Ordering}
 use Rattle.nb_records.specs.contracts.tag.TagOrd.TheImpl as tag_ord
@@ -24,7 +26,7 @@ use Rattle.nb_records.specs.declared.switch.Switch.{Switch}
 use Rattle.nb_records.specs.declared.tag.Rule.{Rule}
 use Rattle.nb_records.specs.declared.tag.Rule.TheVariants as rule
 use Rattle.nb_records.specs.declared.tag.Tag.{Tag}
-use Rattle.nb_records.specs.declared.tag.Tag.TheVariants.{Named, Of, Names, Lists, Says}
+use Rattle.nb_records.specs.declared.tag.Tag.TheVariants.{Named, Of, Names, Lists, Says, Has, HasMany}
 
 -- how two tags compare
 abbrev pub tag_cmp : Tag → Tag → Ordering
@@ -52,9 +54,23 @@ peer_tags kind.Router (Some name) = Names name ∷ []
 peer_tags kind.Router None = []
 peer_tags kind.Host name = []
 
+-- the IPv4 addresses of an address of a port
+abbrev pub ips_of : Addr → List Ip4
+ips_of addr.Unknown = []
+ips_of addr.Router = []
+ips_of (addr.Host mac ips) = ips
+
+-- the most IPv4 addresses of a port that are told one by one
+abbrev pub most_told : ℕ
+most_told = 256
+
+-- the IPv4 addresses of a port, or that they are many
+abbrev pub ip_tags : List Ip4 → List Tag
+ip_tags ips = if nat_le (length ips) most_told then map Has ips else HasMany ∷ []
+
 -- the tags of a port of a switch
 abbrev pub port_tags : Port → List Tag
-port_tags p = Named p.name ∷ Of p.switch ∷ peer_tags p.kind p.router_port
+port_tags p = Named p.name ∷ Of p.switch ∷ (peer_tags p.kind p.router_port ++ ip_tags (flat_map ips_of p.addresses))
 
 -- the tags of a router port
 abbrev pub router_port_tags : RouterPort → List Tag

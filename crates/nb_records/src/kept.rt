@@ -285,6 +285,8 @@ impl Kept for Tag {
             Tag::Names(name) => Tag::Names(name.copy(alloc)?),
             Tag::Lists(object) => Tag::Lists(*object),
             Tag::Says(owner, rule) => Tag::Says(*owner, *rule),
+            Tag::Has(ip) => Tag::Has(*ip),
+            Tag::HasMany => Tag::HasMany,
         })
     }
 }

@@ -4,6 +4,7 @@
 mod acl;
 mod balancer;
 mod edit;
+mod ips;
 mod kept;
 mod named;
 mod owned;
@@ -19,7 +20,7 @@ mod weights;
 pub use acl::{Acl, Verdict, Way};
 pub use balancer::{Backend, Frontend, Lb, Proto, Vip};
 pub use edit::{Edit, OwnerKind};
-pub use probes::{Named, Names};
+pub use probes::{HasValue, Named, Names};
 pub use refusal::{Kind, MatchRule, MicroRule, Refusal};
 pub use router::{Binding, Nat, NatKind, Route, RouteBy, Router, RouterPort};
 pub use sets::{AddrSet, Group, Member};

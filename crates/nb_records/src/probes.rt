@@ -14,6 +14,10 @@ pub struct Named<'a>(pub &'a [u8]);
 #[derive(Drop)]
 pub struct Names<'a>(pub &'a Name);
 
+/// The tag `Has` of an IPv4 address of this value. Where the value has more than 32 bits, it is no port's.
+#[derive(Drop)]
+pub struct HasValue(pub u128);
+
 impl<'a> Probe<Tag> for Named<'a> {
     ghost use Rattle.nb_records.specs.Tags.{tag_cmp};
     ghost use Rattle.nb_records.specs.declared.tag.Tag.TheVariants as tag;
@@ -27,7 +31,12 @@ impl<'a> Probe<Tag> for Named<'a> {
     fn compare(&self, key: &Tag) -> Ordering {
         match key {
             Tag::Named(name) => self.0.cmp(name.as_slice()),
-            Tag::Of(_) | Tag::Names(_) | Tag::Lists(_) | Tag::Says(..) => Ordering::Less,
+            Tag::Of(_)
+            | Tag::Names(_)
+            | Tag::Lists(_)
+            | Tag::Says(..)
+            | Tag::Has(_)
+            | Tag::HasMany => Ordering::Less,
         }
     }
 }
@@ -46,7 +55,28 @@ impl<'a> Probe<Tag> for Names<'a> {
         match key {
             Tag::Named(_) | Tag::Of(_) => Ordering::Greater,
             Tag::Names(name) => self.0.cmp(name),
-            Tag::Lists(_) | Tag::Says(..) => Ordering::Less,
+            Tag::Lists(_) | Tag::Says(..) | Tag::Has(_) | Tag::HasMany => Ordering::Less,
+        }
+    }
+}
+
+impl Probe<Tag> for HasValue {
+    ghost use Rattle.nb_records.specs.Tags.{tag_cmp};
+    ghost use Rattle.nb_records.specs.declared.tag.Tag.TheVariants as tag;
+    ghost use Rattle.nb_records.specs.contracts.tag.TagOrd.TheImpl.Laws.{total-law};
+    ghost use Rattle.nv_map.specs.inner.Keys.{keys_part};
+
+    ghost order = { λ has. tag_cmp (tag.Has (record { 0 = has.0 })) };
+
+    ghost parts = { λ has. keys_part total-law (tag.Has (record { 0 = has.0 })) };
+
+    fn compare(&self, key: &Tag) -> Ordering {
+        match key {
+            Tag::Named(_) | Tag::Of(_) | Tag::Names(_) | Tag::Lists(_) | Tag::Says(..) => {
+                Ordering::Greater
+            }
+            Tag::Has(ip) => self.0.cmp(&u128::from(ip.0)),
+            Tag::HasMany => Ordering::Less,
         }
     }
 }

@@ -31,4 +31,8 @@ pub enum Tag {
     Lists(ObjId),
     /// What it says of its owner.
     Says(ObjId, Rule),
+    /// An IPv4 address of a port of a switch.
+    Has(Ip4),
+    /// A port of a switch that has more IPv4 addresses than are told one by one.
+    HasMany,
 }

@@ -1,13 +1,14 @@
 -- Records that are found by a tag are those that a test of their fields finds.
-use Rattle.std.proofs.Common.{◌≡◌, ℕ, Bool, true, false, cond, ◌==◌, ◌&&◌, ◌||◌, List, [], ◌∷◌, map, Option, Some, None, refl, ap, ◌∙◌, arith}
-use Rattle.std.specs.Prelude.{find}
-use Rattle.std.specs.List.{list_any}
+use Rattle.std.proofs.Common.{◌≡◌, ℕ, Bool, true, false, cond, ◌==◌, ◌&&◌, ◌||◌, List, [], ◌∷◌, ◌++◌, length, map, Option, Some, None, refl, ap, ◌∙◌, arith}
+use Rattle.std.specs.Prelude.{find, nat_le}
+use Rattle.std.specs.List.{flat_map, list_any}
 use Rattle.std.specs.Ordering.{is_eq}
 use Rattle.std.specs.Str.{bytes_eq}
 use Rattle.std.proofs.lemmas.Map.Text.{is_eq-slice_cmp}
 use Rattle.std.proofs.lemmas.Bool.Decides.{nat_tests}
+use Rattle.nv_base.specs.declared.ip4.Ip4.{Ip4}
 use Rattle.nv_base.specs.declared.object.ObjId.{ObjId}
-use Rattle.nb_records.specs.Tags.{tag_cmp, named_tags, port_tags, peer_tags, switch_tags, router_tags, router_port_tags, lb_tags, set_tags, group_tags}
+use Rattle.nb_records.specs.Tags.{tag_cmp, named_tags, port_tags, peer_tags, ips_of, ip_tags, most_told, switch_tags, router_tags, router_port_tags, lb_tags, set_tags, group_tags}
 use Rattle.nb_records.specs.declared.switch.Switch.{Switch}
 use Rattle.nb_records.specs.declared.router.Router.{Router}
 use Rattle.nb_records.specs.declared.router.RouterPort.{RouterPort}
@@ -18,7 +19,7 @@ use Rattle.nb_records.specs.declared.switch.Port.{Port}
 use Rattle.nb_records.specs.declared.switch.PortKind.{PortKind}
 use Rattle.nb_records.specs.declared.switch.PortKind.TheVariants as kind
 use Rattle.nb_records.specs.declared.tag.Tag.{Tag}
-use Rattle.nb_records.specs.declared.tag.Tag.TheVariants.{Named, Of, Names, Lists}
+use Rattle.nb_records.specs.declared.tag.Tag.TheVariants.{Named, Of, Names, Lists, Has, HasMany}
 use Rattle.nb_model.specs.Belongs.{is_name, is_router_kind, is_to_router}
 use Rattle.std.specs.declared.cmp.Ordering.{Ordering}
 use Rattle.nv_table.specs.Table.{has_tag, is_after}
@@ -67,20 +68,34 @@ or_false false b e = e
 pub is_named : (name own : List ℕ) (listed : List ObjId) → list_any (λ tag. is_eq (tag_cmp (Named name) tag)) (named_tags own listed) ≡ bytes_eq own name
 is_named name own listed = or_false (is_eq (tag_cmp (Named name) (Named own))) _ (no_name name listed) ∙ same_name name own
 
+-- the tags of addresses are no other ones
+pub no_ip : (test : Tag → Bool) → ((ip : Ip4) → test (Has ip) ≡ false) → test HasMany ≡ false → (ips : List Ip4) → list_any test (ip_tags ips) ≡ false
+no_ip test none many ips = by (nat_le (length ips) most_told)
+  where
+    no_has : (ips : List Ip4) → list_any test (map Has ips) ≡ false
+    no_has [] = refl
+    no_has (ip ∷ ips) = ap (λ b. b || list_any test (map Has ips)) (none ip) ∙ no_has ips
+
+    by : (b : Bool) → list_any test (cond b (map Has ips) (HasMany ∷ [])) ≡ false
+    by true = no_has ips
+    by false = or_false (test HasMany) false refl ∙ many
+
 -- the name of a port
-pub is_port_named : (name own : List ℕ) (owner : ObjId) (kind : PortKind) (peer : Option (List ℕ)) → list_any (λ tag. is_eq (tag_cmp (Named name) tag)) (Named own ∷ Of owner ∷ peer_tags kind peer) ≡ bytes_eq own name
-is_port_named name own owner kind.Router (Some peer) = or_false _ false refl ∙ same_name name own
-is_port_named name own owner kind.Router None = or_false _ false refl ∙ same_name name own
-is_port_named name own owner kind.Host peer = or_false _ false refl ∙ same_name name own
+pub is_port_named : (name own : List ℕ) (owner : ObjId) (kind : PortKind) (peer : Option (List ℕ)) (ips : List Ip4)
+    → list_any (λ tag. is_eq (tag_cmp (Named name) tag)) (Named own ∷ Of owner ∷ (peer_tags kind peer ++ ip_tags ips)) ≡ bytes_eq own name
+is_port_named name own owner kind.Router (Some peer) ips = or_false _ _ (no_ip (λ tag. is_eq (tag_cmp (Named name) tag)) (λ ip. refl) refl ips) ∙ same_name name own
+is_port_named name own owner kind.Router None ips = or_false _ _ (no_ip (λ tag. is_eq (tag_cmp (Named name) tag)) (λ ip. refl) refl ips) ∙ same_name name own
+is_port_named name own owner kind.Host peer ips = or_false _ _ (no_ip (λ tag. is_eq (tag_cmp (Named name) tag)) (λ ip. refl) refl ips) ∙ same_name name own
 
 pub is_router_port_named : (name own : List ℕ) (owner : ObjId) → list_any (λ tag. is_eq (tag_cmp (Named name) tag)) (Named own ∷ Of owner ∷ []) ≡ bytes_eq own name
 is_router_port_named name own owner = or_false _ false refl ∙ same_name name own
 
 -- the router port that a port names
-pub is_peer_named : (name own : List ℕ) (owner : ObjId) (kind : PortKind) (peer : Option (List ℕ)) → list_any (λ tag. is_eq (tag_cmp (Names name) tag)) (Named own ∷ Of owner ∷ peer_tags kind peer) ≡ (is_router_kind kind && is_name peer name)
-is_peer_named name own owner kind.Router (Some peer) = or_false _ false refl ∙ (is_eq-slice_cmp name peer ∙ bytes_turned name peer)
-is_peer_named name own owner kind.Router None = refl
-is_peer_named name own owner kind.Host peer = refl
+pub is_peer_named : (name own : List ℕ) (owner : ObjId) (kind : PortKind) (peer : Option (List ℕ)) (ips : List Ip4)
+    → list_any (λ tag. is_eq (tag_cmp (Names name) tag)) (Named own ∷ Of owner ∷ (peer_tags kind peer ++ ip_tags ips)) ≡ (is_router_kind kind && is_name peer name)
+is_peer_named name own owner kind.Router (Some peer) ips = or_false _ _ (no_ip (λ tag. is_eq (tag_cmp (Names name) tag)) (λ ip. refl) refl ips) ∙ (is_eq-slice_cmp name peer ∙ bytes_turned name peer)
+is_peer_named name own owner kind.Router None ips = no_ip (λ tag. is_eq (tag_cmp (Names name) tag)) (λ ip. refl) refl ips
+is_peer_named name own owner kind.Host peer ips = no_ip (λ tag. is_eq (tag_cmp (Names name) tag)) (λ ip. refl) refl ips
 
 -- the records that are found by a tag, those after a number alone where one is given
 pub found_by : {R : Type 0} (number : R → ObjId) (tags : R → List Tag) (order : Tag → Ordering) (test : R → Bool) (after : Option ObjId)
@@ -95,7 +110,7 @@ pub router_found : (name : List ℕ) (rs : List Router) → find (λ s. has_tag 
 router_found name rs = same_found _ _ (λ (s : Router). is_named name s.name s.lbs) rs
 
 pub port_found : (name : List ℕ) (rs : List Port) → find (λ s. has_tag port_tags (tag_cmp (Named name)) s) rs ≡ find (λ s. bytes_eq s.name name) rs
-port_found name rs = same_found _ _ (λ (s : Port). is_port_named name s.name s.switch s.kind s.router_port) rs
+port_found name rs = same_found _ _ (λ (s : Port). is_port_named name s.name s.switch s.kind s.router_port (flat_map ips_of s.addresses)) rs
 
 pub router_port_found : (name : List ℕ) (rs : List RouterPort) → find (λ s. has_tag router_port_tags (tag_cmp (Named name)) s) rs ≡ find (λ s. bytes_eq s.name name) rs
 router_port_found name rs = same_found _ _ (λ (s : RouterPort). is_router_port_named name s.name s.router) rs
@@ -113,4 +128,4 @@ abbrev pub peer_named : List ℕ → List Port → Option Port
 peer_named name rs = find (λ port. is_to_router port && is_name port.router_port name) rs
 
 pub peer_found : (name : List ℕ) (rs : List Port) → find (λ s. has_tag port_tags (tag_cmp (Names name)) s) rs ≡ peer_named name rs
-peer_found name rs = same_found _ _ (λ (s : Port). is_peer_named name s.name s.switch s.kind s.router_port) rs
+peer_found name rs = same_found _ _ (λ (s : Port). is_peer_named name s.name s.switch s.kind s.router_port (flat_map ips_of s.addresses)) rs

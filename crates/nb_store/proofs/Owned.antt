@@ -1,8 +1,8 @@
 -- Records that are found by what they belong to, by what they list, and by what they say.
-use Rattle.std.proofs.Common.{◌≡◌, ℕ, Bool, true, false, ◌==◌, ◌&&◌, ◌||◌, not, if◌then◌else◌, List, [], ◌∷◌, map, Option, Some, None, refl, ap, ◌∙◌}
+use Rattle.std.proofs.Common.{◌≡◌, ℕ, Bool, true, false, ◌==◌, ◌&&◌, ◌||◌, not, if◌then◌else◌, List, [], ◌∷◌, ◌++◌, map, Option, Some, None, refl, ap, ◌∙◌}
 use Rattle.std.specs.Cmp.{unsigned_tied}
 use Rattle.std.specs.Prelude.{find}
-use Rattle.std.specs.List.{list_any}
+use Rattle.std.specs.List.{flat_map, list_any}
 use Rattle.std.specs.Ordering.{is_eq, nat_cmp, ordering_then}
 use Rattle.std.specs.declared.cmp.Ordering.{Ordering}
 use Rattle.std.specs.declared.cmp.Ordering.TheVariants.{Less, Equal, Greater}
@@ -11,7 +11,7 @@ use Rattle.nb_records.specs.contracts.router.RouteByOrd.TheImpl as route_by_ord
 use Rattle.nv_base.specs.Block.{Block}
 use Rattle.nv_base.specs.declared.ip4.Ip4.{Ip4}
 use Rattle.nv_base.specs.declared.object.ObjId.{ObjId}
-use Rattle.nb_records.specs.Tags.{tag_cmp, owned_tags, port_tags, peer_tags, router_port_tags, route_tags, nat_tags, acl_tags, binding_tags, rule_of, route_rule, nat_rule, acl_rule, switch_tags, router_tags, group_tags}
+use Rattle.nb_records.specs.Tags.{tag_cmp, owned_tags, port_tags, peer_tags, ips_of, ip_tags, router_port_tags, route_tags, nat_tags, acl_tags, binding_tags, rule_of, route_rule, nat_rule, acl_rule, switch_tags, router_tags, group_tags}
 use Rattle.nb_records.specs.declared.acl.Acl.{Acl}
 use Rattle.nb_records.specs.declared.acl.Way.{Way}
 use Rattle.nb_records.specs.declared.acl.Way.TheVariants.{From, To}
@@ -35,7 +35,7 @@ use Rattle.nb_records.specs.declared.tag.Tag.TheVariants.{Named, Of, Lists, Says
 use Rattle.nb_model.specs.Belongs.{is_among, same_policy, same_block, same_way, is_snat}
 use Rattle.nb_model.specs.Network.{same}
 use Rattle.nv_table.specs.Table.{has_tag, is_after}
-use Rattle.nb_store.proofs.Found.{found_by, same_found, or_false}
+use Rattle.nb_store.proofs.Found.{found_by, same_found, or_false, no_ip}
 
 eq_then : (x y : Ordering) → is_eq (ordering_then x y) ≡ (is_eq x && is_eq y)
 eq_then Less y = refl
@@ -69,10 +69,11 @@ blocks p q = eq_then (nat_cmp p.base.0 q.base.0) (nat_cmp p.len q.len) ∙ (λ i
 pub is_owned : (owner own : ObjId) (rule : Rule) → list_any (λ tag. is_eq (tag_cmp (Of owner) tag)) (owned_tags own rule) ≡ same owner own
 is_owned owner own rule = or_false _ false refl ∙ same_object owner own
 
-pub is_on_switch : (owner own : ObjId) (name : List ℕ) (kind : PortKind) (peer : Option (List ℕ)) → list_any (λ tag. is_eq (tag_cmp (Of owner) tag)) (Named name ∷ Of own ∷ peer_tags kind peer) ≡ same owner own
-is_on_switch owner own name kind.Router (Some peer) = or_false _ false refl ∙ same_object owner own
-is_on_switch owner own name kind.Router None = or_false _ false refl ∙ same_object owner own
-is_on_switch owner own name kind.Host peer = or_false _ false refl ∙ same_object owner own
+pub is_on_switch : (owner own : ObjId) (name : List ℕ) (kind : PortKind) (peer : Option (List ℕ)) (ips : List Ip4)
+    → list_any (λ tag. is_eq (tag_cmp (Of owner) tag)) (Named name ∷ Of own ∷ (peer_tags kind peer ++ ip_tags ips)) ≡ same owner own
+is_on_switch owner own name kind.Router (Some peer) ips = or_false _ _ (no_ip (λ tag. is_eq (tag_cmp (Of owner) tag)) (λ ip. refl) refl ips) ∙ same_object owner own
+is_on_switch owner own name kind.Router None ips = or_false _ _ (no_ip (λ tag. is_eq (tag_cmp (Of owner) tag)) (λ ip. refl) refl ips) ∙ same_object owner own
+is_on_switch owner own name kind.Host peer ips = or_false _ _ (no_ip (λ tag. is_eq (tag_cmp (Of owner) tag)) (λ ip. refl) refl ips) ∙ same_object owner own
 
 pub is_on_router : (owner own : ObjId) (name : List ℕ) → list_any (λ tag. is_eq (tag_cmp (Of owner) tag)) (Named name ∷ Of own ∷ []) ≡ same owner own
 is_on_router owner own name = or_false _ false refl ∙ same_object owner own
@@ -126,7 +127,7 @@ abbrev pub port_on : ObjId → Option ObjId → List Port → Option Port
 port_on switch after rs = find (λ s. is_after after s.id && same switch s.switch) rs
 
 pub port_on_found : (switch : ObjId) (after : Option ObjId) (rs : List Port) → find (λ s. is_after after s.id && has_tag port_tags (tag_cmp (Of switch)) s) rs ≡ port_on switch after rs
-port_on_found switch after rs = found_by (λ (s : Port). s.id) port_tags (tag_cmp (Of switch)) (λ s. same switch s.switch) after (λ s. is_on_switch switch s.switch s.name s.kind s.router_port) rs
+port_on_found switch after rs = found_by (λ (s : Port). s.id) port_tags (tag_cmp (Of switch)) (λ s. same switch s.switch) after (λ s. is_on_switch switch s.switch s.name s.kind s.router_port (flat_map ips_of s.addresses)) rs
 
 abbrev pub router_port_on : ObjId → Option ObjId → List RouterPort → Option RouterPort
 router_port_on router after rs = find (λ s. is_after after s.id && same router s.router) rs

@@ -1,5 +1,5 @@
 -- What undoing changes does to a network.
-use Rattle.std.specs.Prelude.{List, [], ◌∷◌}
+use Rattle.std.specs.Prelude.{Bool, true, false, List, [], ◌∷◌}
 use Rattle.nb_model.specs.Network.{Network}
 use Rattle.nv_table.specs.Table.{with_exchanged, without_number}
 use Rattle.nb_store.specs.declared.step.Object.{Object}
@@ -52,3 +52,12 @@ back_steps (step ∷ steps) net = undone step (back_steps steps net)
 -- an edit undone
 abbrev pub back : Undo → Network → Network
 back undo net = back_steps undo.steps.items net
+
+-- there are no changes
+abbrev pub is_nothing : List Step → Bool
+is_nothing [] = true
+is_nothing (step ∷ steps) = false
+
+-- an edit that changed nothing
+abbrev pub changes_nothing : Undo → Bool
+changes_nothing undo = is_nothing undo.steps.items

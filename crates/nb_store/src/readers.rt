@@ -1,10 +1,11 @@
 //! The readers of the tables.
-ghost use Rattle.std.specs.Prelude.{◌≡◌};
+ghost use Rattle.std.specs.Prelude.{◌≡◌, ◌+◌, ◌<◌, IsTrue};
+ghost use Rattle.nv_base.specs.Object.{number_limit};
 ghost use Rattle.nb_store.specs.Places.{port_of, datapath_of, on_datapath, peer_of};
 
 use crate::records::Records;
 use nb_records::{Acl, AddrSet, Binding, Group, Lb, Nat, Port, Route, Router, RouterPort, Switch};
-use nv_base::{Name, ObjId};
+use nv_base::{NUMBER_LIMIT, Name, ObjId};
 use nv_table::Table;
 
 impl Records {
@@ -90,6 +91,14 @@ impl Records {
         ensures { result ≡ self.now.next }
     {
         self.next
+    }
+
+    /// Whether there are numbers for so many more objects.
+    pub fn has_room(&self, count: usize) -> bool
+        ensures { IsTrue result → self.now.next + count < number_limit }
+    {
+        let limit = NUMBER_LIMIT as usize;
+        count < limit && (self.next as usize) < limit - count
     }
 
     /// The number of the port of a switch or of a router that has this name.

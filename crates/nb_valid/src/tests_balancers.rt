@@ -5,8 +5,8 @@ ghost use Rattle.nb_valid.specs.Tested.{Passes};
 ghost use Rattle.nb_valid.specs.inner.Refused.{Refuses};
 
 use nb_find::{
-    duplicate_if, has_vip, is_on_router, is_on_switch, may_want_lb, wants_lb, wants_on_router,
-    wants_on_switch, wants_protocol, wants_router, wants_switch, with_some,
+    Wanted, duplicate_if, has_vip, is_on_router, is_on_switch, may_want, wants, wants_on_router,
+    wants_on_switch, wants_protocol, with_some,
 };
 use nb_records::{Backend, Edit, Frontend, Proto, Refusal};
 use nb_store::Records;
@@ -54,7 +54,7 @@ fn test_vips_del(records: &Records, lb: Name, if_exists: bool) -> Result<Edit, R
     ensures ok { IfOk result (Passes records.now (edit.LbDel lb None if_exists)) }
     ensures refused { IfErr result (Refuses records.now (edit.LbDel lb None if_exists)) }
 {
-    let lb = may_want_lb(records, lb, if_exists)?;
+    let lb = may_want(records, Wanted::Lb, lb, if_exists)?;
     Ok(Edit::LbDel {
         lb,
         at: None,
@@ -67,7 +67,7 @@ fn test_vip_del(records: &Records, lb: Name, at: Frontend, if_exists: bool) -> R
     ensures ok { IfOk result (Passes records.now (edit.LbDel lb (Some at) if_exists)) }
     ensures refused { IfErr result (Refuses records.now (edit.LbDel lb (Some at) if_exists)) }
 {
-    let lb = wants_lb(records, lb)?;
+    let lb = wants(records, Wanted::Lb, lb)?;
     let there = has_vip(records, at, &lb);
     let lb = with_some(lb, if_exists, there)?;
     Ok(Edit::LbDel {
@@ -87,8 +87,8 @@ pub(crate) fn test_ls_lb_add(
     ensures ok { IfOk result (Passes records.now (edit.LsLbAdd switch lb may_exist)) }
     ensures refused { IfErr result (Refuses records.now (edit.LsLbAdd switch lb may_exist)) }
 {
-    let switch = wants_switch(records, switch)?;
-    let lb = wants_lb(records, lb)?;
+    let switch = wants(records, Wanted::Switch, switch)?;
+    let lb = wants(records, Wanted::Lb, lb)?;
     let again = !may_exist && is_on_switch(records, &lb, &switch);
     duplicate_if(again, records.lb_id(&lb))?;
     Ok(Edit::LsLbAdd {
@@ -108,8 +108,8 @@ pub(crate) fn test_lr_lb_add(
     ensures ok { IfOk result (Passes records.now (edit.LrLbAdd router lb may_exist)) }
     ensures refused { IfErr result (Refuses records.now (edit.LrLbAdd router lb may_exist)) }
 {
-    let router = wants_router(records, router)?;
-    let lb = wants_lb(records, lb)?;
+    let router = wants(records, Wanted::Router, router)?;
+    let lb = wants(records, Wanted::Lb, lb)?;
     let again = !may_exist && is_on_router(records, &lb, &router);
     duplicate_if(again, records.lb_id(&lb))?;
     Ok(Edit::LrLbAdd {
@@ -129,7 +129,7 @@ pub(crate) fn test_ls_lb_del(
     ensures ok { IfOk result (Passes records.now (edit.LsLbDel switch lb if_exists)) }
     ensures refused { IfErr result (Refuses records.now (edit.LsLbDel switch lb if_exists)) }
 {
-    let switch = wants_switch(records, switch)?;
+    let switch = wants(records, Wanted::Switch, switch)?;
     let lb = wants_on_switch(records, lb, &switch, if_exists)?;
     Ok(Edit::LsLbDel {
         switch,
@@ -148,7 +148,7 @@ pub(crate) fn test_lr_lb_del(
     ensures ok { IfOk result (Passes records.now (edit.LrLbDel router lb if_exists)) }
     ensures refused { IfErr result (Refuses records.now (edit.LrLbDel router lb if_exists)) }
 {
-    let router = wants_router(records, router)?;
+    let router = wants(records, Wanted::Router, router)?;
     let lb = wants_on_router(records, lb, &router, if_exists)?;
     Ok(Edit::LrLbDel {
         router,

@@ -4,7 +4,7 @@ ghost use Rattle.nb_records.specs.declared.edit.Edit.TheVariants as edit;
 ghost use Rattle.nb_valid.specs.Tested.{Passes};
 ghost use Rattle.nb_valid.specs.inner.Refused.{Refuses};
 
-use nb_find::{free, is_datapath, is_router, is_switch, may_want_router, may_want_switch};
+use nb_find::{Wanted, free, is_datapath, is_router, is_switch, may_want};
 use nb_records::{Edit, Refusal};
 use nb_store::Records;
 use nv_base::Name;
@@ -34,7 +34,7 @@ pub(crate) fn test_ls_del(records: &Records, name: Name, if_exists: bool) -> Res
     ensures ok { IfOk result (Passes records.now (edit.LsDel name if_exists)) }
     ensures refused { IfErr result (Refuses records.now (edit.LsDel name if_exists)) }
 {
-    let name = may_want_switch(records, name, if_exists)?;
+    let name = may_want(records, Wanted::Switch, name, if_exists)?;
     Ok(Edit::LsDel { name, if_exists })
 }
 
@@ -43,6 +43,6 @@ pub(crate) fn test_lr_del(records: &Records, name: Name, if_exists: bool) -> Res
     ensures ok { IfOk result (Passes records.now (edit.LrDel name if_exists)) }
     ensures refused { IfErr result (Refuses records.now (edit.LrDel name if_exists)) }
 {
-    let name = may_want_router(records, name, if_exists)?;
+    let name = may_want(records, Wanted::Router, name, if_exists)?;
     Ok(Edit::LrDel { name, if_exists })
 }

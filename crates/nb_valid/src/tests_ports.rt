@@ -5,8 +5,7 @@ ghost use Rattle.nb_valid.specs.Tested.{Passes};
 ghost use Rattle.nb_valid.specs.inner.Refused.{Refuses};
 
 use nb_find::{
-    free, is_any_port, is_port_in_place, is_router_port_in_place, may_want_port,
-    may_want_router_port, wants_port, wants_router, wants_router_port, wants_switch,
+    Wanted, free, is_any_port, is_port_in_place, is_router_port_in_place, may_want, wants,
 };
 use nb_records::{Addr, Edit, Guard, PortKind, Refusal};
 use nb_store::Records;
@@ -23,7 +22,7 @@ pub(crate) fn test_lsp_add(
     ensures refused { IfErr result (Refuses records.now (edit.LspAdd switch port may_exist)) }
 {
     let in_place = is_port_in_place(records, &switch, &port, may_exist);
-    let switch = wants_switch(records, switch)?;
+    let switch = wants(records, Wanted::Switch, switch)?;
     let taken = is_any_port(records, &port) && !in_place;
     let port = free(port, taken)?;
     Ok(Edit::LspAdd {
@@ -38,7 +37,7 @@ pub(crate) fn test_lsp_del(records: &Records, port: Name, if_exists: bool) -> Re
     ensures ok { IfOk result (Passes records.now (edit.LspDel port if_exists)) }
     ensures refused { IfErr result (Refuses records.now (edit.LspDel port if_exists)) }
 {
-    let port = may_want_port(records, port, if_exists)?;
+    let port = may_want(records, Wanted::Port, port, if_exists)?;
     Ok(Edit::LspDel { port, if_exists })
 }
 
@@ -51,7 +50,7 @@ pub(crate) fn test_lsp_set_addresses(
     ensures ok { IfOk result (Passes records.now (edit.LspSetAddresses port addresses)) }
     ensures refused { IfErr result (Refuses records.now (edit.LspSetAddresses port addresses)) }
 {
-    let port = wants_port(records, port)?;
+    let port = wants(records, Wanted::Port, port)?;
     Ok(Edit::LspSetAddresses { port, addresses })
 }
 
@@ -64,7 +63,7 @@ pub(crate) fn test_lsp_set_port_security(
     ensures ok { IfOk result (Passes records.now (edit.LspSetPortSecurity port guards)) }
     ensures refused { IfErr result (Refuses records.now (edit.LspSetPortSecurity port guards)) }
 {
-    let port = wants_port(records, port)?;
+    let port = wants(records, Wanted::Port, port)?;
     Ok(Edit::LspSetPortSecurity { port, guards })
 }
 
@@ -77,7 +76,7 @@ pub(crate) fn test_lsp_set_type(
     ensures ok { IfOk result (Passes records.now (edit.LspSetType port kind)) }
     ensures refused { IfErr result (Refuses records.now (edit.LspSetType port kind)) }
 {
-    let port = wants_port(records, port)?;
+    let port = wants(records, Wanted::Port, port)?;
     Ok(Edit::LspSetType { port, kind })
 }
 
@@ -90,7 +89,7 @@ pub(crate) fn test_lsp_set_options(
     ensures ok { IfOk result (Passes records.now (edit.LspSetOptions port router_port)) }
     ensures refused { IfErr result (Refuses records.now (edit.LspSetOptions port router_port)) }
 {
-    let port = wants_port(records, port)?;
+    let port = wants(records, Wanted::Port, port)?;
     Ok(Edit::LspSetOptions { port, router_port })
 }
 
@@ -103,7 +102,7 @@ pub(crate) fn test_lsp_set_enabled(
     ensures ok { IfOk result (Passes records.now (edit.LspSetEnabled port enabled)) }
     ensures refused { IfErr result (Refuses records.now (edit.LspSetEnabled port enabled)) }
 {
-    let port = wants_port(records, port)?;
+    let port = wants(records, Wanted::Port, port)?;
     Ok(Edit::LspSetEnabled { port, enabled })
 }
 
@@ -120,7 +119,7 @@ pub(crate) fn test_lrp_add(
     ensures refused { IfErr result (Refuses records.now (edit.LrpAdd router port mac nets may_exist)) }
 {
     let in_place = is_router_port_in_place(records, &router, &port, may_exist);
-    let router = wants_router(records, router)?;
+    let router = wants(records, Wanted::Router, router)?;
     let taken = is_any_port(records, &port) && !in_place;
     let port = free(port, taken)?;
     Ok(Edit::LrpAdd {
@@ -137,7 +136,7 @@ pub(crate) fn test_lrp_del(records: &Records, port: Name, if_exists: bool) -> Re
     ensures ok { IfOk result (Passes records.now (edit.LrpDel port if_exists)) }
     ensures refused { IfErr result (Refuses records.now (edit.LrpDel port if_exists)) }
 {
-    let port = may_want_router_port(records, port, if_exists)?;
+    let port = may_want(records, Wanted::RouterPort, port, if_exists)?;
     Ok(Edit::LrpDel { port, if_exists })
 }
 
@@ -150,6 +149,6 @@ pub(crate) fn test_lrp_set_enabled(
     ensures ok { IfOk result (Passes records.now (edit.LrpSetEnabled port enabled)) }
     ensures refused { IfErr result (Refuses records.now (edit.LrpSetEnabled port enabled)) }
 {
-    let port = wants_router_port(records, port)?;
+    let port = wants(records, Wanted::RouterPort, port)?;
     Ok(Edit::LrpSetEnabled { port, enabled })
 }

@@ -6,8 +6,8 @@ ghost use Rattle.nb_valid.specs.Tested.{Passes};
 ghost use Rattle.nb_valid.specs.inner.Refused.{Refuses};
 
 use nb_find::{
-    binding_like, has_nat, has_route, may_name_router_port, nat_like, no_duplicate, policy_or,
-    route_like, wants_router, wants_router_port, with_some,
+    Wanted, binding_like, has_nat, has_route, may_name_router_port, nat_like, no_duplicate,
+    policy_or, route_like, wants, with_some,
 };
 use nb_records::{Edit, NatKind, Refusal, RouteBy};
 use nb_store::Records;
@@ -25,7 +25,7 @@ pub(crate) fn test_lr_route_add(
     ensures ok { IfOk result (Passes records.now (edit.LrRouteAdd router prefix nexthop port by)) }
     ensures refused { IfErr result (Refuses records.now (edit.LrRouteAdd router prefix nexthop port by)) }
 {
-    let router = wants_router(records, router)?;
+    let router = wants(records, Wanted::Router, router)?;
     let port = may_name_router_port(records, port)?;
     no_duplicate(route_like(records, &router, prefix, policy_or(by)))?;
     Ok(Edit::LrRouteAdd {
@@ -64,7 +64,7 @@ fn test_routes_del(
     ensures ok { IfOk result (Passes records.now (edit.LrRouteDel router None if_exists by)) }
     ensures refused { IfErr result (Refuses records.now (edit.LrRouteDel router None if_exists by)) }
 {
-    let router = wants_router(records, router)?;
+    let router = wants(records, Wanted::Router, router)?;
     Ok(Edit::LrRouteDel {
         router,
         prefix: None,
@@ -84,7 +84,7 @@ fn test_route_del(
     ensures ok { IfOk result (Passes records.now (edit.LrRouteDel router (Some prefix) if_exists by)) }
     ensures refused { IfErr result (Refuses records.now (edit.LrRouteDel router (Some prefix) if_exists by)) }
 {
-    let router = wants_router(records, router)?;
+    let router = wants(records, Wanted::Router, router)?;
     let there = has_route(records, &router, prefix, by);
     let router = with_some(router, if_exists, there)?;
     Ok(Edit::LrRouteDel {
@@ -106,7 +106,7 @@ pub(crate) fn test_lr_nat_add(
     ensures ok { IfOk result (Passes records.now (edit.LrNatAdd router kind external logical)) }
     ensures refused { IfErr result (Refuses records.now (edit.LrNatAdd router kind external logical)) }
 {
-    let router = wants_router(records, router)?;
+    let router = wants(records, Wanted::Router, router)?;
     no_duplicate(nat_like(records, &router, kind, external, logical))?;
     Ok(Edit::LrNatAdd {
         router,
@@ -144,7 +144,7 @@ fn test_nats_del(
     ensures ok { IfOk result (Passes records.now (edit.LrNatDel router kind None if_exists)) }
     ensures refused { IfErr result (Refuses records.now (edit.LrNatDel router kind None if_exists)) }
 {
-    let router = wants_router(records, router)?;
+    let router = wants(records, Wanted::Router, router)?;
     Ok(Edit::LrNatDel {
         router,
         kind,
@@ -165,7 +165,7 @@ fn test_nat_del(
     ensures ok { IfOk result (Passes records.now (edit.LrNatDel router kind (Some at) if_exists)) }
     ensures refused { IfErr result (Refuses records.now (edit.LrNatDel router kind (Some at) if_exists)) }
 {
-    let router = wants_router(records, router)?;
+    let router = wants(records, Wanted::Router, router)?;
     let there = has_nat(records, &router, kind, at);
     let router = with_some(router, if_exists, there)?;
     Ok(Edit::LrNatDel {
@@ -186,7 +186,7 @@ pub(crate) fn test_smb_add(
     ensures ok { IfOk result (Passes records.now (edit.SmbAdd port addr mac)) }
     ensures refused { IfErr result (Refuses records.now (edit.SmbAdd port addr mac)) }
 {
-    let port = wants_router_port(records, port)?;
+    let port = wants(records, Wanted::RouterPort, port)?;
     no_duplicate(binding_like(records, &port, addr))?;
     Ok(Edit::SmbAdd { port, addr, mac })
 }
@@ -201,7 +201,7 @@ pub(crate) fn test_smb_del(
     ensures ok { IfOk result (Passes records.now (edit.SmbDel port addr if_exists)) }
     ensures refused { IfErr result (Refuses records.now (edit.SmbDel port addr if_exists)) }
 {
-    let port = wants_router_port(records, port)?;
+    let port = wants(records, Wanted::RouterPort, port)?;
     let there = binding_like(records, &port, addr).is_some();
     let port = with_some(port, if_exists, there)?;
     Ok(Edit::SmbDel {

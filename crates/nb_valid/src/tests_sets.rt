@@ -9,10 +9,7 @@ ghost use Rattle.nb_valid.specs.Tested.{tested, Passes};
 ghost use Rattle.nb_valid.specs.inner.Refused.{Refuses};
 ghost use Rattle.nb_valid.specs.inner.Refused.{IsFaultFor};
 
-use nb_find::{
-    free, is_group, is_port, is_set, may_want_group, may_want_set, wants_group, wants_port,
-    wants_set,
-};
+use nb_find::{Wanted, free, is_group, is_port, is_set, may_want, wants};
 use nb_records::{Edit, Member, Refusal};
 use nb_store::Records;
 use nb_words::LineFault;
@@ -31,7 +28,7 @@ fn want_port(records: &Records, name: Name) -> Result<(), LineFault>
     ensures ok { OnOk result (wants_port records.now name ≡ None) }
     ensures refused { IfErr result (IsFaultFor (wants_port records.now name)) }
 {
-    match wants_port(records, name) {
+    match wants(records, Wanted::Port, name) {
         Ok(_) => Ok(()),
         Err(refusal) => Err(LineFault::Refused(refusal)),
     }
@@ -74,7 +71,7 @@ pub(crate) fn test_pg_set_ports(
     ensures ok { IfOk result (Passes records.now (edit.PgSetPorts name ports)) }
     ensures refused { IfErr result (IsFaultOf (tested records.now (edit.PgSetPorts name ports))) }
 {
-    let name = wants_group(records, name).map_err(LineFault::Refused)?;
+    let name = wants(records, Wanted::Group, name).map_err(LineFault::Refused)?;
     want_ports(alloc, records, ports.as_slice())?;
     Ok(Edit::PgSetPorts { name, ports })
 }
@@ -84,7 +81,7 @@ pub(crate) fn test_pg_del(records: &Records, name: Name, if_exists: bool) -> Res
     ensures ok { IfOk result (Passes records.now (edit.PgDel name if_exists)) }
     ensures refused { IfErr result (Refuses records.now (edit.PgDel name if_exists)) }
 {
-    let name = may_want_group(records, name, if_exists)?;
+    let name = may_want(records, Wanted::Group, name, if_exists)?;
     Ok(Edit::PgDel { name, if_exists })
 }
 
@@ -111,7 +108,7 @@ pub(crate) fn test_as_set(
     ensures ok { IfOk result (Passes records.now (edit.AsSet name members)) }
     ensures refused { IfErr result (Refuses records.now (edit.AsSet name members)) }
 {
-    let name = wants_set(records, name)?;
+    let name = wants(records, Wanted::Set, name)?;
     Ok(Edit::AsSet { name, members })
 }
 
@@ -120,6 +117,6 @@ pub(crate) fn test_as_del(records: &Records, name: Name, if_exists: bool) -> Res
     ensures ok { IfOk result (Passes records.now (edit.AsDel name if_exists)) }
     ensures refused { IfErr result (Refuses records.now (edit.AsDel name if_exists)) }
 {
-    let name = may_want_set(records, name, if_exists)?;
+    let name = may_want(records, Wanted::Set, name, if_exists)?;
     Ok(Edit::AsDel { name, if_exists })
 }

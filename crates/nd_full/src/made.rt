@@ -14,7 +14,7 @@ use ls_l2::{PortL2, SwitchL2};
 use ls_lb::SwitchLb;
 use ls_sec::{PortSec, SwitchSec};
 use nb_records::Acl;
-use net_rows::{PortL2Input, PortSecInput, SwitchAclInput, SwitchL2Input};
+use net_rows::{PortL2Input, PortSecInput, SwitchAclInput, SwitchL2Input, UnitMaker};
 use nv_base::{ObjId, OutOfMemory};
 use sb_rows::NewRows;
 use std::alloc::Global;
@@ -24,13 +24,13 @@ use std::marker::Model;
 #[derive(Drop)]
 pub(crate) struct MadeRows {
     rows: NewRows,
-    switch_sec: SwitchSec,
-    switch_acl: SwitchAcl,
-    switch_lb: SwitchLb,
-    switch_l2: SwitchL2,
-    port_sec: PortSec,
-    port_l2: PortL2,
-    acl_on: AclOn,
+    switch_sec: UnitMaker<SwitchSec>,
+    switch_acl: UnitMaker<SwitchAcl>,
+    switch_lb: UnitMaker<SwitchLb>,
+    switch_l2: UnitMaker<SwitchL2>,
+    port_sec: UnitMaker<PortSec>,
+    port_l2: UnitMaker<PortL2>,
+    acl_on: UnitMaker<AclOn>,
 }
 
 impl Model for MadeRows {
@@ -53,13 +53,13 @@ impl MadeRows {
     {
         MadeRows {
             rows: NewRows::new(alloc),
-            switch_sec: SwitchSec::new(),
-            switch_acl: SwitchAcl::new(),
-            switch_lb: SwitchLb::new(),
-            switch_l2: SwitchL2::new(),
-            port_sec: PortSec::new(),
-            port_l2: PortL2::new(),
-            acl_on: AclOn::new(),
+            switch_sec: UnitMaker::new(SwitchSec),
+            switch_acl: UnitMaker::new(SwitchAcl),
+            switch_lb: UnitMaker::new(SwitchLb),
+            switch_l2: UnitMaker::new(SwitchL2),
+            port_sec: UnitMaker::new(PortSec),
+            port_l2: UnitMaker::new(PortL2),
+            acl_on: UnitMaker::new(AclOn),
         }
     }
 

@@ -1,7 +1,7 @@
 ghost use Rattle.std.specs.Prelude.{◌≡◌};
 ghost use Rattle.net_meaning.specs.Cause.{cause_name};
 
-/// Why a packet is dropped.
+/// Why a packet is dropped. The last six are of connections and of routers.
 #[derive(Clone, Copy, PartialEq, Eq)]
 pub enum Cause {
     /// Port security lets it not in, or not out.
@@ -14,6 +14,18 @@ pub enum Cause {
     SamePort,
     /// The port that it would go out by has nothing at its other side.
     NoPeer,
+    /// It would begin a connection, and there are as many as there may be.
+    CtFull,
+    /// No source port is left for its connection.
+    NoPort,
+    /// It is not for the router's port at which it arrives.
+    Admission,
+    /// A router takes no such packet.
+    IpInput,
+    /// A router has no route for it.
+    NoRoute,
+    /// The router's port that it would go out by is disabled.
+    Delivery,
 }
 
 impl Cause {
@@ -27,6 +39,12 @@ impl Cause {
             Cause::Unknown => "unknown",
             Cause::SamePort => "same_port",
             Cause::NoPeer => "no_peer",
+            Cause::CtFull => "ct_full",
+            Cause::NoPort => "no_port",
+            Cause::Admission => "admission",
+            Cause::IpInput => "ip_input",
+            Cause::NoRoute => "no_route",
+            Cause::Delivery => "delivery",
         }
     }
 }

@@ -1,14 +1,16 @@
-//! The rows of the units of a network, as definitions, and their laws; the inputs of the units, and what puts a row of one among
-//! others.
+//! The rows of the units of a network, as definitions, and their laws; the inputs of the units, what puts a row of one among others,
+//! and what makes the rows of a unit.
 #![tactic(auto)]
 
 mod inputs;
 mod kept;
 mod laws;
+mod maker;
 mod rule;
 
 pub use inputs::{AclOnInput, PortL2Input, PortSecInput, SwitchAclInput, SwitchL2Input};
 pub use laws::{
     rows_are_those_of_the_units, rows_of_sound_networks_are_apart, rows_of_sound_networks_are_typed,
 };
+pub use maker::{UnitKind, UnitMaker};
 pub use rule::{Rule, Unit};

@@ -1,5 +1,5 @@
 ghost use Rattle.std.specs.Prelude.{◌≡◌, [], ◌∷◌, ◌++◌, OnOk, OnErr};
-ghost use Rattle.net_rows.specs.Unit.{row_of};
+ghost use Rattle.net_rows.specs.Unit.{row_of, unit_of, unit_of_datapath};
 
 use act_core::Action;
 use expr_core::Typed;
@@ -26,6 +26,20 @@ pub struct Rule {
 }
 
 impl Unit {
+    /// The unit of a datapath, whose rows are made for this object.
+    pub fn of(dp: ObjId, hint: ObjId) -> Self
+        ensures { result ≡ unit_of dp hint }
+    {
+        Unit { dp, hint }
+    }
+
+    /// The unit of a datapath itself.
+    pub fn of_datapath(dp: ObjId) -> Self
+        ensures { result ≡ unit_of_datapath dp }
+    {
+        Unit::of(dp, ObjId(0))
+    }
+
     /// Puts a row of the unit after others. After `OutOfMemory` they are as before.
     #[inline]
     pub fn put(self, rows: &mut NewRows, rule: Rule) -> Result<(), OutOfMemory>

@@ -315,7 +315,7 @@ fn put_wanted_words(
             let number = wrong_words(case, command).number;
             put_wanted_word(out, case, command, number)
         }
-        Some(Cause::Count | Cause::Options) => put_wanted_form(out, command),
+        Some(Cause::TooFew | Cause::TooMany | Cause::Options) => put_wanted_form(out, command),
         _ => Ok(()),
     }
 }

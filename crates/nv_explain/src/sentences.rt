@@ -154,17 +154,19 @@ pub(crate) enum Cause {
     OpenQuote,
     NoCommand,
     Options,
-    Count,
+    TooFew,
+    TooMany,
     Keyword,
     QueryBeside,
 }
 
 /// What is said of each cause of `E04`. W is the word that shows it.
-pub(crate) static CAUSES: [&str; 6] = [
+pub(crate) static CAUSES: [&str; 7] = [
     "a quote is left open",
     "a command has no name",
     "an option stands twice, or has another value",
-    "there are too few or too many words",
+    "there are too few words",
+    "there are too many words",
     "word W stands for a keyword, and is none that may stand there",
     "a query stands beside another command",
 ];
@@ -272,13 +274,13 @@ pub(crate) static PLACES: [(&str, &str); 28] = [
 
 /// The forms of queries, in the order of `nb_cmds::Question`.
 pub(crate) static QUERIES: [&str; 3] = [
-    "lflow-list [DATAPATH]",
-    "[--minimal] trace DATAPATH MICROFLOW",
+    "lflow-list [SWITCH]",
+    "[--minimal] trace SWITCH MICROFLOW",
     "dump",
 ];
 
 /// What the datapath of a query is.
-pub(crate) static DATAPATH: &str = "DATAPATH, the name of a switch";
+pub(crate) static DATAPATH: &str = "SWITCH, the name of a switch";
 
 /// What a name of an object is.
 pub(crate) static OBJECT_NAME: &str =
@@ -350,10 +352,13 @@ pub(crate) enum Slip {
     AllowRelated,
     RouterAddress,
     Ipv6,
+    Comma,
+    Capitals,
+    AclOption,
 }
 
 /// What a slip looks like, and the hint.
-pub(crate) static SLIPS: [(&str, &str); 23] = [
+pub(crate) static SLIPS: [(&str, &str); 26] = [
     (
         "`ls-add sw0 # the first one`",
         "a comment stands on a line of its own: after other words `#` begins a word",
@@ -442,5 +447,17 @@ pub(crate) static SLIPS: [(&str, &str); 23] = [
     (
         "`lsp-set-addresses p1 '00:00:00:00:00:01 fe80::1'`",
         "addresses of IPv6 are not in this profile",
+    ),
+    (
+        "`as-add blocked 10.0.0.1, 10.0.0.2`",
+        "members and addresses stand with spaces between, and no commas",
+    ),
+    (
+        "`acl-add sw0 to-lport 1 ip4 DROP`",
+        "keywords are written in small letters, as drop and to-lport",
+    ),
+    (
+        "`--log acl-add sw0 to-lport 1 ip4 drop`",
+        "an ACL is a direction, a priority, a match and a verdict here: it has no name, log, meter, label and tier",
     ),
 ];

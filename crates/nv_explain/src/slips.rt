@@ -28,7 +28,7 @@ fn is_comment(case: &Case, cause: Option<Cause>) -> bool {
         return false;
     };
     match (case.told.code(), cause) {
-        (Code::WrongWords, Some(Cause::Count)) => true,
+        (Code::WrongWords, Some(Cause::TooFew | Cause::TooMany)) => true,
         (Code::BadName | Code::BadMac | Code::BadAddress, _) => number <= case.told.number(),
         _ => false,
     }
@@ -44,7 +44,7 @@ fn is_late_option(case: &Case, command: Option<&Command>, cause: Option<Cause>) 
         return false;
     };
     let is_late = match (case.told.code(), cause) {
-        (Code::WrongWords, Some(Cause::Count)) => true,
+        (Code::WrongWords, Some(Cause::TooFew | Cause::TooMany)) => true,
         (Code::BadName | Code::BadMac, _) => true,
         _ => false,
     };
@@ -81,14 +81,20 @@ fn wrong_keyword(text: &[u8]) -> Option<Slip> {
         b"accept" | b"permit" => Some(Slip::Accept),
         b"ingress" | b"in" | b"from" | b"inbound" => Some(Slip::Ingress),
         b"egress" | b"out" | b"to" | b"outbound" => Some(Slip::Egress),
-        _ => None,
+        _ => {
+            if text.iter().any(|byte| byte.is_ascii_uppercase()) {
+                Some(Slip::Capitals)
+            } else {
+                None
+            }
+        }
     }
 }
 
 fn wrong_word(case: &Case, command: &Command) -> Option<Slip> {
     let wrong = wrong_words(case, Some(command));
     match wrong.cause {
-        Cause::Count if has_open_match(command) => Some(Slip::UnquotedMatch),
+        Cause::TooMany if has_open_match(command) => Some(Slip::UnquotedMatch),
         Cause::Keyword => wrong_keyword(case.text(wrong.number)),
         _ => None,
     }
@@ -102,10 +108,19 @@ fn sets_a_list(command: &Command) -> bool {
     )
 }
 
+// Whether the word has a comma, in a list of addresses.
+fn has_comma(command: &Command, text: &[u8]) -> bool {
+    let is_in_list = sets_a_list(command)
+        || matches!(verb_in(command), Some(Verb::AsAdd | Verb::AsSet));
+    is_in_list && text.contains(&b',')
+}
+
 fn bad_mac(command: &Command, text: &[u8]) -> Option<Slip> {
     let is_address = read_ip4(text).is_ok() || read_prefix(text).is_ok();
     if is_address && sets_a_list(command) {
         Some(Slip::UnquotedList)
+    } else if has_comma(command, text) {
+        Some(Slip::Comma)
     } else if text.len() >= 17 && text.contains(&b'-') && !text.contains(&b':') {
         Some(Slip::MacSigns)
     } else {
@@ -114,6 +129,9 @@ fn bad_mac(command: &Command, text: &[u8]) -> Option<Slip> {
 }
 
 fn bad_address(command: &Command, text: &[u8]) -> Option<Slip> {
+    if has_comma(command, text) {
+        return Some(Slip::Comma);
+    }
     match verb_in(command) {
         Some(Verb::LspSetAddresses) if text.contains(&b'/') => Some(Slip::PrefixInList),
         _ => None,
@@ -223,12 +241,29 @@ fn has_icmp(text: &[u8]) -> bool {
         .any(|part| part == b"icmp".as_slice())
 }
 
-fn not_in_profile(text: &[u8]) -> Option<Slip> {
+// Whether the word is an option that ovn-nbctl takes before `acl-add`.
+fn is_acl_option(text: &[u8]) -> bool {
+    let name = text.split(|byte| *byte == b'=').next().unwrap_or(text);
+    matches!(
+        name,
+        b"--log"
+            | b"--name"
+            | b"--severity"
+            | b"--meter"
+            | b"--label"
+            | b"--tier"
+            | b"--apply-after-lb"
+    )
+}
+
+fn not_in_profile(command: &Command, text: &[u8]) -> Option<Slip> {
     match text {
         b"allow-related" => Some(Slip::AllowRelated),
         b"router" => Some(Slip::RouterAddress),
         _ => {
-            if !text.starts_with(b"-") && text.contains(&b':') {
+            if is_acl_option(text) && matches!(verb_in(command), Some(Verb::AclAdd)) {
+                Some(Slip::AclOption)
+            } else if !text.starts_with(b"-") && text.contains(&b':') {
                 Some(Slip::Ipv6)
             } else {
                 None
@@ -249,7 +284,7 @@ fn shown_by_code(
         Code::WrongWords => Ok(wrong_word(case, command)),
         Code::BadMac => Ok(bad_mac(command, text)),
         Code::BadAddress => Ok(bad_address(command, text)),
-        Code::NotInProfile => Ok(not_in_profile(text)),
+        Code::NotInProfile => Ok(not_in_profile(command, text)),
         Code::NoSuchObject => no_such_object(alloc, case, command),
         Code::Exists | Code::Duplicate if may_exist_helps(command) => Ok(Some(Slip::MayExist)),
         Code::MatchSyntax => bad_syntax(alloc, match_text(command), case.told.number()),

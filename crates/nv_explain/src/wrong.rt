@@ -52,11 +52,17 @@ fn name_number(command: &Command) -> usize {
     (command.first as usize).saturating_add(option_count(command.words.as_slice()))
 }
 
-// The number of the first word that is too much, or else that of the command's name.
-fn surplus_number(command: &Command, most: Option<usize>) -> usize {
+// What is wrong of the count of words where so many may stand: the first that is too much shows it, or else the command's name.
+fn wrong_count(command: &Command, most: Option<usize>) -> Wrong {
     match most {
-        Some(most) if most < arguments(command).len() => argument_number(command, most),
-        _ => name_number(command),
+        Some(most) if most < arguments(command).len() => Wrong {
+            cause: Cause::TooMany,
+            number: argument_number(command, most),
+        },
+        _ => Wrong {
+            cause: Cause::TooFew,
+            number: name_number(command),
+        },
     }
 }
 
@@ -73,10 +79,7 @@ fn most_of(question: Question) -> usize {
 fn wrong_edit(command: &Command, verb: Verb) -> Wrong {
     let words = arguments(command);
     if !takes_count(verb, words.len()) {
-        return Wrong {
-            cause: Cause::Count,
-            number: surplus_number(command, most_words(verb)),
-        };
+        return wrong_count(command, most_words(verb));
     }
     match first_no_keyword(verb, words) {
         Some(place) => Wrong {
@@ -110,10 +113,7 @@ fn wrong_query(command: &Command, question: Question, is_alone: bool) -> Wrong {
             number: command.first as usize,
         }
     } else {
-        Wrong {
-            cause: Cause::Count,
-            number: surplus_number(command, Some(most_of(question))),
-        }
+        wrong_count(command, Some(most_of(question)))
     }
 }
 
@@ -130,10 +130,7 @@ fn wrong_command(case: &Case, command: &Command) -> Wrong {
         (None, Some(Task::Query(question))) => {
             wrong_query(command, question, case.commands.len() == 1)
         }
-        _ => Wrong {
-            cause: Cause::Count,
-            number: name_number(command),
-        },
+        _ => wrong_count(command, None),
     }
 }
 

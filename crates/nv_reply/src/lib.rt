@@ -5,7 +5,6 @@ mod answer;
 mod events;
 mod laws;
 mod listing;
-mod objects;
 mod reply;
 mod session;
 mod stop;

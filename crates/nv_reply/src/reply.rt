@@ -12,7 +12,6 @@ ghost use Rattle.nv_base.specs.Object.{number_limit};
 
 use crate::answer::Answer;
 use crate::events::put_events;
-use crate::objects::objects;
 use crate::session::Session;
 use nb_cmds::{Line, Query, read_line};
 use nb_dump::put_dump;
@@ -95,7 +94,7 @@ fn list_datapath(session: &Session, name: Name, out: &mut Vec<u8>) -> Result<Ans
 fn dump(session: &Session, out: &mut Vec<u8>) -> Result<Answer, OutOfMemory>
     ensures { IfOk result (λ answer. IsAnswered (reply_to_query session.now Query.Dump) out.old.items out.new.items answer) }
 {
-    put_dump(out, &objects(session.records()))?;
+    put_dump(out, session.records())?;
     accept(out)
 }
 

@@ -87,8 +87,9 @@ impl Session {
         ensures refused { IfErr result (λ fault. IsFaultOf (edited self.old.network edits) fault) }
         ensures same { OnErr result (self.new ≡ self.old) }
     {
-        self.tables.apply_all(alloc, edits)?;
-        self.rows = None;
+        if self.tables.apply_all(alloc, edits)? {
+            self.rows = None;
+        }
         Ok(())
     }
 

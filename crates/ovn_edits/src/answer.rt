@@ -1,10 +1,9 @@
 use crate::choice::put_deciding;
 use crate::counts::put_counts;
 use crate::edits::readable_edits;
-use crate::room::has_room;
 use nb_check::Tables;
-use nb_dump::{Objects, put_dump};
-use nb_store::Records;
+use nb_dump::put_dump;
+use nb_show::put_network;
 use nb_words::{Command, LineFault, Word, read_commands};
 use nv_base::OutOfMemory;
 use std::alloc::Global;
@@ -13,6 +12,8 @@ use std::alloc::Global;
 enum Query<'c> {
     // The network as a script.
     Dump,
+    // The network as ovn-nbctl(8) shows it.
+    Show,
     // How much there is of each kind.
     Count,
     // Which ACLs of a switch decide on a packet from one MAC to another.
@@ -30,6 +31,7 @@ fn query_of(commands: &[Command]) -> Option<Query> {
     };
     match command.words.as_slice() {
         [word] if is_word(word, b"dump") => Some(Query::Dump),
+        [word] if is_word(word, b"show") => Some(Query::Show),
         [word] if is_word(word, b"count") => Some(Query::Count),
         [word, switch, source, destination] if is_word(word, b"deciding") => {
             Some(Query::Deciding {
@@ -54,7 +56,8 @@ fn put_query(
     query: Query,
 ) -> Result<(), LineFault> {
     match query {
-        Query::Dump => Ok(put_records(out, tables.records())?),
+        Query::Dump => Ok(put_dump(out, tables.records())?),
+        Query::Show => Ok(put_network(alloc, out, tables.records())?),
         Query::Count => Ok(put_counts(alloc, tables, out)?),
         Query::Deciding {
             switch,
@@ -62,27 +65,6 @@ fn put_query(
             destination,
         } => put_deciding(alloc, tables, out, switch, source, destination),
     }
-}
-
-// Appends the network as a script.
-fn put_records(out: &mut Vec<u8>, records: &Records) -> Result<(), OutOfMemory> {
-    put_dump(
-        out,
-        &Objects {
-            switches: records.switches(),
-            ports: records.ports(),
-            routers: records.routers(),
-            router_ports: records.router_ports(),
-            routes: records.routes(),
-            nats: records.nats(),
-            lbs: records.lbs(),
-            acls: records.acls(),
-            sets: records.sets(),
-            groups: records.groups(),
-            bindings: records.bindings(),
-            next: records.next(),
-        },
-    )
 }
 
 // Does what the line asks for, and appends its answer but for a refusal.
@@ -101,7 +83,7 @@ fn run_line(
         put_query(alloc, tables, out, query)?;
     } else {
         let edits = readable_edits(alloc, commands)?;
-        if !has_room(tables.records().next(), edits.as_slice().len()) {
+        if !tables.records().has_room(edits.as_slice().len()) {
             // No numbers are left.
             return Err(LineFault::Memory);
         }

@@ -1,13 +1,13 @@
 //! `ovn_edits`: reads a script of editing commands on standard input, does what each line asks for, and answers each by `ok` or by its
-//! refusal; `dump` alone in a line is answered by the network, as the script that makes it, `count` by how much there is of each kind,
-//! and `deciding` before a switch and two MACs by the ACL that decides in each direction on a packet from the first to the second.
+//! refusal; `dump` alone in a line is answered by the network, as the script that makes it, `show` by the network as ovn-nbctl(8) shows
+//! it, `count` by how much there is of each kind, and `deciding` before a switch and two MACs by the ACL that decides in each direction
+//! on a packet from the first to the second.
 #![tactic(auto)]
 
 mod answer;
 mod choice;
 mod counts;
 mod edits;
-mod room;
 
 use answer::put_answer;
 use nb_check::Tables;

@@ -1,3 +1,4 @@
+use crate::joined::{Joined, Told};
 use crate::kept::Doubled;
 use crate::script::{Fault, read_delta, read_key};
 use inc_table::{Change, NodeState, Owned, Report};
@@ -7,11 +8,13 @@ use std::alloc::Global;
 /// How many entries are written one by one.
 const WRITTEN: usize = 8;
 
-/// Two nodes that double: one that makes all anew at a delta of more than 2 keys, and one at a delta of more than 1,024.
+/// Two nodes that double: one that makes all anew at a delta of more than 2 keys, and one at a delta of more than 1,024. And one that
+/// joins.
 #[derive(Drop)]
 pub(crate) struct Nodes {
     few: Doubled<2>,
     many: Doubled<1024>,
+    join: Joined,
 }
 
 impl Nodes {
@@ -19,6 +22,7 @@ impl Nodes {
         Nodes {
             few: Doubled::new(alloc, 0),
             many: Doubled::new(alloc, 0),
+            join: Joined::new(alloc, 0),
         }
     }
 
@@ -40,6 +44,8 @@ impl Nodes {
             answer(alloc, out, &mut self.few, &words[1..])
         } else if words[0] == b"map1024".as_slice() {
             answer(alloc, out, &mut self.many, &words[1..])
+        } else if words[0] == b"join".as_slice() {
+            answer_join(alloc, out, &mut self.join, &words[1..])
         } else {
             Err(Fault::Word(1))
         };
@@ -79,6 +85,51 @@ fn answer<const FALL: usize>(
         put_table(out, doubled.node.table())?;
     } else if command == b"state".as_slice() {
         put_state(out, doubled.node.state())?;
+    } else {
+        return Err(Fault::Word(2));
+    }
+    Ok(())
+}
+
+// The same, of the node that joins.
+fn answer_join(
+    alloc: Global,
+    out: &mut Vec<u8>,
+    joined: &mut Joined,
+    words: &[&[u8]],
+) -> Result<(), Fault> {
+    if words.is_empty() {
+        return Err(Fault::Word(2));
+    }
+    let command = words[0];
+    if command == b"left".as_slice() {
+        let delta = read_delta(alloc, &words[1..], 3)?;
+        put_told(out, &joined.change_left(delta)?)?;
+    } else if command == b"right".as_slice() {
+        let delta = read_delta(alloc, &words[1..], 3)?;
+        put_told(out, &joined.change_right(delta)?)?;
+    } else if command == b"start".as_slice() {
+        *joined = Joined::new(alloc, read_refused(&words[1..])?);
+        put_text(out, b"started")?;
+    } else if words.len() > 1 {
+        return Err(Fault::Word(3));
+    } else {
+        return ask_join(out, joined, command);
+    }
+    Ok(())
+}
+
+// Does what a command of one word says, of the node that joins.
+fn ask_join(out: &mut Vec<u8>, joined: &mut Joined, command: &[u8]) -> Result<(), Fault> {
+    if command == b"rebuild".as_slice() {
+        joined.rebuild()?;
+        put_text(out, b"joined anew")?;
+    } else if command == b"settle".as_slice() {
+        put_count(out, b"made ", joined.settle()?)?;
+    } else if command == b"table".as_slice() {
+        put_joined(out, joined.node.table())?;
+    } else if command == b"state".as_slice() {
+        put_state(out, joined.node.state())?;
     } else {
         return Err(Fault::Word(2));
     }
@@ -137,15 +188,50 @@ fn put_entry(out: &mut Vec<u8>, key: u32, value: u64) -> Result<(), OutOfMemory>
 // The entries, or the first ones and how many there are.
 fn put_table(out: &mut Vec<u8>, table: &Owned<u32, u64>) -> Result<(), OutOfMemory> {
     put_count(out, b"entries: ", table.len() as u64)?;
-    let mut last = None;
-    for _ in 0..WRITTEN {
-        let Some((key, value)) = table.first_after(last) else {
-            return Ok(());
-        };
+    for (key, value) in table.iter().take(WRITTEN) {
         put_entry(out, *key, *value)?;
-        last = Some(key);
     }
-    if table.first_after(last).is_some() {
+    if table.len() > WRITTEN {
+        out.extend_from_slice(b" ..")?;
+    }
+    Ok(())
+}
+
+// What changed in a table of joined entries.
+fn put_told(out: &mut Vec<u8>, told: &Told) -> Result<(), OutOfMemory> {
+    out.extend_from_slice(b"changed")?;
+    let changes = told.as_slice();
+    if changes.len() > WRITTEN {
+        return put_count(out, b" keys: ", changes.len() as u64);
+    }
+    for (key, change) in changes {
+        match change {
+            Change::Put(entry) => put_pair(out, *key, entry)?,
+            Change::Gone => put_count(out, b" -", u64::from(*key))?,
+        }
+    }
+    Ok(())
+}
+
+// A key with its left value, and with the right value that this names, or `-`.
+fn put_pair(out: &mut Vec<u8>, key: u32, entry: &(u32, Option<u32>)) -> Result<(), OutOfMemory> {
+    put_entry(out, key, u64::from(entry.0))?;
+    match entry.1 {
+        None => put_text(out, b":-"),
+        Some(right) => put_count(out, b":", u64::from(right)),
+    }
+}
+
+// The joined entries, or the first ones and how many there are.
+fn put_joined(
+    out: &mut Vec<u8>,
+    table: &Owned<u32, (u32, Option<u32>)>,
+) -> Result<(), OutOfMemory> {
+    put_count(out, b"entries: ", table.len() as u64)?;
+    for (key, entry) in table.iter().take(WRITTEN) {
+        put_pair(out, *key, entry)?;
+    }
+    if table.len() > WRITTEN {
         out.extend_from_slice(b" ..")?;
     }
     Ok(())

@@ -45,8 +45,11 @@ impl<const FALL: usize> Doubled<FALL> {
     }
 }
 
-// Applies a delta to the inputs that a node should have.
-fn keep(inputs: &mut Owned<u32, u32>, delta: &Delta<u32, u32>) -> Result<(), OutOfMemory> {
+/// Applies a delta to the inputs that a node should have.
+pub(crate) fn keep(
+    inputs: &mut Owned<u32, u32>,
+    delta: &Delta<u32, u32>,
+) -> Result<(), OutOfMemory> {
     for entry in delta.as_slice() {
         match &entry.1 {
             Change::Put(value) => inputs.set(&entry.0, *value)?,

@@ -4,7 +4,9 @@
 
 mod answer;
 mod doubler;
+mod joined;
 mod kept;
+mod names;
 mod script;
 
 use answer::Nodes;

@@ -1,5 +1,5 @@
 -- Where the pipelines do their parts, the rows do what the network means.
-use Rattle.std.proofs.Common.{◌≡◌, sym, ap, refl, ◌∙◌, subst}
+use Rattle.std.proofs.Common.{◌≡◌, ℕ, List, map, sym, ap, refl, ◌∙◌, subst}
 use Rattle.std.specs.Prelude.{Option, Some, option_map}
 use Rattle.std.specs.List.{Contains}
 use Rattle.nv_base.specs.declared.object.ObjId.{ObjId}
@@ -10,11 +10,14 @@ use Rattle.nb_model.specs.Network.{Network}
 use Rattle.nb_model.specs.Sound.{IsSound}
 use Rattle.net_meaning.specs.Places.{switch_port}
 use Rattle.net_meaning.specs.Stateless.{IsStateless}
-use Rattle.net_meaning.specs.Switches.{arriving_at, leaving_by, let_out, at_port, direct_parts}
-use Rattle.net_meaning.specs.Walk.{Passed, carrying}
+use Rattle.net_meaning.specs.Switches.{arriving_at, leaving_by, let_out, at_port, direct_parts, meaning}
+use Rattle.net_meaning.specs.Walk.{Passed, carrying, events}
 use Rattle.tr_stage.specs.declared.outcome.Hit.{Hit}
-use Rattle.tr_walk.specs.Machine.{ingress, egress, pipelines}
-use Rattle.tr_walk.specs.Refined.{IsIngress, IsEgress, IsLate, IsRefined}
+use Rattle.tr_walk.specs.Events.{event_of, without_hits}
+use Rattle.tr_walk.specs.Machine.{State, ingress, egress, machine, pipelines}
+use Rattle.tr_walk.specs.declared.event.Event.{Event}
+use Rattle.tr_walk.specs.Refined.{IsIngress, IsEgress, IsLate, AreMeant, IsRefined}
+use Rattle.tr_walk.proofs.Hits.{left_out}
 use Rattle.tr_walk.proofs.Congruence.{IsPort, IsKept, SamePart, SameParts, walks_alike}
 use Rattle.tr_walk.proofs.Pipelines as pipes
 use Rattle.tr_walk.proofs.StageLaws.{stage_laws}
@@ -67,3 +70,12 @@ module _ (net : Network) (sound : IsSound net) (stateless : IsStateless net) whe
 -- so it is of each sound network without connections
 pub stateless_refined : (net : Network) → IsSound net → IsStateless net → IsRefined net
 stateless_refined net sound stateless = refined net sound stateless (pipes.of_ingress stage_laws net sound stateless) (pipes.of_egress stage_laws net sound stateless) (pipes.of_late stage_laws net sound stateless)
+
+-- and so are the events that are told of its walks
+pub told_meant : (net : Network) → IsSound net → (hops : ℕ) (port : ObjId) (packet : Values) (all : List Event) → all ≡ map event_of (machine {S = State} net hops port packet tt).told
+    → IsStateless net → AreMeant net hops port packet all
+told_meant net sound hops port packet all told stateless arrival there is formed =
+    ap without_hits told
+    ∙ left_out (machine {S = State} net hops port packet tt).told
+    ∙ subst (λ (number : ObjId). events (machine {S = State} net hops number packet tt).told ≡ events (meaning {S = State} net hops number packet tt).told) is
+    (stateless_refined net sound stateless hops arrival packet tt there formed).told

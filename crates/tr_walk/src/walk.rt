@@ -14,7 +14,7 @@ ghost use Rattle.net_meaning.specs.Walk.Target.{Ports};
 ghost use Rattle.net_rows.specs.Build as build;
 ghost use Rattle.tr_walk.specs.Events.{event_of};
 ghost use Rattle.tr_walk.specs.Machine.{State, machine, numbered, target_of};
-ghost use Rattle.tr_walk.specs.Refined.{IsRefined};
+ghost use Rattle.tr_walk.specs.Refined.{AreMeant};
 ghost use Rattle.tr_walk.specs.Runnable.{AreRunnable};
 ghost use Rattle.tr_walk.specs.inner.Telling.{AreRowsOf, table_for, entering, arriving, sending, leaving, going_out, delivering, answering};
 
@@ -37,7 +37,6 @@ const FEW: usize = 32;
 /// What is told of a packet that comes in by a port and may take so many hops: a hit for each row that acts, and what becomes of the
 /// packet and of its copies and answers, each to its end before the next (ovn-trace(8)). The network is sound, and the rows are its own,
 /// such that each packet comes to an end in them. Where memory runs out the answer is `OutOfMemory`.
-#[tactic(auto, using(crate::proofs::Refinement::stateless_refined))]
 pub fn trace(
     alloc: Global,
     rows: &Rows,
@@ -50,7 +49,7 @@ pub fn trace(
     requires rows { rows.now ≡ build.rows records.now }
     requires run { AreRunnable records.now }
     ensures events { IfOk result (λ events. events.items ≡ map event_of (machine {S = State} records.now hops port packet.now tt).told) }
-    ensures refinement { OnOk result (IsStateless records.now → IsRefined records.now) }
+    ensures refinement { IfOk result (λ events. IsStateless records.now → AreMeant records.now hops port packet.now events.items) }
 {
     let mut events = Vec::with_capacity(alloc, FEW)?;
     let flows = Flows {

@@ -270,3 +270,7 @@ tag (tag_of.Says a0 a1) (tag_of.Says b0 b1) e =
     let at0 = and_parts _ _ e in
     ap (λ x. tag_of.Says x a1) (tells.object _ _ at0.0) ∙ ap (λ x. tag_of.Says b0 x) (rule _ _ at0.1)
 tag (tag_of.Says a0 a1) _ e = absurd (false≢true e)
+tag (tag_of.Has a) (tag_of.Has b) e = ap tag_of.Has (tells.address _ _ e)
+tag (tag_of.Has a) _ e = absurd (false≢true e)
+tag tag_of.HasMany tag_of.HasMany e = refl
+tag tag_of.HasMany _ e = absurd (false≢true e)

@@ -5,10 +5,10 @@ use Rattle.std.specs.Option.{option_map}
 use Rattle.nv_map.specs.Map.{value_at}
 use Rattle.nv_map.proofs.Values.{exact_order}
 use Rattle.inc_table.specs.declared.delta.Change.{Change}
-use Rattle.inc_table.specs.Delta.{IsAbove, IsApplied, IsDifference, change_between, told_at}
+use Rattle.inc_table.specs.Delta.{IsAbove, IsApplied, IsDifference, change_between, change_to, told_at}
 use Rattle.inc_table.specs.Maker.{more_made}
 use Rattle.inc_table.specs.Node.{is_put}
-use Rattle.inc_table.specs.inner.Walk.{change_to, made_one}
+use Rattle.inc_table.specs.inner.Walk.{made_one}
 use Rattle.inc_table.proofs.Counted.{counted_more}
 use Rattle.inc_table.proofs.Ends.{above_turn, above_append, above_front, above_end}
 use Rattle.inc_table.proofs.Outputs.{applied_value, left_to, outputs_more, same_outputs, value_outputs}

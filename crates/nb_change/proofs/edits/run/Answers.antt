@@ -20,19 +20,19 @@ pub returns-in-LspDel-clause-ok : goal.returns-in-LspDel-clause-ok
 returns-in-LspDel-clause-ok c = rw c.in-LspDel.is c.lsp_del.ensures.ok
 
 pub returns-in-LspSetAddresses-clause-ok : goal.returns-in-LspSetAddresses-clause-ok
-returns-in-LspSetAddresses-clause-ok c = rw c.in-LspSetAddresses.is c.lsp_set_addresses.ensures.ok
+returns-in-LspSetAddresses-clause-ok c = rw c.in-LspSetAddresses.is c.lsp_set.ensures.ok
 
 pub returns-in-LspSetPortSecurity-clause-ok : goal.returns-in-LspSetPortSecurity-clause-ok
-returns-in-LspSetPortSecurity-clause-ok c = rw c.in-LspSetPortSecurity.is c.lsp_set_port_security.ensures.ok
+returns-in-LspSetPortSecurity-clause-ok c = rw c.in-LspSetPortSecurity.is c.lsp_set-in-LspSetPortSecurity.ensures.ok
 
 pub returns-in-LspSetType-clause-ok : goal.returns-in-LspSetType-clause-ok
-returns-in-LspSetType-clause-ok c = rw c.in-LspSetType.is c.lsp_set_type.ensures.ok
+returns-in-LspSetType-clause-ok c = rw c.in-LspSetType.is c.lsp_set-in-LspSetType.ensures.ok
 
 pub returns-in-LspSetOptions-clause-ok : goal.returns-in-LspSetOptions-clause-ok
-returns-in-LspSetOptions-clause-ok c = rw c.in-LspSetOptions.is c.lsp_set_options.ensures.ok
+returns-in-LspSetOptions-clause-ok c = rw c.in-LspSetOptions.is c.lsp_set-in-LspSetOptions.ensures.ok
 
 pub returns-in-LspSetEnabled-clause-ok : goal.returns-in-LspSetEnabled-clause-ok
-returns-in-LspSetEnabled-clause-ok c = rw c.in-LspSetEnabled.is c.lsp_set_enabled.ensures.ok
+returns-in-LspSetEnabled-clause-ok c = rw c.in-LspSetEnabled.is c.lsp_set-in-LspSetEnabled.ensures.ok
 
 pub returns-in-LrpSetEnabled-clause-ok : goal.returns-in-LrpSetEnabled-clause-ok
 returns-in-LrpSetEnabled-clause-ok c = rw c.in-LrpSetEnabled.is c.lrp_set_enabled.ensures.ok

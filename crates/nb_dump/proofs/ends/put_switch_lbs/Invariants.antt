@@ -6,4 +6,4 @@ use Rattle.nb_dump.proofs.ends.put_switch_lbs.Given as goal
 
 -- the commands of the load balancers so far come after what was there
 abbrev pub invariant-loop-lb : goal.invariant-loop-lb
-invariant-loop-lb l = l.out.items ≡ l.fn.out.items ++ script (map (λ lb. edit.LsLbAdd l.switch.name (lb_name l.objects lb) false) (take l.lb-index l.switch.lbs))
+invariant-loop-lb l = l.out.items ≡ l.fn.out.items ++ script (map (λ lb. edit.LsLbAdd l.switch.name (lb_name l.records lb) false) (take l.lb-index l.switch.lbs))

@@ -6,10 +6,10 @@ use Rattle.nb_dump.proofs.parts.put_datapath.Goals as goal
 
 pub returns-clause-ok : goal.returns-clause-ok
 returns-clause-ok c =
-    let switches : c.objects.inside.switches.now ≡ c.args.objects.now.switches = ap (λ (net : Network). net.switches) c.objects.view_is in
-    let ports : c.objects.inside.ports.now ≡ c.args.objects.now.ports = ap (λ (net : Network). net.ports) c.objects.view_is in
-    let routers : c.objects.inside.routers.now ≡ c.args.objects.now.routers = ap (λ (net : Network). net.routers) c.objects.view_is in
-    let router_ports : c.objects.inside.router_ports.now ≡ c.args.objects.now.router_ports = ap (λ (net : Network). net.router_ports) c.objects.view_is in
+    let switches = c.switches.ensures in
+    let ports = c.ports.ensures in
+    let routers = c.routers.ensures in
+    let router_ports = c.router_ports.ensures in
     let switches' = rw switches at c.in_ok-put_record.ensures.ok in
     let ports' = rw ports at c.in_ok-put_record-2.ensures.ok in
     let routers' = rw routers at c.in_ok-put_record-3.ensures.ok in

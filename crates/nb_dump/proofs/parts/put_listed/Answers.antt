@@ -6,9 +6,9 @@ use Rattle.nb_dump.proofs.parts.put_listed.Goals as goal
 
 pub returns-clause-ok : goal.returns-clause-ok
 returns-clause-ok c =
-    let sets : c.objects.inside.sets.now ≡ c.args.objects.now.sets = ap (λ (net : Network). net.sets) c.objects.view_is in
-    let groups : c.objects.inside.groups.now ≡ c.args.objects.now.groups = ap (λ (net : Network). net.groups) c.objects.view_is in
-    let bindings : c.objects.inside.bindings.now ≡ c.args.objects.now.bindings = ap (λ (net : Network). net.bindings) c.objects.view_is in
+    let sets = c.sets.ensures in
+    let groups = c.groups.ensures in
+    let bindings = c.bindings.ensures in
     let sets' = rw sets at c.in_ok-put_record.ensures.ok in
     let groups' = rw groups at c.in_ok-put_record-2.ensures.ok in
     let bindings' = rw bindings at c.in_ok-put_record-3.ensures.ok in

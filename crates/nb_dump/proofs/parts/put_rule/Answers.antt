@@ -6,10 +6,10 @@ use Rattle.nb_dump.proofs.parts.put_rule.Goals as goal
 
 pub returns-clause-ok : goal.returns-clause-ok
 returns-clause-ok c =
-    let routes : c.objects.inside.routes.now ≡ c.args.objects.now.routes = ap (λ (net : Network). net.routes) c.objects.view_is in
-    let nats : c.objects.inside.nats.now ≡ c.args.objects.now.nats = ap (λ (net : Network). net.nats) c.objects.view_is in
-    let lbs : c.objects.inside.lbs.now ≡ c.args.objects.now.lbs = ap (λ (net : Network). net.lbs) c.objects.view_is in
-    let acls : c.objects.inside.acls.now ≡ c.args.objects.now.acls = ap (λ (net : Network). net.acls) c.objects.view_is in
+    let routes = c.routes.ensures in
+    let nats = c.nats.ensures in
+    let lbs = c.lbs.ensures in
+    let acls = c.acls.ensures in
     let routes' = rw routes at c.in_ok-put_record.ensures.ok in
     let nats' = rw nats at c.in_ok-put_record-2.ensures.ok in
     let lbs' = rw lbs at c.in_ok-put_record-3.ensures.ok in

@@ -1,30 +1,18 @@
-use Rattle.std.proofs.Common.{◌++◌, ◌∷◌, [], sym, ap, ◌∙◌}
-use Rattle.std.specs.Option.{option_copied}
-use Rattle.nv_map.proofs.Parted.{pair_of}
-use Rattle.nv_map.proofs.Values.{exact_order}
-use Rattle.inc_table.proofs.Walks.{all_left, front_below, front_more, fewer_found, front_whole}
+use Rattle.std.proofs.Common.{◌∙◌}
+use Rattle.std.specs.Map.Iter.{deref_pair}
+use Rattle.std.proofs.lemmas.Map.Iter.{iter_end}
+use Rattle.inc_table.proofs.Gone.{split_at, above_gone, copied_more}
 use Rattle.inc_table.proofs.owned.Owned.copy.Goals as goal
-
-pub loop-key-init : goal.loop-key-init
-loop-key-init g c = rw c.new-copied.ensures (sym (all_left g.K.Ord.cmp c.args.self.now))
 
 pub put-requires : goal.put-requires
 put-requires g c =
-    let exact = exact_order g.K.PartialEq.eq g.K.Ord.cmp g.met.K.Ord.matches_eq g.met.K.Kept.exact in
-    rw c.in_ok-copy.ensures (front_below g.met.K.Ord.total exact (option_copied c.loop-key.last) c.args.self.now c.loop-key.copied (c.in-Some.key.now, c.in-Some.value.now) c.first_after.ensures.rise c.loop-key.invariant (sym c.in-Some.ensures.entry))
-
-pub loop-key-smaller : goal.loop-key-smaller
-loop-key-smaller g c =
-    let exact = exact_order g.K.PartialEq.eq g.K.Ord.cmp g.met.K.Ord.matches_eq g.met.K.Kept.exact in
-    fewer_found g.met.K.Ord.total exact (option_copied c.loop-key.last) c.args.self.now (c.in-Some.key.now, c.in-Some.value.now) c.first_after.ensures.rise (sym c.in-Some.ensures.entry)
+    let split = split_at c.args.self.now c.into_iter-key-iterator.result c.loop-key.key-iterator c.next.new.self c.loop-key.yielded c.next.result (c.in-Some.key, c.in-Some.value) (c.into_iter-key-iterator.ensures.into_iter_gives ∙ c.iter-key-items.ensures.entries) c.loop-key.yielded_by c.in-Some.is c.next.ensures.steps in
+    above_gone g.K.Ord.cmp c.args.self.now c.next.new.self c.loop-key.copied c.loop-key.yielded (c.in-Some.key, c.in-Some.value) c.in_ok-copy.field-0 c.iter-key-items.ensures.rise split c.loop-key.invariant c.in_ok-copy.ensures
 
 pub loop-key-preserved : goal.loop-key-preserved
-loop-key-preserved g c =
-    let exact = exact_order g.K.PartialEq.eq g.K.Ord.cmp g.met.K.Ord.matches_eq g.met.K.Kept.exact in
-    front_more g.met.K.Ord.total exact (option_copied c.loop-key.last) c.args.self.now c.loop-key.copied c.put.new.self (c.in-Some.key.now, c.in-Some.value.now) c.first_after.ensures.rise c.loop-key.invariant (sym c.in-Some.ensures.entry)
-    (c.in_ok-put.ensures.ok ∙ ap (λ (e : g.row.K.Denot × g.row.V.Denot). c.loop-key.copied ++ e ∷ []) (pair_of c.in_ok-copy.ensures c.in_ok-copy-2.ensures))
+loop-key-preserved g c = copied_more c.loop-key.copied c.put.new.self c.loop-key.yielded (c.in-Some.key, c.in-Some.value) c.in_ok-copy.field-0 c.in_ok-copy-2.field-0 c.loop-key.invariant c.in_ok-copy.ensures c.in_ok-copy-2.ensures c.in_ok-put.ensures.ok
 
 pub returns : goal.returns
 returns g c =
-    let exact = exact_order g.K.PartialEq.eq g.K.Ord.cmp g.met.K.Ord.matches_eq g.met.K.Kept.exact in
-    sym (front_whole g.met.K.Ord.total exact (option_copied c.loop-key.last) c.args.self.now c.loop-key.copied c.loop-key.invariant (sym c.in_default.ensures.entry))
+    c.loop-key.invariant
+    ∙ (iter_end deref_pair c.args.self.now c.loop-key.yielded c.into_iter-key-iterator.result c.loop-key.key-iterator c.next.new.self c.next.result (c.into_iter-key-iterator.ensures.into_iter_gives ∙ c.iter-key-items.ensures.entries) c.loop-key.yielded_by c.in-None.is c.next.ensures.steps).0

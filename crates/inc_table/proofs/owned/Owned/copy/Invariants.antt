@@ -1,11 +1,7 @@
-use Rattle.std.proofs.Common.{◌≡◌, ◌++◌, length}
-use Rattle.std.specs.Option.{option_copied}
-use Rattle.inc_table.specs.inner.Walk.{left_after}
+use Rattle.std.proofs.Common.{◌≡◌, map}
+use Rattle.std.specs.Map.Iter.{deref_pair}
 use Rattle.inc_table.proofs.owned.Owned.copy.Given as goal
 
--- what is copied, and what is left, are all
+-- what is gone through is copied
 abbrev pub invariant-loop-key : goal.invariant-loop-key
-invariant-loop-key g l = l.self ≡ l.copied ++ left_after g.K.Ord.cmp (option_copied l.last) l.self
-
-abbrev pub decreases-loop-key : goal.decreases-loop-key
-decreases-loop-key g l = length (left_after g.K.Ord.cmp (option_copied l.last) l.self)
+invariant-loop-key g l = l.copied ≡ map deref_pair l.yielded

@@ -1,0 +1,6 @@
+pub mod Changes
+pub mod Entry
+pub mod Look
+pub mod Neighbours
+pub mod Translation
+pub mod inner

@@ -1,0 +1,3 @@
+mod Indexed
+mod Numbered
+mod Removed

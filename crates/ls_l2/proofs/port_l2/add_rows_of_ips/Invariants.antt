@@ -1,9 +1,0 @@
-use Rattle.std.proofs.Common.{◌≡◌, ◌++◌, take}
-use Rattle.std.specs.List.{flat_map}
-use Rattle.net_rows.specs.Lookup.{arp_rules}
-use Rattle.net_rows.specs.Unit.{said_by}
-use Rattle.ls_l2.proofs.port_l2.add_rows_of_ips.Given as goal
-
--- the rows for the addresses so far are after what was there
-abbrev pub invariant-loop-ip : goal.invariant-loop-ip
-invariant-loop-ip l = l.rows ≡ l.initial.rows ++ said_by l.unit (flat_map (arp_rules l.name l.mac) (take l.ip-index l.ips))

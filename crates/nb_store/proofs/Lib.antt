@@ -6,4 +6,5 @@ pub mod Owned
 pub mod Peering
 pub mod Pieces
 pub mod PlacedRecords
+pub mod Reached
 pub mod Steps

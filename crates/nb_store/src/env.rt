@@ -1,17 +1,18 @@
 //! What matches look up in the tables.
-ghost use Rattle.std.specs.Prelude.{◌≡◌, ◌==◌, refl};
+ghost use Rattle.std.specs.Prelude.{◌≡◌, ◌==◌, ◌&&◌, find, refl};
 ghost use Rattle.std.specs.List.{list_any};
 ghost use Rattle.std.specs.Option.{option_copied};
 ghost use Rattle.nb_model.specs.Addresses.{size_of};
-ghost use Rattle.nb_model.specs.Names.{names, is_member, has_address, group_has, group_has_address};
-ghost use Rattle.nb_model.specs.Readable.{ips_of};
-ghost use Rattle.nb_store.specs.inner.Listed.{before, is_it};
-ghost use Rattle.nv_table.specs.Table.{record_of};
+ghost use Rattle.nb_model.specs.Names.{names, is_member, group_has, group_has_address};
+ghost use Rattle.nb_records.specs.Tags.{ips_of, port_tags};
+ghost use Rattle.nb_store.specs.inner.Listed.{before, is_it, lists, has_ip};
+ghost use Rattle.nv_table.specs.Table.{has_tag, is_after, NumbersRise};
 
 use crate::records::Records;
 use expr_core::Env;
-use nb_records::{Addr, Group, Member};
+use nb_records::{Addr, Group, HasValue, Member, Port, Tag};
 use nv_base::{Name, ObjId, Prefix};
+use nv_map::Probe;
 
 impl Env for Records {
     ghost lookup = { names };
@@ -46,43 +47,72 @@ impl Env for Records {
 }
 
 impl Records {
-    // Whether the port is in the group of this name: whether, of the groups that have the port, it is the first from its number on.
-    // However many ports it has, this is two look-ups.
+    // Whether the port is in the group of this name.
     fn group_has(&self, name: &[u8], port: ObjId) -> bool
         ensures { result ≡ group_has self.now name.now port }
     {
-        let Some(group) = self.group_of(name) else {
-            return false;
-        };
-        is_it(group.id, self.group_with(port, before(group.id)))
+        match self.group_of(name) {
+            Some(group) => self.lists(group.id, port),
+            None => false,
+        }
     }
 
-    // Whether the address is that of a port of the group of this name.
+    // Whether the group of a number lists the port: whether, of the groups that do, it is the first from its number on. However many
+    // ports it has, this is a look-up.
+    fn lists(&self, group: ObjId, port: ObjId) -> bool
+        ensures { result ≡ lists self.now.groups group port }
+    {
+        is_it(group, self.group_with(port, before(group)))
+    }
+
+    // Whether the address is that of a port of the group of this name. However many ports it has, only those are looked at that have
+    // the address, or more addresses than are told one by one.
     fn group_has_address(&self, name: &[u8], value: u128) -> bool
         ensures { result ≡ group_has_address self.now name.now value }
     {
         match self.group_of(name) {
-            Some(group) => self.have_address(group.ports.as_slice(), value),
+            Some(group) => self.lists_address(group.id, value),
             None => false,
         }
     }
 
-    // Whether one of these ports has the address.
-    fn have_address(&self, ports: &[ObjId], value: u128) -> bool
-        ensures { result ≡ list_any (λ number. has_address value (record_of (λ port. port.id) number self.now.ports)) ports.now }
+    // Whether the group of a number lists a port that has the address.
+    fn lists_address(&self, group: ObjId, value: u128) -> bool
+        ensures listed { result ≡ list_any (λ port. lists self.now.groups group port.id && has_ip value port) self.now.ports }
+        ensures rise { NumbersRise (λ port. port.id) self.now.ports }
     {
-        ports.iter().any(|port| self.has_address(*port, value))
+        self.lists_tagged(group, &HasValue(value), value)
+            || self.lists_tagged(group, &Tag::HasMany, value)
     }
 
-    // Whether the port has the address.
-    #[tactic(auto, using(crate::proofs::Pieces::any_of_pieces))]
-    fn has_address(&self, port: ObjId, value: u128) -> bool
-        ensures { result ≡ has_address value (record_of (λ port. port.id) port self.now.ports) }
+    // Whether it lists a port that has the tag and the address.
+    fn lists_tagged<P: Probe<Tag>>(&self, group: ObjId, tag: &P, value: u128) -> bool
+        ensures listed { result ≡ list_any (λ port. has_tag port_tags (P.order tag.now) port && (lists self.now.groups group port.id && has_ip value port)) self.now.ports }
+        ensures rise { NumbersRise (λ port. port.id) self.now.ports }
     {
-        match self.ports.get(port) {
-            Some(port) => are_addresses(port.addresses.as_slice(), value),
-            None => false,
+        let mut after = None;
+        while let Some(port) = self.port_tagged(tag, after) {
+            if self.lists_one(group, port, value) {
+                return true;
+            }
+            after = Some(port.id);
         }
+        false
+    }
+
+    // Whether it lists this port, and the port has the address.
+    fn lists_one(&self, group: ObjId, port: &Port, value: u128) -> bool
+        ensures { result ≡ (lists self.now.groups group port.now.id && has_ip value port.now) }
+    {
+        self.lists(group, port.id) && has_ip(port, value)
+    }
+
+    // The first port that has the tag, above a number where one is given.
+    fn port_tagged<P: Probe<Tag>>(&self, tag: &P, after: Option<ObjId>) -> Option<&Port>
+        ensures port { option_copied result ≡ find (λ port. is_after after port.id && has_tag port_tags (P.order tag.now) port) self.now.ports }
+        ensures rise { NumbersRise (λ port. port.id) self.now.ports }
+    {
+        self.ports.tagged(tag, after)
     }
 }
 
@@ -104,6 +134,14 @@ fn is_it(number: ObjId, found: Option<&Group>) -> bool
         Some(group) => group.id == number,
         None => false,
     }
+}
+
+// Whether the port has the address.
+#[tactic(auto, using(crate::proofs::Pieces::any_of_pieces))]
+fn has_ip(port: &Port, value: u128) -> bool
+    ensures { result ≡ has_ip value port.now }
+{
+    are_addresses(port.addresses.as_slice(), value)
 }
 
 // Whether one of the addresses of a port is this one.

@@ -3,9 +3,11 @@ ghost use Rattle.std.specs.Prelude.{◌≡◌, ◌<◌, ◌^◌, true};
 ghost use Rattle.pkt_core.specs.Prerequisite.{is_ip4};
 
 use ct_core::{Entry, Look, Side, Zone};
+use ct_state::{State, Work};
 use ct_table::{Conns, CtFault, balance};
 use nv_base::{Field, Ip4, ObjId};
 use pkt_core::{Packet, Tuple};
+use std::alloc::Global;
 use std::test::Fail;
 
 const TCP: u8 = 6;
@@ -166,4 +168,31 @@ fn no_more_are_recorded_than_there_may_be(rt: HostRuntime) {
     conns.drop_zone(Zone::Port(ObjId(8)));
     conns.drop_zone(PORT);
     assert!(rt; place_of(&mut conns, entry(PORT, 1, 2)) == Some(0));
+}
+
+// Records a connection, blocks it and what is not there, and keeps this or comes back.
+fn walk(alloc: Global, state: &mut State, keeps: bool) -> bool {
+    let Ok(mut work) = Work::begin(alloc, state) else {
+        return false;
+    };
+    let recorded = work.commit(entry(PORT, 1, 2)).is_ok();
+    let marked = work.mark(0, true).is_ok() && work.mark(9, true).is_ok();
+    if keeps {
+        work.finish(state);
+    } else {
+        work.abandon(state);
+    }
+    recorded && marked
+}
+
+#[test]
+fn what_a_walk_changes_is_kept_or_taken_back(rt: HostRuntime) {
+    let mut state = State::new(rt.alloc());
+    assert!(rt; walk(rt.alloc(), &mut state, false));
+    assert!(rt; state.conns().is_empty());
+    assert!(rt; walk(rt.alloc(), &mut state, true));
+    assert!(rt; state.conns().classify(PORT, &tcp(1, 2, 0)) == found(0, Side::Orig, false, true));
+    assert!(rt; walk(rt.alloc(), &mut state, false));
+    assert!(rt; state.conns().len() == 1);
+    assert!(rt; state.nbrs().is_empty());
 }

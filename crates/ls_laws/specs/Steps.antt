@@ -14,13 +14,13 @@ use Rattle.nb_model.specs.Sound.{IsSound}
 use Rattle.sb_model.specs.declared.stage.Stage.{Stage}
 use Rattle.sb_model.specs.declared.stage.Stage.TheVariants.{LsInCheckPortSec, LsInPreAcl, LsInAclEval, LsInLb, LsInArpRsp, LsInL2Lkup, LsInL2Unknown, LsOutAclEval, LsOutStateful, LsOutCheckPortSec}
 use Rattle.net_meaning.specs.AclVerdict.{Decision, decision}
-use Rattle.net_meaning.specs.AclVerdict.Decision.{Allowed, Dropped, Rejected}
+use Rattle.net_meaning.specs.AclVerdict.Decision.{Allowed, Dropped, Rejected, Full}
 use Rattle.net_meaning.specs.Address.{is_multicast}
 use Rattle.net_meaning.specs.Guards.{is_let_in, is_let_out}
 use Rattle.net_meaning.specs.Stateless.{IsStateless}
 use Rattle.net_meaning.specs.Switches.{rejection, is_request, is_answering, answering, mac_with, port_for, unknown_ports}
 use Rattle.net_meaning.specs.declared.answer.Answer.TheVariants.{Reject}
-use Rattle.net_meaning.specs.declared.cause.Cause.TheVariants.{PortSec, Acl, Unknown}
+use Rattle.net_meaning.specs.declared.cause.Cause.TheVariants.{PortSec, Acl, Unknown, CtFull}
 use Rattle.net_rows.specs.Build.{rows}
 use Rattle.tr_stage.specs.Machine.{Flows, StageEnd, flows_of, step}
 use Rattle.tr_stage.specs.Machine.StageEnd.{On, Ends}
@@ -81,6 +81,7 @@ abbrev pub decided : Decision → Stage → Values → StageEnd
 decided Allowed next packet = On next packet
 decided Dropped next packet = Ends (Some (Drop Acl))
 decided Rejected next packet = rejected packet
+decided Full next packet = Ends (Some (Drop CtFull))
 
 abbrev pub DecidesIn : Type 0
 DecidesIn =

@@ -1,4 +1,4 @@
--- What ACLs decide on a packet that is not tracked (ovn-nb(5), 'ACL TABLE').
+-- What ACLs decide on a packet, wherever its connection is (ovn-nb(5), 'ACL TABLE').
 use Rattle.std.specs.Prelude.{filter, fold, Option, Some, None, nat_lt, if◌then◌else◌}
 use Rattle.nv_base.specs.declared.object.ObjId.{ObjId}
 use Rattle.pkt_core.specs.Packet.{Values}
@@ -20,11 +20,12 @@ higher (Some first) acl = if nat_lt first.priority acl.priority then Some acl el
 abbrev pub deciding : Network → ObjId → Way → Values → Option Acl
 deciding net switch way packet = fold higher None (filter (λ acl. holds (names net) packet acl.matching) (acls net switch way))
 
--- what is done with a packet
+-- what is done with a packet; at `Full` it is to be kept as a connection, and there is no room for one
 pub data Decision : Type 0 where
   Allowed : Decision
   Dropped : Decision
   Rejected : Decision
+  Full : Decision
 
 abbrev pub decision_of : Verdict → Decision
 decision_of Allow = Allowed

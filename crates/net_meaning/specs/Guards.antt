@@ -1,5 +1,5 @@
 -- Port security: what a switch port may send and get (ovn-nb(5), 'Logical_Switch_Port TABLE', port_security).
-use Rattle.std.specs.Prelude.{ℕ, ◌+◌, ◌-◌, ◌*◌, ◌/◌, ◌%◌, ◌^◌, ◌==◌, Bool, not, ◌&&◌, ◌||◌, List}
+use Rattle.std.specs.Prelude.{ℕ, ◌+◌, ◌-◌, ◌*◌, ◌/◌, ◌^◌, ◌==◌, Bool, not, ◌&&◌, ◌||◌, List}
 use Rattle.std.specs.List.{list_any}
 use Rattle.nv_base.specs.Block.{Block}
 use Rattle.nv_base.specs.declared.field.Field.TheVariants.{EthSrc, EthDst, EthType, Ip4Src, Ip4Dst, ArpSpa, ArpSha, UdpSrc, UdpDst}

@@ -5,5 +5,6 @@ pub mod Guards
 pub mod Places
 pub mod Stateless
 pub mod Switches
+pub mod Tracked
 pub mod Walk
 pub mod inner

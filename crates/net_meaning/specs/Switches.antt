@@ -1,9 +1,10 @@
--- What a switch does with a packet (ovn-architecture(7), ovn-nb(5)). It knows the network's objects alone. Packets are not tracked.
-use Rattle.std.specs.Prelude.{ℕ, Bool, true, false, not, ◌&&◌, ◌==◌, if◌then◌else◌, List, [], ◌∷◌, ◌++◌, map, filter, Option, Some, None, option_map}
+-- What a switch does with a packet (ovn-architecture(7), ovn-nb(5)). It knows the network's objects alone, and the connections that packets
+-- left. No load balancer is attached.
+use Rattle.std.specs.Prelude.{ℕ, Bool, not, ◌&&◌, ◌==◌, if◌then◌else◌, List, [], ◌∷◌, ◌++◌, map, filter, Option, Some, None, option_map}
 use Rattle.std.specs.List.{find, list_any, flat_map}
 use Rattle.nv_base.specs.declared.ip4.Ip4.{Ip4}
 use Rattle.nv_base.specs.declared.object.ObjId.{ObjId}
-use Rattle.nv_base.specs.declared.field.Field.TheVariants.{Inport, Outport, FlagsLoopback, EthDst, ArpOp, ArpTpa}
+use Rattle.nv_base.specs.declared.field.Field.TheVariants.{Inport, FlagsLoopback, EthDst, ArpOp, ArpTpa}
 use Rattle.nv_base.specs.declared.field.Prerequisite.TheVariants.{Arp, Tcp}
 use Rattle.pkt_core.specs.Packet.{Values, value, with_value}
 use Rattle.pkt_core.specs.Prerequisite.{meets}
@@ -16,18 +17,20 @@ use Rattle.nb_records.specs.declared.switch.Addr.TheVariants as addr
 use Rattle.nb_records.specs.declared.switch.Port.{Port}
 use Rattle.nb_model.specs.Addresses.{macs}
 use Rattle.nb_model.specs.Belongs.{is_to_router, peer_router_port}
-use Rattle.nb_model.specs.Network.{Network, same}
+use Rattle.nb_model.specs.Network.{Network}
 use Rattle.nb_model.specs.Readable.{ips_of}
-use Rattle.net_meaning.specs.AclVerdict.{Decision, decision}
-use Rattle.net_meaning.specs.AclVerdict.Decision.{Allowed, Dropped, Rejected}
+use Rattle.ct_core.specs.State.{State}
+use Rattle.net_meaning.specs.AclVerdict.{Decision}
+use Rattle.net_meaning.specs.AclVerdict.Decision.{Allowed, Dropped, Rejected, Full}
 use Rattle.net_meaning.specs.Address.{is_multicast}
 use Rattle.net_meaning.specs.Guards.{is_let_in, is_let_out}
 use Rattle.net_meaning.specs.Places.{switch_port}
+use Rattle.net_meaning.specs.Tracked.{Ruled, ruled}
 use Rattle.net_meaning.specs.Walk.{Passed, Part, Parts, Walked, walk}
 use Rattle.net_meaning.specs.Walk.Passed.{GoesOn, Drops, Makes}
 use Rattle.net_meaning.specs.Walk.Target.{OnePort, Ports}
 use Rattle.net_meaning.specs.declared.answer.Answer.TheVariants.{Reject}
-use Rattle.net_meaning.specs.declared.cause.Cause.TheVariants.{PortSec, Acl, Unknown}
+use Rattle.net_meaning.specs.declared.cause.Cause.TheVariants.{PortSec, Acl, Unknown, CtFull}
 use Rattle.nb_model.specs.Ports.{is_router_word, takes_unknown, is_open}
 
 -- ---- addresses
@@ -134,11 +137,21 @@ abbrev pub decided : Decision → Values → Passed → Passed
 decided Allowed packet onward = onward
 decided Dropped packet onward = Drops Acl
 decided Rejected packet onward = rejected packet
+decided Full packet onward = Drops CtFull
+
+-- what becomes of a packet, and the state that is left
+pub record Did : Type 0 where
+  pub passed : Passed
+  pub state : State
+
+-- what follows what ACLs do with it
+abbrev pub after_acls : Ruled → Values → Passed → Did
+after_acls ruling packet onward = record { passed = decided ruling.what packet onward; state = ruling.state }
 
 -- what a switch does with a packet that arrives at one of its ports
-abbrev pub arriving_at : Network → Port → Values → Passed
-arriving_at net port packet =
-    if is_let_in port packet then decided (decision net port.switch From packet) packet (asked net port packet) else Drops PortSec
+abbrev pub arriving_at : Network → Port → Values → State → Did
+arriving_at net port packet state =
+    if is_let_in port packet then after_acls (ruled net From port packet state) packet (asked net port packet) else record { passed = Drops PortSec; state = state }
 
 -- ---- leaving
 
@@ -147,19 +160,27 @@ abbrev pub let_out : Port → Values → Passed
 let_out port packet = if is_let_out port packet then GoesOn (OnePort port.id) packet else Drops PortSec
 
 -- what a switch does with a packet that leaves by one of its ports
-abbrev pub leaving_by : Network → Port → Values → Passed
-leaving_by net port packet = decided (decision net port.switch To packet) packet (let_out port packet)
+abbrev pub leaving_by : Network → Port → Values → State → Did
+leaving_by net port packet state = after_acls (ruled net To port packet state) packet (let_out port packet)
+
+-- and with one that leaves late: the last step alone
+abbrev pub leaving_late : Port → Values → State → Did
+leaving_late port packet state = record { passed = let_out port packet; state = state }
 
 -- ---- the direct meaning
 
--- what a port of a switch does, without notes; the state stays
-abbrev pub at_port : {N S : Type 0} → Network → (Port → Values → Passed) → ObjId → Values → S → Part N S
-at_port net does port packet state = record { notes = []; passed = option_map (λ own. does own packet) (switch_port net port); state = state }
+-- what is done at a port of a switch, without notes; where there is no such port nothing is
+abbrev pub part_of : State → Option Did → Part (Unit {0}) State
+part_of state None = record { notes = []; passed = None; state = state }
+part_of state (Some did) = record { notes = []; passed = Some did.passed; state = did.state }
+
+abbrev pub at_port : Network → (Port → Values → State → Did) → ObjId → Values → State → Part (Unit {0}) State
+at_port net does port packet state = part_of state (option_map (λ own. does own packet state) (switch_port net port))
 
 -- the parts of the network
-abbrev pub direct_parts : {N S : Type 0} → Network → Parts N S
-direct_parts net = record { arriving = at_port net (arriving_at net); leaving = at_port net (leaving_by net); late = at_port net let_out }
+abbrev pub direct_parts : Network → Parts (Unit {0}) State
+direct_parts net = record { arriving = at_port net (arriving_at net); leaving = at_port net (leaving_by net); late = at_port net leaving_late }
 
--- what the network does with a packet that comes in by a port and may take so many hops
-abbrev pub meaning : {S : Type 0} → Network → ℕ → ObjId → Values → S → Walked (Unit {0}) S
+-- what the network does with a packet that comes in by a port and may take so many hops, from a state on
+abbrev pub meaning : Network → ℕ → ObjId → Values → State → Walked (Unit {0}) State
 meaning net hops port packet state = walk net (direct_parts net) hops port packet state

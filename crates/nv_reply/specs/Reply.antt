@@ -2,6 +2,7 @@
 use Rattle.std.specs.Prelude.{ℕ, Bool, true, false, ◌||◌, List, [], ◌∷◌, ◌++◌, map, Option, Some, None, ok_or, Result, Ok, Err, if◌then◌else◌, codes}
 use Rattle.nv_base.specs.declared.object.ObjId.{ObjId}
 use Rattle.pkt_core.specs.Packet.{Values}
+use Rattle.ct_core.specs.State.{empty_state}
 use Rattle.nb_records.specs.declared.refusal.Refusal.{Refusal}
 use Rattle.nb_records.specs.declared.refusal.Refusal.TheVariants.{NoSuchObject, NotOnDatapath}
 use Rattle.nb_records.specs.declared.switch.Switch.{Switch}
@@ -21,7 +22,7 @@ use Rattle.sb_rows.specs.Listing.{listing}
 use Rattle.net_rows.specs.Build.{rows}
 use Rattle.tr_walk.specs.declared.event.Event.{Event}
 use Rattle.tr_walk.specs.Events.{event_of}
-use Rattle.tr_walk.specs.Machine.{State, machine}
+use Rattle.tr_walk.specs.Machine.{machine}
 use Rattle.nv_reply.specs.Events.{event_lines}
 use Rattle.nv_reply.specs.Session.{Session}
 
@@ -72,9 +73,9 @@ on_wanted net dp name port = if is_number (on_datapath net port) dp then Ok port
 abbrev pub traced_port : Network → List ℕ → List ℕ → Result ObjId Refusal
 traced_port net datapath name = and_then (wanted_datapath net datapath) (λ dp. and_then (wanted_port net name) (on_wanted net dp name))
 
--- what the rows do with a packet that comes in by a port
+-- what the rows do with a packet that comes in by a port, where no connection was tracked before
 abbrev pub traced : Session → ObjId → Values → List Event
-traced session port packet = map event_of (machine {S = State} session.network session.hops port packet tt).told
+traced session port packet = map event_of (machine session.network session.hops port packet empty_state).told
 
 -- the lines of a trace
 abbrev pub trace_lines : Session → Bool → ObjId → Values → List ℕ

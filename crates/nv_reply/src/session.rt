@@ -1,11 +1,16 @@
-ghost use Rattle.std.specs.Prelude.{◌≡◌, ◌+◌, ◌<◌, Ok, OnOk, OnErr, IfOk, IfErr, length};
+ghost use Rattle.std.specs.Prelude.{◌≡◌, ◌+◌, ◌<◌, Ok, OnOk, OnErr, IfOk, IfErr, length, map};
 ghost use Rattle.std.specs.List.{AllByRecursion};
 ghost use Rattle.nb_words.specs.Fault.{IsFaultOf};
 ghost use Rattle.nb_model.specs.Readable.{IsReadable};
 ghost use Rattle.nb_model.specs.Sound.{IsSound};
 ghost use Rattle.nb_model.specs.Transactions.{edited};
 ghost use Rattle.nb_model.specs.Plain.{IsBuilt, IsPlain};
+ghost use Rattle.ct_core.specs.State.{empty_state};
+ghost use Rattle.net_rows.specs.Build as build;
+ghost use Rattle.tr_walk.specs.Events.{event_of};
+ghost use Rattle.tr_walk.specs.Machine.{machine};
 ghost use Rattle.tr_walk.specs.Refined.{IsRefined};
+ghost use Rattle.tr_walk.specs.Runnable.{AreRunnable};
 ghost use Rattle.nv_reply.specs.Reply.{flows, traced};
 ghost use Rattle.nv_reply.specs.Session.{new_session};
 ghost use Rattle.nv_reply.specs.inner.KeptRows.{AreRowsOf};
@@ -15,6 +20,7 @@ ghost use Rattle.nv_base.specs.Object.{number_limit};
 
 use crate::listing::put_datapaths;
 use crate::stop::Stop;
+use ct_state::State;
 use nb_check::Tables;
 use nb_records::Edit;
 use nb_store::Records;
@@ -107,7 +113,7 @@ impl Session {
     {
         let rows = self.take_rows(alloc)?;
         let hops = u32::from(self.hops);
-        let events = trace(alloc, &rows, self.tables.records(), port, packet, hops)?;
+        let events = trace_alone(alloc, &rows, self.tables.records(), port, packet, hops)?;
         self.rows = Some(rows);
         Ok(events)
     }
@@ -154,4 +160,24 @@ fn rows_of(alloc: Global, records: &Records) -> Result<Rows, OutOfMemory>
     ensures { IfOk result (λ rows. AreRowsOf rows records.now) }
 {
     full(alloc, records)
+}
+
+// What the rows do with a packet, where no connection was tracked before.
+fn trace_alone(
+    alloc: Global,
+    rows: &Rows,
+    records: &Records,
+    port: ObjId,
+    packet: &Packet,
+    hops: u32,
+) -> Result<Vec<Event>, OutOfMemory>
+    requires sound { IsSound records.now }
+    requires rows { rows.now ≡ build.rows records.now }
+    requires run { AreRunnable records.now }
+    ensures { IfOk result (λ events. events.items ≡ map event_of (machine records.now hops port packet.now empty_state).told) }
+{
+    let mut state = State::new(alloc);
+    let events = trace(alloc, rows, records, &mut state, port, packet, hops);
+    drop(state);
+    events
 }

@@ -14,7 +14,8 @@ use Rattle.net_meaning.specs.declared.event.PlainEvent.{PlainEvent}
 use Rattle.net_meaning.specs.declared.event.PlainEvent.TheVariants as plain
 use Rattle.pkt_micro.specs.declared.microflow.Micro.{Micro}
 use Rattle.tr_walk.specs.Events.{event_of, of_plain, plain_event, without_hits}
-use Rattle.tr_walk.specs.Machine.{State, machine}
+use Rattle.ct_core.specs.State.{empty_state}
+use Rattle.tr_walk.specs.Machine.{machine}
 use Rattle.tr_stage.specs.declared.outcome.Hit.{Hit}
 use Rattle.nv_serve.specs.Output.{opened}
 use Rattle.nv_reply.specs.Reply.{accept, answered, trace_lines, reply, reply_to, session_after}
@@ -47,8 +48,8 @@ tells session line minimal dp micro arrival is rest =
 pub traces_meant : (words : List Text) (lines : List (List ℕ)) → 1 + sum_by length lines < number_limit → TracesAreMeant words lines
 traces_meant words lines room before line later all minimal dp micro is arrival there port =
     let session = session_after (opened words) before in
-    let alike = each_refined (hops_in words) before (omega (arith, room, before_longer lines before line later all)) session.hops arrival micro.packet tt there (query_well_read line (Trace minimal dp micro) is).2 in
+    let alike = each_refined (hops_in words) before (omega (arith, room, before_longer lines before line later all)) session.hops arrival micro.packet empty_state there (query_well_read line (Trace minimal dp micro) is).2 in
     tells session line minimal dp micro arrival is (record {
       told = ap (λ found. (answered session found (λ port. accept (trace_lines session minimal port micro.packet) session)).text) port;
-      meant = without_hits_is (machine {S = State} session.network session.hops arrival.id micro.packet tt).told ∙ alike.told;
+      meant = without_hits_is (machine session.network session.hops arrival.id micro.packet empty_state).told ∙ alike.told;
     })

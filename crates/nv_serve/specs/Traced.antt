@@ -10,7 +10,7 @@ use Rattle.nb_cmds.specs.declared.query.Query.TheVariants.{Trace}
 use Rattle.net_meaning.specs.Switches.{meaning}
 use Rattle.net_meaning.specs.Walk.{events}
 use Rattle.tr_walk.specs.Events.{without_hits}
-use Rattle.tr_walk.specs.Machine.{State}
+use Rattle.ct_core.specs.State.{empty_state}
 use Rattle.nv_serve.specs.Output.{opened}
 use Rattle.nv_reply.specs.Reply.{traced, traced_port, trace_lines, ok_line, reply, session_after}
 use Rattle.nv_reply.specs.Session.{Session}
@@ -18,7 +18,7 @@ use Rattle.nv_reply.specs.Session.{Session}
 -- The text is the lines of the events of the rows, and `ok`; and these events are, hits left out, what the network does with the packet.
 pub record TellsMeaning (session : Session) (minimal : Bool) (arrival : Port) (packet : Values) (text : List ℕ) : Type 0 where
   pub told : text ≡ trace_lines session minimal arrival.id packet ++ ok_line
-  pub meant : without_hits (traced session arrival.id packet) ≡ events (meaning {S = State} session.network session.hops arrival.id packet tt).told
+  pub meant : without_hits (traced session arrival.id packet) ≡ events (meaning session.network session.hops arrival.id packet empty_state).told
 
 -- each trace among these lines, of a packet that arrives at a port of a switch, is answered so, in the session that the lines before it left
 abbrev pub TracesAreMeant : List Text → List (List ℕ) → Type 0

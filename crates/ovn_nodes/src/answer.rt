@@ -1,6 +1,8 @@
+use crate::grouped::{Grouped, Regrouped};
 use crate::joined::{Joined, Told};
 use crate::kept::Doubled;
 use crate::script::{Fault, read_delta, read_key};
+use inc_group::Members;
 use inc_table::{Change, NodeState, Owned, Report};
 use nv_base::{OutOfMemory, put_dec};
 use std::alloc::Global;
@@ -9,12 +11,13 @@ use std::alloc::Global;
 const WRITTEN: usize = 8;
 
 /// Two nodes that double: one that makes all anew at a delta of more than 2 keys, and one at a delta of more than 1,024. And one that
-/// joins.
+/// joins, and one that groups.
 #[derive(Drop)]
 pub(crate) struct Nodes {
     few: Doubled<2>,
     many: Doubled<1024>,
     join: Joined,
+    group: Grouped,
 }
 
 impl Nodes {
@@ -23,6 +26,7 @@ impl Nodes {
             few: Doubled::new(alloc, 0),
             many: Doubled::new(alloc, 0),
             join: Joined::new(alloc, 0),
+            group: Grouped::new(alloc, 0),
         }
     }
 
@@ -46,6 +50,8 @@ impl Nodes {
             answer(alloc, out, &mut self.many, &words[1..])
         } else if words[0] == b"join".as_slice() {
             answer_join(alloc, out, &mut self.join, &words[1..])
+        } else if words[0] == b"group".as_slice() {
+            answer_group(alloc, out, &mut self.group, &words[1..])
         } else {
             Err(Fault::Word(1))
         };
@@ -130,6 +136,48 @@ fn ask_join(out: &mut Vec<u8>, joined: &mut Joined, command: &[u8]) -> Result<()
         put_joined(out, joined.node.table())?;
     } else if command == b"state".as_slice() {
         put_state(out, joined.node.state())?;
+    } else {
+        return Err(Fault::Word(2));
+    }
+    Ok(())
+}
+
+// The same, of the node that groups.
+fn answer_group(
+    alloc: Global,
+    out: &mut Vec<u8>,
+    grouped: &mut Grouped,
+    words: &[&[u8]],
+) -> Result<(), Fault> {
+    if words.is_empty() {
+        return Err(Fault::Word(2));
+    }
+    let command = words[0];
+    if command == b"change".as_slice() {
+        let delta = read_delta(alloc, &words[1..], 3)?;
+        put_regrouped(out, &grouped.change(delta)?)?;
+    } else if command == b"start".as_slice() {
+        *grouped = Grouped::new(alloc, read_refused(&words[1..])?);
+        put_text(out, b"started")?;
+    } else if words.len() > 1 {
+        return Err(Fault::Word(3));
+    } else {
+        return ask_group(out, grouped, command);
+    }
+    Ok(())
+}
+
+// Does what a command of one word says, of the node that groups.
+fn ask_group(out: &mut Vec<u8>, grouped: &mut Grouped, command: &[u8]) -> Result<(), Fault> {
+    if command == b"rebuild".as_slice() {
+        grouped.rebuild()?;
+        put_text(out, b"grouped anew")?;
+    } else if command == b"settle".as_slice() {
+        put_count(out, b"made ", grouped.settle()?)?;
+    } else if command == b"table".as_slice() {
+        put_groups(out, grouped.node.table())?;
+    } else if command == b"state".as_slice() {
+        put_state(out, grouped.node.state())?;
     } else {
         return Err(Fault::Word(2));
     }
@@ -230,6 +278,56 @@ fn put_joined(
     put_count(out, b"entries: ", table.len() as u64)?;
     for (key, entry) in table.iter().take(WRITTEN) {
         put_pair(out, *key, entry)?;
+    }
+    if table.len() > WRITTEN {
+        out.extend_from_slice(b" ..")?;
+    }
+    Ok(())
+}
+
+// What changed in a table of groups.
+fn put_regrouped(out: &mut Vec<u8>, told: &Regrouped) -> Result<(), OutOfMemory> {
+    out.extend_from_slice(b"changed")?;
+    let changes = told.as_slice();
+    if changes.len() > WRITTEN {
+        return put_count(out, b" groups: ", changes.len() as u64);
+    }
+    for (group, change) in changes {
+        match change {
+            Change::Put(members) => put_members(out, *group, members)?,
+            Change::Gone => put_count(out, b" -", u64::from(*group))?,
+        }
+    }
+    Ok(())
+}
+
+// A group with its members, or with the first ones.
+fn put_members(
+    out: &mut Vec<u8>,
+    group: u32,
+    members: &Members<u32, u32>,
+) -> Result<(), OutOfMemory> {
+    put_count(out, b" ", u64::from(group))?;
+    put_text(out, b":")?;
+    let members = members.as_slice();
+    for (place, member) in members.iter().take(WRITTEN).enumerate() {
+        if place > 0 {
+            put_text(out, b",")?;
+        }
+        put_count(out, b"", u64::from(member.0))?;
+        put_count(out, b"=", u64::from(member.1))?;
+    }
+    if members.len() > WRITTEN {
+        put_text(out, b",..")?;
+    }
+    Ok(())
+}
+
+// The groups, or the first ones and how many there are.
+fn put_groups(out: &mut Vec<u8>, table: &Owned<u32, Members<u32, u32>>) -> Result<(), OutOfMemory> {
+    put_count(out, b"groups: ", table.len() as u64)?;
+    for (group, members) in table.iter().take(WRITTEN) {
+        put_members(out, *group, members)?;
     }
     if table.len() > WRITTEN {
         out.extend_from_slice(b" ..")?;

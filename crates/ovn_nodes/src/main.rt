@@ -1,9 +1,11 @@
-//! `ovn_nodes`: reads a script of deltas on standard input, applies each to a node that doubles numbers, and answers each line by
-//! what was made and what changed.
+//! `ovn_nodes`: reads a script of deltas on standard input, applies each to a node that doubles, joins or groups numbers, and answers
+//! each line by what was made and what changed.
 #![tactic(auto)]
 
 mod answer;
 mod doubler;
+mod grouped;
+mod hundreds;
 mod joined;
 mod kept;
 mod names;

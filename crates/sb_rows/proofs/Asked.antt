@@ -1,6 +1,6 @@
 -- What a match asks of a packet before all else.
 use Rattle.std.proofs.Common.{◌≡◌, ℕ, zero, suc, ◌<◌, Bool, true, false, List, [], ◌∷◌, length, get_or, eqb, ap, ◌∙◌, refl, sym, arith}
-use Rattle.std.specs.Prelude.{◌&&◌, ◌%◌}
+use Rattle.std.specs.Prelude.{◌&&◌}
 use Rattle.nv_base.specs.declared.field.Field.{Field}
 use Rattle.std.proofs.lemmas.Bool.{false≢true, eqb-true, eq-eqb}
 use Rattle.expr_core.specs.Formula.{Formula, formulas}
@@ -17,15 +17,15 @@ use Rattle.expr_eval.specs.MatchMeaning.{holds}
 use Rattle.pkt_core.specs.Packet.{Values, value}
 use Rattle.pkt_core.specs.Prerequisite.{is_there}
 use Rattle.sb_rows.specs.declared.stored.Asked.{Asked}
-use Rattle.sb_rows.specs.declared.stored.Asked.TheVariants.{Anything, LastByte}
-use Rattle.sb_rows.specs.inner.Beside.{has_asked, IsAskedBy}
+use Rattle.sb_rows.specs.declared.stored.Shape.TheVariants.{Number}
+use Rattle.sb_rows.specs.inner.Beside.{bucket_of, has_asked, IsAskedBy, nothing_asked}
 
--- two numbers whose last bytes differ are two
-apart_by_byte : (n c : ℕ) → eqb (n % 256) (c % 256) ≡ false → eqb n c ≡ false
-apart_by_byte n c other = by (eqb n c) refl
+-- numbers of a field that are in two buckets are two
+apart_by_bucket : (field : Field) (n c : ℕ) → eqb (bucket_of field n) (bucket_of field c) ≡ false → eqb n c ≡ false
+apart_by_bucket field n c other = by (eqb n c) refl
   where
     by : (b : Bool) → eqb n c ≡ b → b ≡ false
-    by true is = absurd (false≢true (sym other ∙ eq-eqb (n % 256) (c % 256) (ap (λ (m : ℕ). m % 256) (eqb-true n c is))))
+    by true is = absurd (false≢true (sym other ∙ eq-eqb (bucket_of field n) (bucket_of field c) (ap (bucket_of field) (eqb-true n c is))))
     by false is = refl
 
 and_false : (b c : Bool) → c ≡ false → (b && c) ≡ false
@@ -33,12 +33,12 @@ and_false true c e = e
 and_false false c e = refl
 
 -- any match asks that a packet has anything
-pub asks_nothing : (matching : Formula TypedAtom) → IsAskedBy matching Anything
+pub asks_nothing : (matching : Formula TypedAtom) → IsAskedBy matching nothing_asked
 asks_nothing matching net packet not = absurd (false≢true (sym not))
 
--- the comparison of a field with a number asks that the number of the field has its last byte
-pub asks_last_byte : (field : Field) (c : Const) → IsAskedBy (Leaf (Compare field Whole Eq (right.Item (One c)))) (LastByte field (c.value % 256))
-asks_last_byte field c net packet other = and_false (is_there packet field) _ (apart_by_byte (value packet field) c.value other)
+-- the comparison of a field with a number asks for the bucket of the number
+pub asks_number : (field : Field) (c : Const) → IsAskedBy (Leaf (Compare field Whole Eq (right.Item (One c)))) (record { shape = Number field; bucket = bucket_of field c.value })
+asks_number field c net packet other = and_false (is_there packet field) _ (apart_by_bucket field (value packet field) c.value other)
 
 -- what an operand of a conjunction asks, the conjunction does
 pub asks_as_operand : (operands : List (Formula TypedAtom)) (asked : Asked) (i : ℕ) (d : Formula TypedAtom) → i < length operands → IsAskedBy (get_or operands i d) asked

@@ -4,6 +4,7 @@ pub mod Appends
 pub mod AsSet
 pub mod Asked
 pub mod Distinct
+pub mod Indexed
 pub mod Members
 pub mod Order
 pub mod Place

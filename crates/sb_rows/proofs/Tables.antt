@@ -4,7 +4,7 @@ use Rattle.std.specs.Prelude.{◌&&◌, Some, None}
 use Rattle.std.specs.Ordering.{is_lt, nat_cmp, ordering_then}
 use Rattle.std.specs.List.{All, AllWithin, find}
 use Rattle.std.specs.List.Sorted.{IsNonDecreasingBy, IsPartitionPoint}
-use Rattle.std.proofs.lemmas.Bool.{eqb-true, eq-eqb, and_parts}
+use Rattle.std.proofs.lemmas.Bool.{eqb-true, eq-eqb, and_parts, ltb-true, ltb-false}
 use Rattle.std.proofs.lemmas.Bool.Decides.{nat_tests}
 use Rattle.std.proofs.lemmas.List.{drop_more, get_or-drop, get_or_default}
 use Rattle.std.proofs.lemmas.List.Elements.{All-head, All-tail}
@@ -17,6 +17,7 @@ use Rattle.sb_model.specs.declared.row.Row.{Row}
 use Rattle.sb_rows.specs.Row.{key_cmp, IsInRowOrder}
 use Rattle.sb_rows.specs.Match.{is_in_table, select}
 use Rattle.sb_rows.specs.inner.Beside.{FitsItsKey, key_of_row, order_of_keys}
+use Rattle.sb_rows.specs.inner.Index.{acts}
 use Rattle.sb_rows.specs.inner.Tables.{table_key, rank_key, key_of, find_while}
 use Rattle.sb_rows.proofs.Order.{keys_in_order}
 use Rattle.sb_model.specs.Stage.{stage_place}
@@ -127,21 +128,50 @@ begins_behind rows up t near x y within lower upper = (
       omega (arith, rise, ap key_of same, upper),
 )
 
-module _ (dp : ObjId) (stage : Stage) (net : Lookup) (packet : Values) where
+module _ (net : Lookup) (packet : Values) where
   abbrev takes : Row → Bool
   takes r = holds net packet r.matching
 
-  -- so the row that a packet meets is found from the first row that is not of a lower table
-  pub select_from : (rows : List Row) → IsInRowOrder rows → (low : ℕ) → low ≤ length rows
-      → IsPartitionPoint (λ r. key_of r < table_key dp stage) (λ r. table_key dp stage ≤ key_of r) rows low
-      → find_while (λ r. eqb (key_of r) (table_key dp stage)) (λ r. holds net packet r.matching) (drop low rows) ≡ select dp stage net packet rows
-  select_from rows up low within point =
-      let t = table_key dp stage in
+  -- a row of a lower table is not one that takes the packet
+  pub fails_below : (t : ℕ) (r : Row) → key_of r < t → acts t net packet r ≡ false
+  fails_below t r below = ap (λ (b : Bool). b && takes r) (below_other t (key_of r) below)
+
+  -- so the first row of a table that takes a packet is found from the first row that is not of a lower table
+  pub first_from : (rows : List Row) → IsInRowOrder rows → (t low : ℕ) → low ≤ length rows → IsPartitionPoint (λ r. key_of r < t) (λ r. t ≤ key_of r) rows low
+      → find_while (λ r. eqb (key_of r) t) (λ r. holds net packet r.matching) (drop low rows) ≡ find (acts t net packet) rows
+  first_from rows up t low within point =
       let dropped = length-drop low rows in
       find_while_is key_of t takes (drop low rows) (IsNonDecreasingBy-drop key_of low rows (keys_rise rows up))
       (λ k d below. rw (get_or-drop low rows k d) (point.1 (low + k) d (omega arith) (omega (arith, dropped))))
-      ∙ sym (find_past (λ r. eqb (key_of r) t && takes r) rows low within (λ k d le below. ap (λ (b : Bool). b && takes (get_or rows k d)) (below_other t (key_of (get_or rows k d)) (point.0 k d le below))))
-      ∙ find_alike (λ r. eqb (key_of r) t && takes r) (λ r. is_in_table dp stage r && takes r) (λ r. ap (λ (b : Bool). b && takes r) (in_table-key dp stage r)) rows
+      ∙ sym (find_past (acts t net packet) rows low within (λ k d le below. fails_below t (get_or rows k d) (point.0 k d le below)))
+
+  -- nor is one of a higher table, which comes after a row of another that is no lower
+  pub fails_after : (rows : List Row) → IsInRowOrder rows → (t end k : ℕ) (d : Row) → t ≤ key_of (get_or rows end d) → eqb (key_of (get_or rows end d)) t ≡ false → end ≤ k → k < length rows
+      → acts t net packet (get_or rows k d) ≡ false
+  fails_after rows up t end k d from other le below =
+      ap (λ (b : Bool). b && takes (get_or rows k d)) (later t (key_of (get_or rows end d)) (key_of (get_or rows k d)) from (keys_rise rows up end k d le below) other)
+
+  -- so no row before a place takes the packet where none of the table's does
+  pub fails_before : (rows : List Row) → IsInRowOrder rows → (t low end place : ℕ) → IsPartitionPoint (λ r. key_of r < t) (λ r. t ≤ key_of r) rows low → place ≤ length rows → low ≤ end
+      → ((d : Row) → end < length rows → eqb (key_of (get_or rows end d)) t ≡ false)
+      → ((i : ℕ) (d : Row) → low ≤ i → i < end → i < place → acts t net packet (get_or rows i d) ≡ false) → AllWithin (λ r. acts t net packet r ≡ false) rows 0 place
+  fails_before rows up t low end place point bound le ends inside k d first lt = by (ltb k low) refl
+    where
+      past : (b : Bool) → ltb k end ≡ b → low ≤ k → acts t net packet (get_or rows k d) ≡ false
+      past true within from = inside k d from (ltb-true k end within) lt
+      past false after from =
+          let there : end < length rows = omega (arith, ltb-false k end after, lt, bound) in
+          fails_after rows up t end k d (point.1 end d le there) (ends d there) (ltb-false k end after) (omega (arith, lt, bound))
+
+      by : (b : Bool) → ltb k low ≡ b → acts t net packet (get_or rows k d) ≡ false
+      by true before = fails_below t (get_or rows k d) (point.0 k d first (ltb-true k low before))
+      by false after = past (ltb k end) refl (ltb-false k low after)
+
+-- and that is the row that the packet meets in the table
+pub select_first : (dp : ObjId) (stage : Stage) (net : Lookup) (packet : Values) (rows : List Row) → find (acts (table_key dp stage) net packet) rows ≡ select dp stage net packet rows
+select_first dp stage net packet rows =
+    find_alike (acts (table_key dp stage) net packet) (λ r. is_in_table dp stage r && holds net packet r.matching)
+    (λ r. ap (λ (b : Bool). b && holds net packet r.matching) (in_table-key dp stage r)) rows
 
 -- a row is in the table of its own datapath and stage
 pub in_table-from : (dp : ObjId) (stage : Stage) (r : Row) → r.dp ≡ dp → r.stage ≡ stage → is_in_table dp stage r ≡ true

@@ -1,5 +1,6 @@
 -- What private contracts and proofs cite. No clause of a public call does, so a reader need not believe it.
 pub mod Beside
 pub mod Exact
+pub mod Index
 pub mod Places
 pub mod Tables

@@ -2,6 +2,7 @@
 //! flows sees.
 #![tactic(auto)]
 
+mod index;
 mod laws;
 mod listing;
 mod new_rows;

@@ -5,7 +5,8 @@ ghost use Rattle.sb_rows.specs.Row.{AgreeAsOne, AreApart, AreRows, HasTypedMatch
 ghost use Rattle.sb_rows.specs.Match.{select};
 
 use crate::NewRows;
-use crate::search::{first_that_holds, place_among, place_of, table_from};
+use crate::index::{Table, first_in_table, tables_of};
+use crate::search::{place_among, place_of, table_from};
 use crate::stored::{Stored, table_key};
 use expr_core::Env;
 use nv_base::{ObjId, OutOfMemory};
@@ -19,12 +20,14 @@ use std::marker::Model;
 #[derive(Drop)]
 pub struct Rows {
     sorted: Vec<Stored>,
+    // What is kept of the tables that have many rows. It is made with the rows; a change drops it, and then tables are looked through.
+    tables: Vec<Table>,
 }
 
 impl Model for Rows {
     ghost use Rattle.std.specs.Prelude.{List};
     ghost use Rattle.sb_model.specs.declared.row.Row.{Row};
-    ghost use Rattle.sb_rows.specs.Row.{AreRows};
+    ghost use Rattle.sb_rows.specs.inner.Index.{AreIndexed};
     ghost use Rattle.sb_model.specs.contracts.row.Row as row_of;
     ghost use Rattle.std.specs.Coded.{codes};
 
@@ -34,7 +37,7 @@ impl Model for Rows {
 
     ghost view = { λ r. r.sorted.items };
 
-    ghost invariant = { λ r. AreRows r.sorted.items };
+    ghost invariant = { λ r. AreIndexed r.sorted.items r.tables.items };
 }
 
 impl Rows {
@@ -44,6 +47,7 @@ impl Rows {
     {
         Rows {
             sorted: Vec::new(alloc),
+            tables: Vec::new(alloc),
         }
     }
 
@@ -57,7 +61,8 @@ impl Rows {
     {
         let mut sorted = new.into_list()?.into_stored();
         sorted.dedup_by(|next, last| next.order(last).is_eq());
-        Ok(Rows { sorted })
+        let tables = tables_of(alloc, &sorted)?;
+        Ok(Rows { sorted, tables })
     }
 
     /// Whether an equal row is there. Its match and actions are compared only with rows that agree with it in all else.
@@ -78,6 +83,7 @@ impl Rows {
         let alloc = *self.sorted.allocator();
         let stored = Stored::new(alloc, row, &mut Vec::new(alloc))?;
         let at = place_among(&self.sorted, &stored);
+        self.tables.clear();
         self.sorted.insert(at, stored)?;
         Ok(())
     }
@@ -101,6 +107,7 @@ impl Rows {
         ensures ok { OnOk result (self.new ≡ put_rows self.old rows) }
         ensures err { OnErr result (self.new ≡ self.old) }
     {
+        self.tables.clear();
         let before = self.sorted.len();
         append(&mut self.sorted, rows.into_stored())?;
         match self.sorted.sort_by(|one, other| one.order(other)) {
@@ -120,6 +127,7 @@ impl Rows {
     {
         match place_of(&self.sorted, row) {
             Some(at) => {
+                self.tables.clear();
                 self.sorted.remove(at);
                 true
             }
@@ -185,8 +193,8 @@ impl Rows {
     {
         let key = table_key(dp, stage);
         let low = table_from(&self.sorted, *near, key);
-        let (row, before) = first_that_holds(&self.sorted[low..], key, packet, env);
-        *near = low + before;
+        let (row, place) = first_in_table(&self.sorted, &self.tables, low, key, packet, env);
+        *near = place;
         row
     }
 }

@@ -1,11 +1,11 @@
 //! A row beside what searches look at first, and the text of its match, which orders it and is listed.
-ghost use Rattle.std.specs.Prelude.{◌≡◌, ◌<◌, ◌%◌, IfOk};
+ghost use Rattle.std.specs.Prelude.{◌≡◌, ◌<◌, IfOk};
 ghost use Rattle.expr_core.specs.Formula.{formulas};
 ghost use Rattle.expr_core.specs.Formula.Formula.{And};
 ghost use Rattle.expr_core.specs.Text.{typed_text};
 ghost use Rattle.expr_eval.specs.MatchMeaning.{holds};
 ghost use Rattle.sb_rows.specs.Row.{key_cmp, row_cmp};
-ghost use Rattle.sb_rows.specs.inner.Beside.{FitsItsKey, has_asked, IsAskedBy, key_of_row, order_of_keys};
+ghost use Rattle.sb_rows.specs.inner.Beside.{FitsItsKey, bucket_at, bucket_of, has_asked, IsAskedBy, key_of_row, nothing_asked, order_of_keys, width_of};
 ghost use Rattle.sb_rows.specs.inner.Tables.{table_key, rank_key, key_of};
 
 use expr_core::{Bits, Env, Item, Node, Rel, Right, Typed, TypedAtom, put_tree};
@@ -20,12 +20,20 @@ use std::marker::Model;
 // So many bytes most texts of matches have at most.
 const MOST_TEXTS: usize = 128;
 
-// What a match asks of a packet before all else.
-#[derive(Clone, Copy)]
-pub(crate) enum Asked {
+// What a bucket is told by.
+#[derive(Clone, Copy, PartialEq, Eq)]
+pub(crate) enum Shape {
+    // By nothing: each packet is in one bucket.
     Anything,
-    // That the number of a field has this last byte.
-    LastByte(Field, u8),
+    // By the number of a field.
+    Number(Field),
+}
+
+// What a match asks of a packet before all else: that the packet is in a bucket.
+#[derive(Clone, Copy)]
+pub(crate) struct Asked {
+    pub(crate) shape: Shape,
+    pub(crate) bucket: u64,
 }
 
 // What orders rows before the texts of their matches do: two numbers, of which the first that differs decides. The datapath
@@ -131,6 +139,13 @@ impl Stored {
         self.key.table
     }
 
+    // What the match asks. The row is not looked at.
+    pub(crate) fn asked(&self) -> Asked
+        ensures { IsAskedBy self.now.matching result }
+    {
+        self.asked
+    }
+
     // Whether the match holds of the packet. The row is looked at only where the packet has what is asked first.
     #[inline]
     pub(crate) fn takes<E: Env>(&self, packet: &Packet, env: &E) -> bool
@@ -202,7 +217,7 @@ fn order_of_keys(one: Key, other: Key) -> Ordering
     one.table.cmp(&other.table).then(one.rank.cmp(&other.rank))
 }
 
-// What the match asks first: of a conjunction, what one of its operands asks.
+// What the match asks: of a conjunction, what one of its operands asks.
 fn asked_by(matching: &Typed) -> Asked
     ensures { IsAskedBy matching.now result }
 {
@@ -212,38 +227,75 @@ fn asked_by(matching: &Typed) -> Asked
     }
 }
 
-// What the first of the operands that asks for something asks.
+// What the operand asks that asks for the most bits.
+#[tactic(auto, using(crate::proofs::Asked::asks_nothing))]
 fn asked_by_one_of(operands: &[Typed]) -> Asked
     ensures { IsAskedBy (And (formulas operands.now)) result }
 {
+    let mut most = nothing_asked();
     for operand in operands {
         let asked = asked_by_comparison(operand);
-        if matches!(asked, Asked::LastByte(_, _)) {
-            return asked;
+        if width_of(asked.shape) <= width_of(most.shape) {
+            continue;
         }
+        most = asked;
     }
-    Asked::Anything
+    most
 }
 
 // What the comparison of a field with one number asks. Of any other match nothing is known.
-#[tactic(auto, using(crate::proofs::Asked::asks_nothing, crate::proofs::Asked::asks_last_byte))]
+#[tactic(auto, using(crate::proofs::Asked::asks_nothing, crate::proofs::Asked::asks_number))]
 fn asked_by_comparison(matching: &Typed) -> Asked
     ensures { IsAskedBy matching.now result }
 {
     match &matching.node {
         Node::Atom(
             TypedAtom::Compare(field, Bits::Whole, Rel::Eq, Right::Item(Item::One(constant))),
-        ) => Asked::LastByte(*field, last_byte(constant.value)),
-        _ => Asked::Anything,
+        ) => Asked {
+            shape: Shape::Number(*field),
+            bucket: bucket_of(*field, constant.value),
+        },
+        _ => nothing_asked(),
     }
 }
 
-// The lowest eight bits of the number.
-#[inline]
-fn last_byte(number: u128) -> u8
-    ensures { result ≡ number % 256 }
+// What each packet has.
+fn nothing_asked() -> Asked
+    ensures { result ≡ nothing_asked }
 {
-    (number % 256) as u8
+    Asked {
+        shape: Shape::Anything,
+        bucket: 0,
+    }
+}
+
+// How many bits are asked.
+fn width_of(shape: Shape) -> u8
+    ensures { result ≡ width_of shape }
+{
+    match shape {
+        Shape::Anything => 0,
+        Shape::Number(field) => field.width(),
+    }
+}
+
+// The bucket of a number of a field. No field has more than 48 bits.
+#[inline]
+fn bucket_of(field: Field, number: u128) -> u64
+    ensures { result ≡ bucket_of field number }
+{
+    u64::from(field.number()) * (1 << 48) + (number % (1 << 48)) as u64
+}
+
+// The bucket of this shape that the packet is in.
+#[inline]
+pub(crate) fn bucket_at(shape: Shape, packet: &Packet) -> u64
+    ensures { result ≡ bucket_at shape packet.now }
+{
+    match shape {
+        Shape::Anything => 0,
+        Shape::Number(field) => bucket_of(field, packet.get(field)),
+    }
 }
 
 // Whether the packet has what is asked.
@@ -251,10 +303,7 @@ fn last_byte(number: u128) -> u8
 fn has_asked(asked: Asked, packet: &Packet) -> bool
     ensures { result ≡ has_asked asked packet.now }
 {
-    match asked {
-        Asked::Anything => true,
-        Asked::LastByte(field, byte) => last_byte(packet.get(field)) == byte,
-    }
+    bucket_at(asked.shape, packet) == asked.bucket
 }
 
 // The place of a table among all: by datapath, then by stage.

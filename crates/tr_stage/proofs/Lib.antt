@@ -1,7 +1,5 @@
-pub mod Acts
 pub mod Blocks
 pub mod Found
+pub mod PacketRuns
 pub mod Parts
-pub mod Progress
 pub mod Runs
-pub mod Steps

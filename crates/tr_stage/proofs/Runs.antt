@@ -1,8 +1,7 @@
 -- On rows that the machine runs each packet comes to an outcome.
-use Rattle.std.proofs.Common.{◌≡◌, ◌≢◌, ℕ, zero, suc, ◌+◌, ◌-◌, ◌<◌, true, List, [], ◌∷◌, Option, Some, None, refl, sym, subst, arith}
+use Rattle.std.proofs.Common.{◌≡◌, ℕ, true, List, [], ◌∷◌, Option, Some, None, refl, sym, subst}
 use Rattle.std.specs.Prelude.{not, is_some, option_map}
 use Rattle.std.specs.Bool.{IsTrue}
-use Rattle.std.specs.Option.{IsSome}
 use Rattle.std.proofs.lemmas.Bool.{false≢true, and_parts}
 use Rattle.std.proofs.lemmas.List.Elements.{All-contains}
 use Rattle.pkt_core.specs.Packet.{Values}
@@ -17,16 +16,15 @@ use Rattle.sb_model.specs.declared.stage.DatapathKind.TheVariants.{Switch, Route
 use Rattle.sb_model.specs.declared.stage.Pipeline.{Pipeline}
 use Rattle.sb_model.specs.declared.stage.Stage.{Stage}
 use Rattle.sb_model.specs.declared.row.Row.{Row}
-use Rattle.sb_model.specs.Stage.{stage_table, stage_place, all_stages, stage_at, next_stage, is_same_kind, is_at}
-use Rattle.sb_model.proofs.Stages.{next_goes_up, place_below}
+use Rattle.sb_model.specs.Stage.{stage_table, all_stages, stage_at, next_stage, is_same_kind, is_at}
 use Rattle.net_meaning.specs.declared.cause.Cause.{Cause}
 use Rattle.tr_stage.specs.declared.outcome.Outcome.TheVariants as outcomes
-use Rattle.tr_stage.specs.Machine.{Flows, StageEnd, Effect, cause_at, number_of, on_to, bound_for, effect, after, after_change, end_block, run_block, reset_for, error_for, answer_for, answered, run_actions, acting, acted, step, go_on, run_from, kind_of, run_pipeline}
+use Rattle.tr_stage.specs.Machine.{Flows, StageEnd, Effect, cause_at, number_of, on_to, bound_for, effect, after, after_change, end_block, run_block, reset_for, error_for, answer_for, answered, run_actions, acting, step}
 use Rattle.tr_stage.specs.Machine.StageEnd.{On, Ends}
 use Rattle.tr_stage.specs.Machine.Effect.{Changed}
-use Rattle.tr_stage.specs.Runnable.{is_change, may_end, may_end_block, is_block, may_answer, are_run, IsRunnable}
-use Rattle.tr_stage.proofs.Found.{find_is, IsFound, IsFound-from_select, select_some}
-use Rattle.tr_stage.proofs.Steps.{pipeline_begins}
+use Rattle.tr_stage.specs.Runnable.{is_change, may_end, may_end_block, is_block, may_answer}
+use Rattle.tr_stage.proofs.PacketRuns.{are_run, IsRunnable}
+use Rattle.tr_stage.proofs.Found.{find_is, IsFound, IsFound-from_select}
 
 -- a step that leads to the next stage, or to an outcome
 abbrev pub LeadsOn : Stage → StageEnd → Type 0
@@ -52,7 +50,7 @@ module _ (net : Lookup) (stage : Stage) where
   last_leads _ packet may = absurd (false≢true may)
 
   -- an assignment or an exchange changes the packet
-  changes : (step : Step) (packet : Values) → is_change net step ≡ true → (changed : Values) × (effect net stage step packet ≡ Changed changed)
+  pub changes : (step : Step) (packet : Values) → is_change net step ≡ true → (changed : Values) × (effect net stage step packet ≡ Changed changed)
   changes (Set field bits constant) packet is = (_, refl)
   changes (Copy field bits from) packet is = (_, refl)
   changes (SetOutport name) packet is = by (number_of net name) is
@@ -83,7 +81,7 @@ module _ (net : Lookup) (stage : Stage) where
   answered_leads block None may = drop_leads (cause_at stage) (and_parts (is_some (cause_at stage)) (is_block net block) may).0
 
   -- so the actions that the machine runs lead on
-  actions_lead : (actions : List Action) (packet : Values) → are_run net stage actions ≡ true → LeadsOn stage (run_actions net stage actions packet)
+  pub actions_lead : (actions : List Action) (packet : Values) → are_run net stage actions ≡ true → LeadsOn stage (run_actions net stage actions packet)
   actions_lead [] packet run = absurd (false≢true run)
   actions_lead (action.Step step ∷ []) packet run = last_leads step packet run
   actions_lead (action.TcpReset block ∷ []) packet run = answered_leads block (reset_for packet) run
@@ -99,7 +97,7 @@ module _ (net : Lookup) (stage : Stage) where
   actions_lead (action.Reject block ∷ other ∷ others) packet run = absurd (false≢true run)
   actions_lead (action.Arp block ∷ other ∷ others) packet run = absurd (false≢true run)
 
-same_kinds : (a b c : DatapathKind) → is_same_kind a b ≡ true → is_same_kind a c ≡ true → is_same_kind b c ≡ true
+pub same_kinds : (a b c : DatapathKind) → is_same_kind a b ≡ true → is_same_kind a c ≡ true → is_same_kind b c ≡ true
 same_kinds Switch Switch Switch ab ac = refl
 same_kinds Switch Switch Router ab ac = absurd (false≢true ac)
 same_kinds Switch Router c ab ac = absurd (false≢true ab)
@@ -108,24 +106,11 @@ same_kinds Router Router Switch ab ac = absurd (false≢true ac)
 same_kinds Router Router Router ab ac = refl
 
 -- the stage at a table is of the kind that was asked for
-at_is_of_kind : (kind : DatapathKind) (pipeline : Pipeline) (table : ℕ) (stage : Stage) → stage_at kind pipeline table ≡ Some stage → is_same_kind (stage_table stage).kind kind ≡ true
+pub at_is_of_kind : (kind : DatapathKind) (pipeline : Pipeline) (table : ℕ) (stage : Stage) → stage_at kind pipeline table ≡ Some stage → is_same_kind (stage_table stage).kind kind ≡ true
 unfolding stage_at
 at_is_of_kind kind pipeline table stage found = (and_parts _ _ (and_parts _ _ (find_is (is_at kind pipeline table) all_stages stage found).1).0).0
 
--- how many places there are from the stage on
-abbrev places_left : Stage → ℕ
-places_left stage = 32 - stage_place stage
-
 module _ (flows : Flows) (sound : IsRunnable flows) where
-  -- the datapath has the stage
-  abbrev HasStage : Stage → Type 0
-  HasStage stage = IsTrue (is_same_kind (stage_table stage).kind (kind_of flows))
-
-  next_up : (stage later : Stage) → HasStage stage → next_stage stage ≡ Some later → HasStage later × (stage_place later ≡ stage_place stage + 1)
-  next_up stage later has there =
-      let up = next_goes_up stage later there in
-      (same_kinds (stage_table stage).kind (stage_table later).kind (kind_of flows) up.0 has, up.1)
-
   -- what is asked of each row holds of the one that acts
   module _ (stage : Stage) (packet : Values) (row : Row) (is : acting flows stage packet ≡ Some row) where
     of_row : IsFound flows.rows flows.dp stage row
@@ -138,41 +123,3 @@ module _ (flows : Flows) (sound : IsRunnable flows) where
     acting_run =
         let run = All-contains (λ (r : Row). r.dp ≡ flows.dp → IsTrue (are_run flows.net r.stage r.actions)) flows.rows row sound.run of_row.among of_row.of_dp in
         subst (λ s. IsTrue (are_run flows.net s row.actions)) of_row.of_stage run
-
-  -- each step on these rows leads on
-  step_leads : (stage : Stage) (packet : Values) → HasStage stage → LeadsOn stage (step flows stage packet)
-  unfolding step
-  step_leads stage packet has = by (acting flows stage packet) refl
-    where
-      by : (found : Option Row) → acting flows stage packet ≡ found → LeadsOn stage (acted flows.net stage packet found)
-      by None none = absurd (select_some flows stage packet (sound.takes_each stage has) none)
-      by (Some row) is = actions_lead flows.net stage row.actions packet (acting_run stage packet row is)
-
-  -- so does a run, with a step for each stage that is still to come
-  never_stuck : (budget : ℕ) (stage : Stage) (packet : Values) → HasStage stage → places_left stage < budget → (run_from flows budget stage packet).outcome ≢ None
-  unfolding run_from
-  never_stuck zero stage packet has enough = absurd (omega arith)
-  never_stuck (suc budget) stage packet has enough = by (step flows stage packet) (step_leads stage packet has) (λ later changed of_it fewer. never_stuck budget later changed of_it (omega (arith, fewer, enough)))
-    where
-      by : (ending : StageEnd) → LeadsOn stage ending → ((later : Stage) (changed : Values) → HasStage later → suc (places_left later) ≡ places_left stage → (run_from flows budget later changed).outcome ≢ None)
-          → (go_on (run_from flows budget) ending).outcome ≢ None
-      by (On later changed) there rest =
-          let up = next_up stage later has there in
-          let below = place_below later in
-          rest later changed up.0 (omega (arith, up.1, below))
-      by (Ends (Some outcome)) leads rest = λ e. cc
-      by (Ends None) leads rest = absurd leads
-
-  enough_steps : (stage : Stage) → places_left stage < 128
-  enough_steps stage = omega arith
-
-  at_has_kind : (pipeline : Pipeline) (table : ℕ) (stage : Stage) → stage_at (kind_of flows) pipeline table ≡ Some stage → HasStage stage
-  at_has_kind pipeline table stage is = at_is_of_kind (kind_of flows) pipeline table stage is
-
-  -- so no pipeline is stuck
-  pub pipeline_never_stuck : (pipeline : Pipeline) (table : ℕ) (packet : Values) → IsSome (stage_at (kind_of flows) pipeline table) → (run_pipeline flows pipeline table packet).outcome ≢ None
-  pipeline_never_stuck pipeline table packet some = by (stage_at (kind_of flows) pipeline table) refl some
-    where
-      by : (found : Option Stage) → stage_at (kind_of flows) pipeline table ≡ found → IsSome found → (run_pipeline flows pipeline table packet).outcome ≢ None
-      by (Some stage) is some = rw (pipeline_begins flows pipeline table packet stage is) (never_stuck 128 stage packet (at_has_kind pipeline table stage is) (enough_steps stage))
-      by None is some = absurd (false≢true some)

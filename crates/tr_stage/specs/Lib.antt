@@ -1,3 +1,4 @@
+pub mod Ending
 pub mod Machine
 pub mod Part
 pub mod Runnable

@@ -1,5 +1,5 @@
--- The run of a packet through one pipeline of a datapath, a step for each stage (ovn-sb(5), 'Logical_Flow TABLE'; ovn-architecture(7)).
-use Rattle.std.specs.Prelude.{ℕ, zero, suc, true, ◌&&◌, List, [], ◌∷◌, ◌++◌, Option, Some, None, option_map, codes, if◌then◌else◌}
+-- What the rows of a stage do with a packet of which they ask for no connection (ovn-sb(5), 'Logical_Flow TABLE'; ovn-architecture(7)).
+use Rattle.std.specs.Prelude.{ℕ, true, ◌&&◌, List, [], ◌∷◌, Option, Some, None, option_map, if◌then◌else◌}
 use Rattle.std.specs.Str.{bytes_eq}
 use Rattle.nv_base.specs.declared.object.ObjId.{ObjId}
 use Rattle.nv_base.specs.declared.field.Field.TheVariants.{Outport}
@@ -20,7 +20,7 @@ use Rattle.sb_model.specs.declared.stage.DatapathKind.TheVariants.{Switch, Route
 use Rattle.sb_model.specs.declared.stage.Pipeline.{Pipeline}
 use Rattle.sb_model.specs.declared.stage.Pipeline.TheVariants.{Ingress, Egress}
 use Rattle.sb_model.specs.declared.row.Row.{Row}
-use Rattle.sb_model.specs.Stage.{pipeline_of, stage_at, next_stage}
+use Rattle.sb_model.specs.Stage.{pipeline_of, next_stage}
 use Rattle.sb_rows.specs.Match.{select}
 use Rattle.net_meaning.specs.declared.answer.Answer.TheVariants.{Reject}
 use Rattle.net_meaning.specs.declared.cause.Cause.{Cause}
@@ -161,25 +161,6 @@ hit_of dp stage None = []
 unfoldable pub hit_at : Flows → Stage → Values → List Hit
 hit_at flows stage packet = hit_of flows.dp stage (acting flows stage packet)
 
--- a packet's run through a pipeline: the hits, in order, and the outcome, if there is one
-pub record PipelineRun : Type 0 where
-  pub hits : List Hit
-  pub outcome : Option Outcome
-
--- a run that begins with these hits
-abbrev pub after_hits : List Hit → PipelineRun → PipelineRun
-after_hits hits rest = record { hits = hits ++ rest.hits; outcome = rest.outcome }
-
--- how a run goes on after a step; `run_at` gives the run from a stage on
-abbrev pub go_on : (Stage → Values → PipelineRun) → StageEnd → PipelineRun
-go_on run_at (On stage packet) = run_at stage packet
-go_on run_at (Ends outcome) = record { hits = []; outcome = outcome }
-
--- the run from a stage on, in at most this many steps
-unfoldable pub run_from : Flows → ℕ → Stage → Values → PipelineRun
-run_from flows zero stage packet = record { hits = []; outcome = None }
-run_from flows (suc budget) stage packet = after_hits (hit_at flows stage packet) (go_on (run_from flows budget) (step flows stage packet))
-
 -- how many steps a packet may take in one pipeline
 abbrev pub step_budget : ℕ
 step_budget = 128
@@ -187,7 +168,3 @@ step_budget = 128
 -- what the datapath is
 abbrev pub kind_of : Flows → DatapathKind
 kind_of flows = if flows.net.is_switch flows.dp then Switch else Router
-
--- the run of a packet through a pipeline of the datapath, from this table on
-unfoldable pub run_pipeline : Flows → Pipeline → ℕ → Values → PipelineRun
-run_pipeline flows pipeline table packet = go_on (run_from flows step_budget) (on_to (stage_at (kind_of flows) pipeline table) packet)

@@ -1,16 +1,15 @@
--- The rows that the machine runs.
-use Rattle.std.specs.Prelude.{◌≡◌, Bool, true, false, not, ◌&&◌, IsTrue, List, [], ◌∷◌, is_some, All, Contains}
+-- The actions that a row may have, as far as it asks for no connection.
+use Rattle.std.specs.Prelude.{◌≡◌, Bool, true, false, not, ◌&&◌, List, [], ◌∷◌, is_some, Contains}
 use Rattle.sb_model.specs.Make.{takes_each}
 use Rattle.expr_core.specs.Lookup.{Lookup}
-use Rattle.act_core.specs.WellFormed.{is_well_formed}
 use Rattle.act_core.specs.declared.action.Action.{Action}
 use Rattle.act_core.specs.declared.action.Action.TheVariants as action
 use Rattle.act_core.specs.declared.step.Step.{Step}
 use Rattle.act_core.specs.declared.step.Step.TheVariants.{Next, Jump, Output, Drop, Set, Copy, SetOutport, Exchange}
 use Rattle.sb_model.specs.declared.stage.Stage.{Stage}
 use Rattle.sb_model.specs.declared.row.Row.{Row}
-use Rattle.sb_model.specs.Stage.{stage_table, is_same_kind, is_last}
-use Rattle.tr_stage.specs.Machine.{Flows, cause_at, number_of, kind_of}
+use Rattle.sb_model.specs.Stage.{is_last}
+use Rattle.tr_stage.specs.Machine.{Flows, cause_at, number_of}
 
 -- an assignment or an exchange, of which a name is known
 abbrev pub is_change : Lookup → Step → Bool
@@ -50,20 +49,6 @@ may_be_last net stage (action.Icmp4 block) = may_answer net stage block
 may_be_last net stage (action.Reject block) = may_answer net stage block
 may_be_last net stage (action.Arp block) = false
 
--- assignments and exchanges, and then a last action
-abbrev pub are_run : Lookup → Stage → List Action → Bool
-are_run net stage [] = false
-are_run net stage (last ∷ []) = may_be_last net stage last
-are_run net stage (action.Step step ∷ others) = is_change net step && are_run net stage others
-are_run net stage (_ ∷ others) = false
-
 -- a row of the datapath's table of this stage takes each packet
 abbrev pub TakesEach : Flows → Stage → Type 0
 TakesEach flows stage = (row : Row) × Contains flows.rows row × (row.dp ≡ flows.dp) × (row.stage ≡ stage) × (row.matching ≡ takes_each)
-
--- rows in which each packet comes to the end of a pipeline of the datapath: each stage takes each packet, and the actions are
--- well-formed assignments and exchanges before a last action
-pub record IsRunnable (flows : Flows) : Type 0 where
-  pub takes_each : (stage : Stage) → IsTrue (is_same_kind (stage_table stage).kind (kind_of flows)) → TakesEach flows stage
-  pub formed : All (λ row. row.dp ≡ flows.dp → IsTrue (is_well_formed row.actions)) flows.rows
-  pub run : All (λ row. row.dp ≡ flows.dp → IsTrue (are_run flows.net row.stage row.actions)) flows.rows

@@ -1,13 +1,13 @@
 //! What the actions of a row do to a packet.
 ghost use Rattle.std.specs.Prelude.{◌≡◌, IsTrue, [], ◌∷◌, Some};
-ghost use Rattle.act_core.specs.WellFormed.{is_step, is_action, is_well_formed};
+ghost use Rattle.act_core.specs.WellFormed.{is_step, is_action};
 ghost use Rattle.expr_core.specs.Lookup.{Lookup};
 ghost use Rattle.pkt_core.specs.Packet.{Values};
 ghost use Rattle.sb_model.specs.declared.stage.Stage as stages;
 ghost use Rattle.tr_stage.specs.Machine.{number_of, effect, run_actions};
 ghost use Rattle.tr_stage.specs.Machine.Effect.{Changed, Done};
-ghost use Rattle.tr_stage.specs.Runnable.{is_change, may_end, may_be_last, are_run};
-ghost use Rattle.tr_stage.specs.inner.Ending.{with_packet};
+ghost use Rattle.tr_stage.specs.Runnable.{is_change, may_end, may_be_last};
+ghost use Rattle.tr_stage.specs.Ending.{with_packet};
 
 use crate::Cause;
 use crate::block::{answer, answer_for, error_for, reset_for};
@@ -21,7 +21,7 @@ use sb_model::{Pipeline, Stage};
 
 /// How a packet's step through a stage ends, but for the packet.
 #[derive(Clone, Copy)]
-pub(crate) enum Ending {
+pub enum Ending {
     /// It goes on at this stage.
     On(Stage),
     /// It goes out of this pipeline.
@@ -32,33 +32,8 @@ pub(crate) enum Ending {
     Dropped(Cause),
 }
 
-/// Does the actions of a row, one after the other, and answers how the step ends.
-pub(crate) fn run_actions<E: Env>(
-    env: &E,
-    stage: Stage,
-    actions: &[Action],
-    packet: &mut Packet,
-) -> Ending
-    requires formed { IsTrue (is_well_formed actions.now) }
-    requires run { IsTrue (are_run (E.lookup env.now) stage actions.now) }
-    ensures { run_actions (E.lookup env.now) stage actions.now packet.old ≡ with_packet result packet.new }
-{
-    let mut rest = actions;
-    while let Some((first, others)) = rest.split_first() {
-        if others.is_empty() {
-            return end(env, stage, first, packet);
-        }
-        let Action::Step(step) = first else {
-            unreachable!()
-        };
-        change(env, step, packet);
-        rest = others;
-    }
-    unreachable!()
-}
-
-/// Does an assignment or an exchange.
-pub(crate) fn change<E: Env>(env: &E, step: &Step, packet: &mut Packet)
+/// Does an action of a row, which is an assignment or an exchange.
+pub fn change<E: Env>(env: &E, step: &Step, packet: &mut Packet)
     requires formed { IsTrue (is_step step.now) }
     requires change { IsTrue (is_change (E.lookup env.now) step.now) }
     ensures { (stage : stages.Stage) → effect (E.lookup env.now) stage step.now packet.old ≡ Changed packet.new }
@@ -78,8 +53,8 @@ pub(crate) fn change<E: Env>(env: &E, step: &Step, packet: &mut Packet)
     }
 }
 
-// Does the last action of a row.
-fn end<E: Env>(env: &E, stage: Stage, last: &Action, packet: &mut Packet) -> Ending
+/// Does the last action of a row, one that asks for no connection, and answers how the step ends.
+pub fn end<E: Env>(env: &E, stage: Stage, last: &Action, packet: &mut Packet) -> Ending
     requires formed { IsTrue (is_action last.now) }
     requires last { IsTrue (may_be_last (E.lookup env.now) stage last.now) }
     ensures { run_actions (E.lookup env.now) stage (last.now ∷ []) packet.old ≡ with_packet result packet.new }

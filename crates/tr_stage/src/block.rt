@@ -9,7 +9,7 @@ ghost use Rattle.tr_stage.specs.declared.outcome.Outcome.TheVariants.{Made};
 ghost use Rattle.tr_stage.specs.Machine.{reset_for, error_for, answer_for, answered, end_block, run_block};
 ghost use Rattle.tr_stage.specs.Machine.StageEnd.{Ends};
 ghost use Rattle.tr_stage.specs.Runnable.{may_end_block, is_block, may_answer};
-ghost use Rattle.tr_stage.specs.inner.Ending.{with_packet};
+ghost use Rattle.tr_stage.specs.Ending.{with_packet};
 
 use crate::act::{Ending, change};
 use crate::cause::cause_at;

@@ -1,15 +1,14 @@
-//! The stage machine: what the rows of one pipeline do with a packet.
+//! What a row does with a packet of which it asks for no connection: its actions, and the blocks that answer another packet.
 #![tactic(auto)]
 
 mod act;
 mod block;
 mod cause;
 mod kept;
-mod machine;
 mod outcome;
 mod part;
 
-pub use machine::run_pipeline;
+pub use act::{Ending, change, end};
 pub use net_meaning::{Answer, Cause};
 pub use outcome::{Hit, Outcome};
 pub use sb_model::Pipeline;

@@ -5,6 +5,7 @@ use Rattle.std.specs.Bool.{IsTrue}
 use Rattle.std.specs.List.{AllByRecursion, Contains, flat_map, list_all}
 use Rattle.std.proofs.lemmas.Bool.{false≢true, and_parts}
 use Rattle.nv_base.specs.declared.ip4.Ip4.{Ip4}
+use Rattle.nv_base.specs.declared.object.ObjId.{ObjId}
 use Rattle.nv_base.specs.Name.{is_object_name, is_quotable}
 use Rattle.expr_core.specs.Lookup.{Lookup}
 use Rattle.act_core.specs.WellFormed.{is_well_formed}
@@ -47,12 +48,15 @@ use Rattle.sb_model.specs.declared.stage.DatapathKind.TheVariants as kinds
 use Rattle.sb_model.specs.declared.stage.Stage.{Stage}
 use Rattle.sb_model.specs.declared.stage.Stage.TheVariants.{LsInCheckPortSec, LsInPreAcl, LsInPreStateful, LsInAclEval, LsInLb, LsInStateful, LsInArpRsp, LsInL2Lkup, LsInL2Unknown, LsOutPreAcl, LsOutPreStateful, LsOutAclEval, LsOutStateful, LsOutCheckPortSec}
 use Rattle.tr_stage.specs.Machine.{kind_of, number_of}
-use Rattle.tr_stage.specs.Runnable.{TakesEach, are_run}
+use Rattle.tr_stage.specs.Runnable.{TakesEach}
+use Rattle.tr_stage.proofs.PacketRuns as packets
+use Rattle.tr_stage.proofs.PacketRuns.{are_run}
+use Rattle.tr_pipe.proofs.Plain.{still_runs}
 use Rattle.ls_laws.specs.Steps.{flows_at}
 use Rattle.ls_laws.proofs.PortNames.{number_of_port}
 use Rattle.ls_laws.proofs.RuleStages.{acl_rule-gives, switch_rules-untracked, untracked_rule, untracked_rules}
 use Rattle.tr_walk.specs.Runnable.{AreRunnable}
-use Rattle.tr_walk.proofs.Pipelines.{numbered_switch}
+use Rattle.tr_walk.proofs.Pipelines.{numbered_switch, switch_there}
 
 -- the machine runs the actions of the rule, which are well-formed
 record IsRun (known : Lookup) (says : Rule) : Type 0 where
@@ -225,9 +229,20 @@ module _ (net : Network) (sound : IsSound net) (stateless : IsStateless net) whe
     of_kind : kind_of (flows_at net switch.id) ≡ kinds.Switch
     of_kind = rw (numbered_switch net.switches switch there) refl
 
-  pub runnable : AreRunnable net
-  runnable switch there = record {
+  -- each packet of which no connection is asked for comes to an end
+  plain_runnable : (switch : Switch) → Contains net.switches switch → packets.IsRunnable (flows_at net switch.id)
+  plain_runnable switch there = record {
     takes_each = λ stage of_it. by_stage switch there stage (subst (λ kind. IsTrue (is_same_kind (stage_table stage).kind kind)) (of_kind switch there) of_it);
     formed = All-from_members (λ (row : Row). row.dp ≡ switch.id → IsTrue (is_well_formed row.actions)) (rows net) (λ row at _. (of_row row (rows-gives net row at)).0);
     run = All-from_members (λ (row : Row). row.dp ≡ switch.id → IsTrue (are_run (names net) row.stage row.actions)) (rows net) (λ row at _. (of_row row (rows-gives net row at)).1);
   }
+
+  -- at the switch of a port
+  pub runnable_at : (port : Port) → Contains net.ports port → packets.IsRunnable (flows_at net port.switch)
+  runnable_at port there =
+      let of = switch_there net port sound there in
+      subst (λ (dp : ObjId). packets.IsRunnable (flows_at net dp)) of.2 (plain_runnable of.0 of.1)
+
+  -- so does each other
+  pub runnable : AreRunnable net
+  runnable switch there = still_runs (flows_at net switch.id) (plain_runnable switch there)

@@ -24,15 +24,17 @@ use Rattle.nb_model.specs.Readable.{is_mac, macs_of}
 use Rattle.nb_model.specs.Sound.{IsSound}
 use Rattle.nb_model.proofs.Lists.{same_self}
 use Rattle.nb_model.proofs.Numbered.{are_used}
-use Rattle.net_meaning.specs.AclVerdict.{Decision, decision}
-use Rattle.net_meaning.specs.AclVerdict.Decision.{Allowed, Dropped, Rejected}
+use Rattle.ct_core.specs.State.{State}
+use Rattle.net_meaning.specs.AclVerdict.{Decision}
+use Rattle.net_meaning.specs.AclVerdict.Decision.{Allowed, Dropped, Rejected, Full}
+use Rattle.net_meaning.specs.Tracked.{ruled}
 use Rattle.net_meaning.specs.Address.{is_multicast}
 use Rattle.net_meaning.specs.Guards.{is_let_in, is_let_out}
 use Rattle.net_meaning.specs.Places.{side_of, side_of_switch_port, switch_port}
 use Rattle.net_meaning.specs.Places.Side.{Host}
 use Rattle.net_meaning.specs.Stateless.{IsStateless}
 use Rattle.nb_model.specs.Ports.{is_open, takes_unknown}
-use Rattle.net_meaning.specs.Switches.{is_among_ips, mac_with, has_mac, is_answering, answering, port_for, numbers, open_ports, unknown_ports, to_unknown, to_port, sent_on, turned_back, is_request, answered_for, asked, rejected, decided, arriving_at, let_out, leaving_by}
+use Rattle.net_meaning.specs.Switches.{Did, after_acls, is_among_ips, mac_with, has_mac, is_answering, answering, port_for, numbers, open_ports, unknown_ports, to_unknown, to_port, sent_on, turned_back, is_request, answered_for, asked, rejected, decided, arriving_at, let_out, leaving_by}
 use Rattle.net_meaning.specs.Walk.{Passed, carried, carrying}
 use Rattle.net_meaning.specs.Walk.Passed.{GoesOn, Drops, Makes}
 use Rattle.net_meaning.specs.Walk.Target.{OnePort, Ports}
@@ -181,6 +183,7 @@ module _ (net : Network) where
     decided_kept Allowed onward kept = kept
     decided_kept Dropped onward kept = tt
     decided_kept Rejected onward kept = rejected_kept
+    decided_kept Full onward kept = tt
 
     answered_kept : (arrival : Port) → Contains net.ports arrival → (found : Option Port) → ((port : Port) → found ≡ Some port → Contains net.ports port) → IsKept net (Some (carrying (answered_for net arrival packet found)))
     answered_kept arrival at None there = sent_kept arrival.switch
@@ -196,11 +199,11 @@ module _ (net : Network) where
         by true = answered_kept arrival at (answering net arrival.switch (value packet ArpTpa)) (λ port found. (find_gives (is_answering arrival.switch (value packet ArpTpa)) net.ports port found).0)
         by false = sent_kept arrival.switch
 
-    pub arriving_kept : (arrival : Port) → Contains net.ports arrival → IsKept net (Some (carrying (arriving_at net arrival packet)))
-    arriving_kept arrival at = by (is_let_in arrival packet)
+    pub arriving_kept : (arrival : Port) (state : State) → Contains net.ports arrival → IsKept net (Some (carrying (arriving_at net arrival packet state).passed))
+    arriving_kept arrival state at = by (is_let_in arrival packet)
       where
-        by : (b : Bool) → IsKept net (Some (carrying (cond b (decided (decision net arrival.switch From packet) packet (asked net arrival packet)) (Drops PortSec))))
-        by true = decided_kept (decision net arrival.switch From packet) (asked net arrival packet) (asked_kept arrival at)
+        by : (b : Bool) → IsKept net (Some (carrying (cond b (after_acls (ruled net From arrival packet state) packet (asked net arrival packet)) (record { passed = Drops PortSec; state = state })).passed))
+        by true = decided_kept (ruled net From arrival packet state).what (asked net arrival packet) (asked_kept arrival at)
         by false = tt
 
     -- ---- what leaves
@@ -212,8 +215,8 @@ module _ (net : Network) where
         by true = (its_port port there, inside packet is from)
         by false = tt
 
-    pub leaving_kept : (port : Port) → Contains net.ports port → IsKept net (Some (carrying (leaving_by net port packet)))
-    leaving_kept port there = decided_kept (decision net port.switch To packet) (let_out port packet) (let_out_kept port there)
+    pub leaving_kept : (port : Port) (state : State) → Contains net.ports port → IsKept net (Some (carrying (leaving_by net port packet state).passed))
+    leaving_kept port state there = decided_kept (ruled net To port packet state).what (let_out port packet) (let_out_kept port there)
 
 -- ---- packets at ports
 

@@ -5,6 +5,7 @@ pub mod Finds
 pub mod Formed
 pub mod Hits
 pub mod Kept
+pub mod Parts
 pub mod Pipelines
 pub mod PortNumbers
 pub mod Refinement

@@ -1,4 +1,4 @@
--- The pipelines of a switch do its parts, where its stages do what the stage laws say.
+-- The pipelines of a switch do its parts, where its stages do what the stage laws say, to packets of which no connection is asked for.
 use Rattle.std.proofs.Common.{◌≡◌, ℕ, suc, Bool, true, false, cond, List, [], ◌∷◌, eqb, sym, ap, refl, subst, ◌∙◌, arith, inl, inr, ◌⊎◌}
 use Rattle.std.specs.Prelude.{Option, Some, None, option_map, is_some, not, ◌&&◌}
 use Rattle.std.specs.List.{Contains, find}
@@ -23,13 +23,13 @@ use Rattle.sb_model.specs.declared.stage.Stage.{Stage}
 use Rattle.sb_model.specs.declared.stage.Stage.TheVariants.{LsInCheckPortSec, LsInPreAcl, LsInPreStateful, LsInAclEval, LsInLb, LsInStateful, LsInArpRsp, LsInL2Lkup, LsInL2Unknown, LsOutPreAcl, LsOutPreStateful, LsOutAclEval, LsOutStateful, LsOutCheckPortSec}
 use Rattle.sb_model.specs.Stage.{all_stages, stage_at}
 use Rattle.net_meaning.specs.AclVerdict.{Decision, decision}
-use Rattle.net_meaning.specs.AclVerdict.Decision.{Allowed, Dropped, Rejected}
+use Rattle.net_meaning.specs.AclVerdict.Decision.{Allowed, Dropped, Rejected, Full}
 use Rattle.net_meaning.specs.Address.{is_multicast}
 use Rattle.net_meaning.specs.Guards.{is_let_in, is_let_out}
 use Rattle.net_meaning.specs.Places.{datapath_at}
 use Rattle.net_meaning.specs.Stateless.{IsStateless}
 use Rattle.net_meaning.specs.Switches as means
-use Rattle.net_meaning.specs.Switches.{mac_with, is_answering, answering, port_for, open_ports, unknown_ports, to_unknown, to_port, sent_on, turned_back, is_request, asked, rejection, arriving_at, let_out, leaving_by}
+use Rattle.net_meaning.specs.Switches.{mac_with, is_answering, answering, port_for, open_ports, unknown_ports, to_unknown, to_port, sent_on, turned_back, is_request, asked, rejection, let_out}
 use Rattle.net_meaning.specs.Walk.{Passed, carried, carrying}
 use Rattle.net_meaning.specs.Walk.Passed.{GoesOn, Drops, Makes}
 use Rattle.net_meaning.specs.Walk.Target.{OnePort, Ports}
@@ -39,13 +39,12 @@ use Rattle.net_rows.proofs.Elements.{one_of, one_of_none, any_gives, Contains-fr
 use Rattle.net_rows.proofs.Sound.{each_passes}
 use Rattle.tr_stage.specs.declared.outcome.Outcome.{Outcome}
 use Rattle.tr_stage.specs.declared.outcome.Outcome.TheVariants.{Leave, Deliver, Made, Drop}
-use Rattle.tr_stage.specs.Machine.{Flows, PipelineRun, StageEnd, go_on, kind_of, run_from, run_pipeline, step}
+use Rattle.tr_stage.specs.Machine.{Flows, StageEnd, kind_of, step}
 use Rattle.tr_stage.specs.Machine.StageEnd.{On, Ends}
-use Rattle.tr_stage.proofs.Steps.{pipeline_begins}
+use Rattle.tr_stage.proofs.PacketRuns.{PipelineRun, go_on, pipeline_begins, run_from, run_pipeline}
 use Rattle.ls_laws.specs.Steps.{flows_at, sent_back, decided, answered_for, found_at, sent_unknown, leaves_by, IsOn, IsPortOf, Does, Passes, ChecksIn, ChecksOut, DecidesIn, DecidesOut, Answers, LooksUp, FindsNone}
 use Rattle.ls_laws.proofs.Packets.{set_value}
-use Rattle.tr_walk.specs.Machine.{State, numbered, target_of, after_ingress, after_egress, ingress, egress}
-use Rattle.tr_walk.specs.Refined.{IsIngress, IsEgress, IsLate}
+use Rattle.tr_walk.specs.Machine.{numbered, target_of, after_ingress, after_egress}
 use Rattle.tr_walk.proofs.Carried.{carried_outport, carried_back, back_outport}
 use Rattle.tr_walk.proofs.Formed.{replied, replied_inport, reset_is, reset_inport, error_is, error_inport}
 use Rattle.tr_walk.proofs.Kept.{at_its_number, find_gives, mac_fits, number_below}
@@ -122,7 +121,7 @@ module _ (laws : Laws) (net : Network) (sound : IsSound net) (stateless : IsStat
   of_switch : kind_of flows ≡ kinds.Switch
   of_switch = subst (λ (d : ObjId). kind_of (flows_at net d) ≡ kinds.Switch) of.2 (rw (numbered_switch net.switches of.0 of.1) refl)
 
-  at_dp : datapath_at net port.id ≡ dp
+  pub at_dp : datapath_at net port.id ≡ dp
   at_dp = rw (at_its_number net sound stateless port there) refl
 
   -- numbers of ports are no multicast group's
@@ -226,6 +225,7 @@ module _ (laws : Laws) (net : Network) (sound : IsSound net) (stateless : IsStat
         by Allowed = allowed_in
         by Dropped = refl
         by Rejected = answer (is_answerable packet)
+        by Full = refl
 
     let_in_is : sees (run_from flows 127 LsInPreAcl packet).outcome ≡ Some (carrying (means.decided (decision net dp From packet) packet (asked net port packet)))
     let_in_is =
@@ -233,7 +233,7 @@ module _ (laws : Laws) (net : Network) (sound : IsSound net) (stateless : IsStat
         ∙ ap sees (taken flows 125 LsInPreStateful packet _ (here LsInPreStateful (λ d. On LsInAclEval packet) (laws.in_pre_stateful net of.0 packet on)))
         ∙ acl_in
 
-    ingress_at : sees (run_pipeline flows Ingress 0 packet).outcome ≡ Some (carrying (arriving_at net port packet))
+    pub ingress_at : sees (run_pipeline flows Ingress 0 packet).outcome ≡ Some (carrying (cond (is_let_in port packet) (means.decided (decision net dp From packet) packet (asked net port packet)) (Drops PortSec)))
     ingress_at =
         ap sees (begins_in ∙ taken flows 127 LsInCheckPortSec packet _ (here LsInCheckPortSec (λ d. cond (is_let_in port packet) (On LsInPreAcl packet) (Ends (Some (Drop PortSec)))) (laws.checks_in net of.0 packet on port its_port from)))
         ∙ by (is_let_in port packet)
@@ -242,9 +242,6 @@ module _ (laws : Laws) (net : Network) (sound : IsSound net) (stateless : IsStat
             ≡ Some (carrying (cond b (means.decided (decision net dp From packet) packet (asked net port packet)) (Drops PortSec)))
         by true = let_in_is
         by false = refl
-
-    pub ingress_is : option_map carrying (ingress {S = State} net port.id packet tt).passed ≡ Some (carrying (arriving_at net port packet))
-    ingress_is = rw at_dp ingress_at
 
   -- ---- egress
 
@@ -271,7 +268,7 @@ module _ (laws : Laws) (net : Network) (sound : IsSound net) (stateless : IsStat
         by true = ap (λ n. Some (GoesOn (OnePort (numbered n)) (carried packet))) to
         by false = refl
 
-    acl_out : sees_out (run_from flows 126 LsOutAclEval packet).outcome ≡ Some (carrying (leaving_by net port packet))
+    acl_out : sees_out (run_from flows 126 LsOutAclEval packet).outcome ≡ Some (carrying (means.decided (decision net dp To packet) packet (let_out port packet)))
     acl_out = ap sees_out (taken flows 125 LsOutAclEval packet _ (here LsOutAclEval (λ d. decided (decision net d To packet) LsOutStateful packet) (laws.decides_out net of.0 packet on))) ∙ by (decision net dp To packet)
       where
         rejection_is' : (tcp : Bool) → IsPacket (cond tcp (reset packet) (icmp_error packet PortUnreachable))
@@ -291,25 +288,13 @@ module _ (laws : Laws) (net : Network) (sound : IsSound net) (stateless : IsStat
         by Allowed = ap sees_out (taken flows 124 LsOutStateful packet _ (here LsOutStateful (λ d. On LsOutCheckPortSec packet) (laws.out_stateful net of.0 packet on))) ∙ checked_out 123
         by Dropped = refl
         by Rejected = answer (is_answerable packet)
+        by Full = refl
 
-    egress_at : sees_out (run_pipeline flows Egress 0 packet).outcome ≡ Some (carrying (leaving_by net port packet))
+    pub egress_at : sees_out (run_pipeline flows Egress 0 packet).outcome ≡ Some (carrying (means.decided (decision net dp To packet) packet (let_out port packet)))
     egress_at =
         ap sees_out (begins_out ∙ taken flows 127 LsOutPreAcl packet _ (here LsOutPreAcl (λ d. On LsOutPreStateful packet) (laws.out_pre_acl net of.0 packet on)))
         ∙ ap sees_out (taken flows 126 LsOutPreStateful packet _ (here LsOutPreStateful (λ d. On LsOutAclEval packet) (laws.out_pre_stateful net of.0 packet on)))
         ∙ acl_out
 
-    pub egress_is : option_map carrying (egress {S = State} net 0 port.id packet tt).passed ≡ Some (carrying (leaving_by net port packet))
-    egress_is = rw at_dp egress_at
-
-    pub late_is : option_map carrying (egress {S = State} net (last_table kinds.Switch) port.id packet tt).passed ≡ Some (carrying (let_out port packet))
-    late_is = rw at_dp (ap sees_out begins_late ∙ checked_out 127)
-
-module _ (laws : Laws) (net : Network) (sound : IsSound net) (stateless : IsStateless net) where
-  pub of_ingress : IsIngress net
-  of_ingress port packet there formed from = ingress_is laws net sound stateless port there packet formed from
-
-  pub of_egress : IsEgress net
-  of_egress port packet there formed to = egress_is laws net sound stateless port there packet formed to
-
-  pub of_late : IsLate net
-  of_late port packet there formed to = late_is laws net sound stateless port there packet formed to
+    pub late_at : sees_out (run_pipeline flows Egress (last_table kinds.Switch) packet).outcome ≡ Some (carrying (let_out port packet))
+    late_at = ap sees_out begins_late ∙ checked_out 127

@@ -22,8 +22,11 @@ use Rattle.sb_model.specs.declared.stage.Pipeline.{Pipeline}
 use Rattle.sb_model.specs.declared.stage.Stage.{Stage}
 use Rattle.sb_rows.specs.Match.{is_in_table}
 use Rattle.sb_rows.proofs.Tables.{in_table-gives}
-use Rattle.tr_stage.specs.Machine.{Flows, PipelineRun, acting, flows_of, go_on, hit_at, kind_of, on_to, run_from, run_pipeline, step}
-use Rattle.tr_stage.specs.Runnable.{IsRunnable}
+use Rattle.ct_core.specs.State.{State}
+use Rattle.tr_stage.specs.Machine.{Flows, acting, flows_of, hit_at, kind_of}
+use Rattle.tr_pipe.specs.Machine.{PipelineRun, go_on, on_to, over, run_from, run_pipeline, step}
+use Rattle.tr_pipe.specs.Runnable.{IsRunnable}
+use Rattle.tr_pipe.specs.Tracking.{Flight, coming}
 use Rattle.ls_laws.specs.Steps.{flows_at}
 use Rattle.tr_walk.specs.inner.Telling.{AreRowsOf}
 use Rattle.tr_walk.proofs.Pipelines.{numbered_switch, switch_there}
@@ -44,22 +47,19 @@ one_found {X} p (x ∷ xs) some = by (p x) refl some (one_found p xs)
 
 -- ---- rows that are no datapath's
 
-nothing : PipelineRun
-nothing = record { hits = []; outcome = None }
-
--- where no row takes a packet, nothing is told
-stuck : (flows : Flows) (stage : Stage) (packet : Values) → acting flows stage packet ≡ None → run_from flows 128 stage packet ≡ nothing
-unfolding run_from step hit_at nothing
-stuck flows stage packet none = rw none refl
+-- where no row takes a packet, nothing is told, and the state stays
+stuck : (flows : Flows) (stage : Stage) (flight : Flight) → acting flows stage flight.packet ≡ None → run_from flows 128 stage flight ≡ over None flight.state
+unfolding run_from step hit_at
+stuck flows stage flight none = rw none refl
 
 -- nor where there is no stage
-nowhere : (flows : Flows) (pipeline : Pipeline) (table : ℕ) (packet : Values) → ((stage : Stage) → acting flows stage packet ≡ None) → run_pipeline flows pipeline table packet ≡ nothing
-unfolding run_pipeline nothing
-nowhere flows pipeline table packet none = by (stage_at (kind_of flows) pipeline table)
+nowhere : (flows : Flows) (pipeline : Pipeline) (table : ℕ) (packet : Values) (state : State) → ((stage : Stage) → acting flows stage packet ≡ None) → run_pipeline flows pipeline table packet state ≡ over None state
+unfolding run_pipeline
+nowhere flows pipeline table packet state none = by (stage_at (kind_of flows) pipeline table)
   where
-    by : (at : Option Stage) → go_on (run_from flows 128) (on_to at packet) ≡ nothing
+    by : (at : Option Stage) → go_on (run_from flows 128) (on_to at (coming packet state)) ≡ over None state
     by None = refl
-    by (Some stage) = stuck flows stage packet (none stage)
+    by (Some stage) = stuck flows stage (coming packet state) (none stage)
 
 module _ (net : Network) where
   is_switch : ObjId → Bool
@@ -87,18 +87,22 @@ module _ (net : Network) where
     none_acts : (stage : Stage) → acting (flows_at net dp) stage packet ≡ None
     none_acts stage = none_found (λ row. is_in_table dp stage row && holds (names net) packet row.matching) (build.rows net) (not_in_table stage)
 
-    no_run : (pipeline : Pipeline) (table : ℕ) → run_pipeline (flows_at net dp) pipeline table packet ≡ nothing
-    no_run pipeline table = nowhere (flows_at net dp) pipeline table packet none_acts
+    no_run : (pipeline : Pipeline) (table : ℕ) (state : State) → run_pipeline (flows_at net dp) pipeline table packet state ≡ over None state
+    no_run pipeline table state = nowhere (flows_at net dp) pipeline table packet state none_acts
 
--- where there is no switch, there are no hits, and nothing becomes of the packet
-module _ (net : Network) (sound : IsSound net) (dp : ObjId) (other : (names net).is_switch dp ≡ false) (packet : Values) (pipeline : Pipeline) (table : ℕ) where
-  pub no_hits : (run_pipeline (flows_at net dp) pipeline table packet).hits ≡ []
-  unfolding is_switch nothing
-  no_hits = ap (λ (r : PipelineRun). r.hits) (no_run net sound dp other packet pipeline table)
+-- where there is no switch, there are no hits, nothing becomes of the packet, and the state stays
+module _ (net : Network) (sound : IsSound net) (dp : ObjId) (other : (names net).is_switch dp ≡ false) (packet : Values) (pipeline : Pipeline) (table : ℕ) (state : State) where
+  pub no_hits : (run_pipeline (flows_at net dp) pipeline table packet state).hits ≡ []
+  unfolding is_switch
+  no_hits = ap (λ (r : PipelineRun). r.hits) (no_run net sound dp other packet pipeline table state)
 
-  pub no_outcome : (run_pipeline (flows_at net dp) pipeline table packet).outcome ≡ None
-  unfolding is_switch nothing
-  no_outcome = ap (λ (r : PipelineRun). r.outcome) (no_run net sound dp other packet pipeline table)
+  pub no_outcome : (run_pipeline (flows_at net dp) pipeline table packet state).outcome ≡ None
+  unfolding is_switch
+  no_outcome = ap (λ (r : PipelineRun). r.outcome) (no_run net sound dp other packet pipeline table state)
+
+  pub no_change : (run_pipeline (flows_at net dp) pipeline table packet state).state ≡ state
+  unfolding is_switch
+  no_change = ap (λ (r : PipelineRun). r.state) (no_run net sound dp other packet pipeline table state)
 
 -- ---- a switch
 

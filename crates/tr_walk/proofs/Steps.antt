@@ -1,6 +1,6 @@
 -- The steps of a walk by rows tell what the walk tells.
-use Rattle.std.proofs.Common.{◌≡◌, ℕ, zero, suc, ◌+◌, ◌-◌, ◌<◌, ◌≤◌, true, false, List, [], ◌∷◌, ◌++◌, length, drop, get_or, map, append_assoc, append-nil, sym, ap, refl, ◌∙◌, arith}
-use Rattle.std.specs.Prelude.{Option, option_map, filter, not, IsSome}
+use Rattle.std.proofs.Common.{◌≡◌, ℕ, zero, suc, ◌+◌, ◌-◌, ◌<◌, ◌≤◌, true, false, List, [], ◌∷◌, ◌++◌, length, drop, get_or, map, append_assoc, append-nil, sym, ap, refl, subst, ◌∙◌, arith}
+use Rattle.std.specs.Prelude.{Option, IsSome}
 use Rattle.std.proofs.lemmas.List.{drop_all, drop_more}
 use Rattle.nv_base.specs.declared.object.ObjId.{ObjId}
 use Rattle.nv_base.specs.declared.field.Field.TheVariants.{Outport}
@@ -12,20 +12,21 @@ use Rattle.sb_model.specs.declared.stage.DatapathKind.TheVariants as kinds
 use Rattle.sb_model.specs.declared.stage.Pipeline.TheVariants.{Ingress, Egress}
 use Rattle.net_meaning.specs.Places.{Side, datapath_at, side_of}
 use Rattle.net_meaning.specs.Places.Side.{Peer}
-use Rattle.net_meaning.specs.Walk.{Part, Told, told_of, carried, carrying, then_part, delivered_to, left, copies, arrived, leaves}
+use Rattle.net_meaning.specs.Walk.{Part, Told, Walked, told_of, after_told, carried, then_part, delivered_to, left, arrived}
 use Rattle.net_meaning.specs.Walk.Target.{Ports}
 use Rattle.net_meaning.specs.Walk.Told.{Note}
 use Rattle.net_meaning.specs.declared.answer.Answer.{Answer}
 use Rattle.net_meaning.specs.declared.answer.Answer.TheVariants.{Reject, Arp}
-use Rattle.tr_stage.specs.Machine.{run_pipeline}
+use Rattle.ct_core.specs.State.{State}
+use Rattle.tr_pipe.specs.Machine.{PipelineRun, run_pipeline}
 use Rattle.tr_stage.specs.declared.outcome.Hit.{Hit}
 use Rattle.tr_stage.specs.declared.outcome.Outcome.{Outcome}
 use Rattle.ls_laws.specs.Steps.{flows_at}
 use Rattle.tr_walk.specs.declared.event.Event.{Event}
 use Rattle.tr_walk.specs.declared.event.Event.TheVariants as events
 use Rattle.tr_walk.specs.Events.{event_of}
-use Rattle.tr_walk.specs.Machine.{State, numbered, after_ingress, after_egress, egress, part_of, pipelines}
-use Rattle.tr_walk.specs.inner.Telling.{told, onward, table_for, entering, arriving, sending, leaving, going_out, delivering, answering}
+use Rattle.tr_walk.specs.Machine.{numbered, after_ingress, egress, part_of, pipelines}
+use Rattle.tr_walk.specs.inner.Telling.{events_of, onward, table_for, entering, arriving, sending, leaving, going_out, delivering, answering}
 use Rattle.sb_model.specs.Stage.{last_table}
 
 -- ---- events
@@ -44,67 +45,131 @@ part_told : (old mid new : List Event) (hits : List Hit) (more : List (Told Hit)
 part_told old mid new hits more first then =
     then ∙ ap (λ front. front ++ map event_of more) first ∙ append_assoc old (map events.Hit hits) (map event_of more) ∙ ap (λ all. old ++ all) (sym (noted hits more))
 
+-- what is told after the old events, and the state that is left, are those of a walk
+pub record Tells (old now : List Event) (after : State) (walked : Walked Hit State) : Type 0 where
+  pub all : now ≡ old ++ events_of walked
+  pub left : after ≡ walked.state
+
+-- what is told of one walk after these events is what is told of the other after those, and the same state is left
+pub record SameEnd (one : List Event) (walked : Walked Hit State) (other : List Event) (whole : Walked Hit State) : Type 0 where
+  pub all : one ++ events_of walked ≡ other ++ events_of whole
+  pub left : walked.state ≡ whole.state
+
+-- a run whose hits were told, with what became of the packet and the state that it left
+pub record IsTold (old mid : List Event) (outcome : Option Outcome) (state : State) (run : PipelineRun) : Type 0 where
+  pub hits : mid ≡ old ++ map events.Hit run.hits
+  pub outcome_is : outcome ≡ run.outcome
+  pub state_is : state ≡ run.state
+
 module _ (net : Network) (hops : ℕ) where
   -- ---- parts
 
-  pub entered : (arrival : ObjId) (packet from : Values) (outcome : Option Outcome) (old mid : List Event) → from ≡ start packet arrival.0
-      → mid ≡ old ++ map events.Hit (run_pipeline (flows_at net (datapath_at net arrival)) Ingress 0 from).hits → outcome ≡ (run_pipeline (flows_at net (datapath_at net arrival)) Ingress 0 from).outcome
-      → mid ++ arriving net hops arrival outcome ≡ old ++ entering net hops arrival packet
-  entered arrival packet from outcome old mid starts hits is =
-      let run = run_pipeline (flows_at net (datapath_at net arrival)) Ingress 0 from in
-      part_told old mid _ run.hits (arrived net (pipelines net) (onward net hops) arrival (option_map carrying (after_ingress net (datapath_at net arrival) run.outcome)) tt).told hits (ap (λ o. mid ++ arriving net hops arrival o) is)
-      ∙ ap (λ (p : Values). old ++ told (then_part (ingress_from p) (arrived net (pipelines net) (onward net hops) arrival))) starts
-    where
-      ingress_from : Values → Part Hit State
-      ingress_from p = part_of (after_ingress net (datapath_at net arrival)) (run_pipeline (flows_at net (datapath_at net arrival)) Ingress 0 p) tt
+  module _ (state later : State) (arrival : ObjId) (packet from : Values) (outcome : Option Outcome) (old mid : List Event) (starts : from ≡ start packet arrival.0)
+      (is : IsTold old mid outcome later (run_pipeline (flows_at net (datapath_at net arrival)) Ingress 0 from state)) where
+    abbrev ingress_from : Values → Part Hit State
+    ingress_from p = part_of (after_ingress net (datapath_at net arrival)) (run_pipeline (flows_at net (datapath_at net arrival)) Ingress 0 p state)
 
-  pub has_left : (arrival port : ObjId) (table : ℕ) (packet out : Values) (outcome : Option Outcome) (old mid : List Event) → out ≡ with_value packet Outport port.0
-      → mid ≡ old ++ map events.Hit (run_pipeline (flows_at net (datapath_at net port)) Egress table out).hits → outcome ≡ (run_pipeline (flows_at net (datapath_at net port)) Egress table out).outcome
-      → mid ++ going_out net hops arrival port outcome ≡ old ++ leaving net hops arrival port table packet
-  has_left arrival port table packet out outcome old mid leaves hits is =
-      let run = run_pipeline (flows_at net (datapath_at net port)) Egress table out in
-      part_told old mid _ run.hits (left net (pipelines net) (onward net hops) arrival port (option_map carrying (after_egress run.outcome)) tt).told hits (ap (λ o. mid ++ going_out net hops arrival port o) is)
-      ∙ ap (λ (p : Values). old ++ told (then_part (egress net table port p tt) (left net (pipelines net) (onward net hops) arrival port))) leaves
+    abbrev then_arrived : Values → Walked Hit State
+    then_arrived p = then_part (ingress_from p) (arrived net (pipelines net) (onward net hops) arrival)
+
+    abbrev run_in : PipelineRun
+    run_in = run_pipeline (flows_at net (datapath_at net arrival)) Ingress 0 from state
+
+    arrives : Option Outcome → State → Walked Hit State
+    arrives o s = arriving net hops s arrival o
+
+    pub entered : SameEnd mid (arriving net hops later arrival outcome) old (entering net hops state arrival packet)
+    unfolding arrives
+    entered = record {
+      all =
+          part_told old mid _ run_in.hits (arriving net hops run_in.state arrival run_in.outcome).told is.hits
+          (ap (λ o. mid ++ events_of (arrives o later)) is.outcome_is ∙ ap (λ s. mid ++ events_of (arrives run_in.outcome s)) is.state_is)
+          ∙ ap (λ (p : Values). old ++ events_of (then_arrived p)) starts;
+      left =
+          ap (λ o. (arrives o later).state) is.outcome_is ∙ ap (λ s. (arrives run_in.outcome s).state) is.state_is
+          ∙ ap (λ (p : Values). (then_arrived p).state) starts;
+    }
+
+  module _ (state later : State) (arrival port : ObjId) (table : ℕ) (packet out : Values) (outcome : Option Outcome) (old mid : List Event) (leaves : out ≡ with_value packet Outport port.0)
+      (is : IsTold old mid outcome later (run_pipeline (flows_at net (datapath_at net port)) Egress table out state)) where
+    abbrev then_left : Values → Walked Hit State
+    then_left p = then_part (egress net table port p state) (left net (pipelines net) (onward net hops) arrival port)
+
+    abbrev run_out : PipelineRun
+    run_out = run_pipeline (flows_at net (datapath_at net port)) Egress table out state
+
+    goes : Option Outcome → State → Walked Hit State
+    goes o s = going_out net hops s arrival port o
+
+    pub has_left : SameEnd mid (going_out net hops later arrival port outcome) old (leaving net hops state arrival port table packet)
+    unfolding goes
+    has_left = record {
+      all =
+          part_told old mid _ run_out.hits (going_out net hops run_out.state arrival port run_out.outcome).told is.hits
+          (ap (λ o. mid ++ events_of (goes o later)) is.outcome_is ∙ ap (λ s. mid ++ events_of (goes run_out.outcome s)) is.state_is)
+          ∙ ap (λ (p : Values). old ++ events_of (then_left p)) leaves;
+      left =
+          ap (λ o. (goes o later).state) is.outcome_is ∙ ap (λ s. (goes run_out.outcome s).state) is.state_is
+          ∙ ap (λ (p : Values). (then_left p).state) leaves;
+    }
 
   -- ---- copies
 
-  copied : (arrival port : ObjId) (ports : List ObjId) (packet : Values) → same port arrival ≡ false
-      → sending net hops arrival (Ports (port ∷ ports)) packet ≡ leaving net hops arrival port 0 packet ++ sending net hops arrival (Ports ports) packet
-  copied arrival port ports packet is =
-      rw is (told_append (leaves net (pipelines net) (onward net hops) arrival packet tt port).told (copies net (pipelines net) (onward net hops) arrival packet tt (filter (λ p. not (same p arrival)) ports)).told)
+  copied : (state : State) (arrival port : ObjId) (ports : List ObjId) (packet : Values) → same port arrival ≡ false
+      → sending net hops state arrival (Ports (port ∷ ports)) packet
+      ≡ after_told (leaving net hops state arrival port 0 packet).told (sending net hops (leaving net hops state arrival port 0 packet).state arrival (Ports ports) packet)
+  copied state arrival port ports packet is = rw is refl
 
-  module _ (arrival : ObjId) (packet : Values) (ports : List ObjId) (index : ℕ) (items whole : List Event)
-      (is : items ++ sending net hops arrival (Ports (drop index ports)) packet ≡ whole) where
+  module _ (arrival : ObjId) (packet : Values) (ports : List ObjId) (index : ℕ) (state : State) (items old : List Event) (whole : Walked Hit State)
+      (is : SameEnd items (sending net hops state arrival (Ports (drop index ports)) packet) old whole) where
     -- where no port is left, what was told is all
-    pub all_told : length ports ≤ index → items ≡ whole
-    all_told past = sym (append-nil items) ∙ ap (λ (left : List ObjId). items ++ sending net hops arrival (Ports left) packet) (sym (drop_all index ports past)) ∙ is
+    pub all_told : length ports ≤ index → Tells old items state whole
+    all_told past =
+        let none : sending net hops state arrival (Ports (drop index ports)) packet ≡ sending net hops state arrival (Ports []) packet = ap (λ (rest : List ObjId). sending net hops state arrival (Ports rest) packet) (drop_all index ports past) in
+        record {
+          all = sym (append-nil items) ∙ ap (λ (w : Walked Hit State). items ++ events_of w) (sym none) ∙ is.all;
+          left = ap (λ (w : Walked Hit State). w.state) (sym none) ∙ is.left;
+        }
 
     module _ (within : index < length ports) where
       abbrev here : ObjId
       here = get_or ports index (record { 0 = 0 })
 
-      next : items ++ sending net hops arrival (Ports (here ∷ drop (index + 1) ports)) packet ≡ whole
-      next = ap (λ (left : List ObjId). items ++ sending net hops arrival (Ports left) packet) (sym (drop_more ports index (record { 0 = 0 }) within)) ∙ is
+      next : SameEnd items (sending net hops state arrival (Ports (here ∷ drop (index + 1) ports)) packet) old whole
+      next = subst (λ (rest : List ObjId). SameEnd items (sending net hops state arrival (Ports rest) packet) old whole) (drop_more ports index (record { 0 = 0 }) within) is
 
       -- no copy goes back by the port that the packet came in by
-      pub skips : same here arrival ≡ true → items ++ sending net hops arrival (Ports (drop (index + 1) ports)) packet ≡ whole
-      skips back = ap (λ events. items ++ events) (skipped back) ∙ next
+      pub skips : same here arrival ≡ true → SameEnd items (sending net hops state arrival (Ports (drop (index + 1) ports)) packet) old whole
+      skips back = subst (λ (w : Walked Hit State). SameEnd items w old whole) (skipped back) next
         where
-          skipped : same here arrival ≡ true → sending net hops arrival (Ports (drop (index + 1) ports)) packet ≡ sending net hops arrival (Ports (here ∷ drop (index + 1) ports)) packet
+          skipped : same here arrival ≡ true → sending net hops state arrival (Ports (here ∷ drop (index + 1) ports)) packet ≡ sending net hops state arrival (Ports (drop (index + 1) ports)) packet
           skipped e = rw e refl
 
       -- what one copy tells comes before what the others do
-      pub one_more : (new : List Event) → same here arrival ≡ false → new ≡ items ++ leaving net hops arrival here 0 packet → new ++ sending net hops arrival (Ports (drop (index + 1) ports)) packet ≡ whole
-      one_more new differ one =
-          ap (λ front. front ++ sending net hops arrival (Ports (drop (index + 1) ports)) packet) one
-          ∙ append_assoc items (leaving net hops arrival here 0 packet) (sending net hops arrival (Ports (drop (index + 1) ports)) packet)
-          ∙ ap (λ events. items ++ events) (sym (copied arrival here (drop (index + 1) ports) packet differ))
-          ∙ next
+      pub one_more : (new : List Event) (later : State) → same here arrival ≡ false → new ≡ items ++ events_of (leaving net hops state arrival here 0 packet)
+          → later ≡ (leaving net hops state arrival here 0 packet).state → SameEnd new (sending net hops later arrival (Ports (drop (index + 1) ports)) packet) old whole
+      one_more new later differ one leaves_it =
+          subst (λ s. SameEnd new (sending net hops s arrival (Ports (drop (index + 1) ports)) packet) old whole) (sym leaves_it)
+          (by (subst (λ (w : Walked Hit State). SameEnd items w old whole) (copied state arrival here (drop (index + 1) ports) packet differ) next))
+        where
+          by : SameEnd items (after_told (leaving net hops state arrival here 0 packet).told (sending net hops (leaving net hops state arrival here 0 packet).state arrival (Ports (drop (index + 1) ports)) packet)) old whole
+              → SameEnd new (sending net hops (leaving net hops state arrival here 0 packet).state arrival (Ports (drop (index + 1) ports)) packet) old whole
+          by both =
+              let first = leaving net hops state arrival here 0 packet in
+              let others = sending net hops first.state arrival (Ports (drop (index + 1) ports)) packet in
+              record {
+                all =
+                    ap (λ front. front ++ events_of others) one
+                    ∙ append_assoc items (events_of first) (events_of others)
+                    ∙ ap (λ events. items ++ events) (sym (told_append first.told others.told))
+                    ∙ both.all;
+                left = both.left;
+              }
 
   -- ---- a packet is delivered
 
-  pub by_side : (port : ObjId) (packet : Values) (side : Side) → side ≡ side_of net port → told (delivered_to net (pipelines net) (onward net hops) port packet tt side) ≡ delivering net hops port packet
-  by_side port packet side is = ap (λ s. told (delivered_to net (pipelines net) (onward net hops) port packet tt s)) is
+  pub by_side : (state : State) (port : ObjId) (packet : Values) (side : Side) → side ≡ side_of net port → delivered_to net (pipelines net) (onward net hops) port packet state side ≡ delivering net hops state port packet
+  by_side state port packet side is = ap (λ s. delivered_to net (pipelines net) (onward net hops) port packet state s) is
 
 -- ---- hops
 
@@ -112,32 +177,38 @@ one_less : (n : ℕ) → suc n - 1 ≡ n
 one_less n = omega arith
 
 -- a packet goes over to a peer, where there is a hop left
-hop_over : (net : Network) (port : ObjId) (packet : Values) (hops : ℕ) (peer : ObjId) → (hops ≡ 0 → ⊥) → told (delivered_to net (pipelines net) (onward net hops) port packet tt (Peer peer)) ≡ entering net (hops - 1) peer packet
-hop_over net out packet zero peer some = absurd (some refl)
-hop_over net out packet (suc hops) peer some = ap (λ (n : ℕ). entering net n peer packet) (sym (one_less hops))
+hop_over : (net : Network) (state : State) (port : ObjId) (packet : Values) (hops : ℕ) (peer : ObjId) → (hops ≡ 0 → ⊥) → delivered_to net (pipelines net) (onward net hops) port packet state (Peer peer) ≡ entering net (hops - 1) state peer packet
+hop_over net state out packet zero peer some = absurd (some refl)
+hop_over net state out packet (suc hops) peer some = ap (λ (n : ℕ). entering net n state peer packet) (sym (one_less hops))
 
-pub goes_over : (net : Network) (port : ObjId) (packet : Values) (hops : ℕ) (peer : ObjId) → (hops ≡ 0 → ⊥) → Peer peer ≡ side_of net port → entering net (hops - 1) peer packet ≡ delivering net hops port packet
-goes_over net port packet hops peer some is = sym (hop_over net port packet hops peer some) ∙ by_side net hops port packet (Peer peer) is
+pub goes_over : (net : Network) (state : State) (port : ObjId) (packet : Values) (hops : ℕ) (peer : ObjId) → (hops ≡ 0 → ⊥) → Peer peer ≡ side_of net port → entering net (hops - 1) state peer packet ≡ delivering net hops state port packet
+goes_over net state port packet hops peer some is = sym (hop_over net state port packet hops peer some) ∙ by_side net hops state port packet (Peer peer) is
 
 -- and so does a packet that is made
-module _ (net : Network) (arrival : ObjId) (packet : Values) (old mid : List Event) where
+module _ (net : Network) (state : State) (arrival : ObjId) (packet : Values) (old mid : List Event) where
+  abbrev leaves_by : ℕ → ObjId → ℕ → Values → Walked Hit State
+  leaves_by hops port table taken = leaving net hops state arrival port table taken
+
+  abbrev IsSame : ℕ → Answer → Walked Hit State → Type 0
+  IsSame hops answer walked = SameEnd mid walked old (answering net hops state arrival answer packet)
+
   made_leaves : (hops : ℕ) (answer : Answer) → (hops ≡ 0 → ⊥) → mid ≡ old ++ map event_of (told_of answer arrival)
-      → mid ++ leaving net (hops - 1) arrival (numbered (value packet Outport)) (table_for answer) (carried packet) ≡ old ++ answering net hops arrival answer packet
+      → IsSame hops answer (leaves_by (hops - 1) (numbered (value packet Outport)) (table_for answer) (carried packet))
   made_leaves zero answer some first = absurd (some refl)
   made_leaves (suc hops) Reject some first =
-      ap (λ (n : ℕ). mid ++ leaving net n arrival (numbered (value packet Outport)) (last_table kinds.Switch) (carried packet)) (one_less hops)
-      ∙ ap (λ front. front ++ leaving net hops arrival (numbered (value packet Outport)) (last_table kinds.Switch) (carried packet)) first ∙ append_assoc old (events.Reject arrival ∷ []) _
+      subst (λ (n : ℕ). IsSame (suc hops) Reject (leaves_by n (numbered (value packet Outport)) (last_table kinds.Switch) (carried packet))) (sym (one_less hops))
+      (record { all = ap (λ front. front ++ events_of (leaves_by hops (numbered (value packet Outport)) (last_table kinds.Switch) (carried packet))) first ∙ append_assoc old (events.Reject arrival ∷ []) _; left = refl })
   made_leaves (suc hops) Arp some first =
-      ap (λ (n : ℕ). mid ++ leaving net n arrival (numbered (value packet Outport)) 0 (carried packet)) (one_less hops)
-      ∙ ap (λ front. front ++ leaving net hops arrival (numbered (value packet Outport)) 0 (carried packet)) first ∙ append_assoc old [] _
+      subst (λ (n : ℕ). IsSame (suc hops) Arp (leaves_by n (numbered (value packet Outport)) 0 (carried packet))) (sym (one_less hops))
+      (record { all = ap (λ front. front ++ events_of (leaves_by hops (numbered (value packet Outport)) 0 (carried packet))) first ∙ append_assoc old [] _; left = refl })
 
   pub replies : (hops : ℕ) (answer : Answer) (port : ObjId) (table : ℕ) (taken : Values) → (hops ≡ 0 → ⊥) → mid ≡ old ++ map event_of (told_of answer arrival)
-      → port ≡ numbered (value packet Outport) → table ≡ table_for answer → taken ≡ carried packet → mid ++ leaving net (hops - 1) arrival port table taken ≡ old ++ answering net hops arrival answer packet
+      → port ≡ numbered (value packet Outport) → table ≡ table_for answer → taken ≡ carried packet → IsSame hops answer (leaves_by (hops - 1) port table taken)
   replies hops answer port table taken some first port_is table_is taken_is =
-      ap (λ (p : ObjId). mid ++ leaving net (hops - 1) arrival p table taken) port_is
-      ∙ ap (λ (n : ℕ). mid ++ leaving net (hops - 1) arrival (numbered (value packet Outport)) n taken) table_is
-      ∙ ap (λ (q : Values). mid ++ leaving net (hops - 1) arrival (numbered (value packet Outport)) (table_for answer) q) taken_is
-      ∙ made_leaves hops answer some first
+      subst (λ (p : ObjId). IsSame hops answer (leaves_by (hops - 1) p table taken)) (sym port_is)
+      (subst (λ (n : ℕ). IsSame hops answer (leaves_by (hops - 1) (numbered (value packet Outport)) n taken)) (sym table_is)
+      (subst (λ (q : Values). IsSame hops answer (leaves_by (hops - 1) (numbered (value packet Outport)) (table_for answer) q)) (sym taken_is)
+      (made_leaves hops answer some first)))
 
 -- ---- tables
 

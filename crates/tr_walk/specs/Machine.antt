@@ -12,7 +12,8 @@ use Rattle.net_meaning.specs.Walk.{Target, Passed, Part, Parts, Walked, walk}
 use Rattle.net_meaning.specs.Walk.Passed.{GoesOn, Drops, Makes}
 use Rattle.net_meaning.specs.Walk.Target.{OnePort, Ports}
 use Rattle.net_meaning.specs.declared.answer.Answer.{Answer}
-use Rattle.tr_stage.specs.Machine.{PipelineRun, run_pipeline}
+use Rattle.ct_core.specs.State.{State}
+use Rattle.tr_pipe.specs.Machine.{PipelineRun, run_pipeline}
 use Rattle.tr_stage.specs.declared.outcome.Hit.{Hit}
 use Rattle.tr_stage.specs.declared.outcome.Outcome.{Outcome}
 use Rattle.tr_stage.specs.declared.outcome.Outcome.TheVariants.{Leave, Deliver, Made, Drop}
@@ -20,10 +21,6 @@ use Rattle.ls_laws.specs.Steps.{flows_at}
 use Rattle.sb_model.specs.Stage.{last_table}
 use Rattle.sb_model.specs.declared.stage.DatapathKind.TheVariants as datapath
 use Rattle.nv_base.specs.Object.{flood_number, unknown_number}
-
--- what a walk leaves for the next one: nothing, as no switch tracks connections
-abbrev pub State : Type 0
-State = Unit {0}
 
 -- the port of this number
 abbrev pub numbered : ℕ → ObjId
@@ -54,22 +51,22 @@ after_egress (Some (Made packet table answer)) = made packet table answer
 after_egress (Some (Drop cause)) = Some (Drops cause)
 after_egress _ = None
 
--- a pipeline's run as a part of a walk, which leaves the state as it is
-abbrev pub part_of : {S : Type 0} → (Option Outcome → Option Passed) → PipelineRun → S → Part Hit S
-part_of after run state = record { notes = run.hits; passed = after run.outcome; state = state }
+-- a pipeline's run as a part of a walk
+abbrev pub part_of : (Option Outcome → Option Passed) → PipelineRun → Part Hit State
+part_of after run = record { notes = run.hits; passed = after run.outcome; state = run.state }
 
 -- the pipelines of the datapath of a port, from a table of egress on
-abbrev pub ingress : {S : Type 0} → Network → ObjId → Values → S → Part Hit S
+abbrev pub ingress : Network → ObjId → Values → State → Part Hit State
 ingress net port packet state =
-    part_of (after_ingress net (datapath_at net port)) (run_pipeline (flows_at net (datapath_at net port)) Ingress 0 packet) state
+    part_of (after_ingress net (datapath_at net port)) (run_pipeline (flows_at net (datapath_at net port)) Ingress 0 packet state)
 
-abbrev pub egress : {S : Type 0} → Network → ℕ → ObjId → Values → S → Part Hit S
-egress net table port packet state = part_of after_egress (run_pipeline (flows_at net (datapath_at net port)) Egress table packet) state
+abbrev pub egress : Network → ℕ → ObjId → Values → State → Part Hit State
+egress net table port packet state = part_of after_egress (run_pipeline (flows_at net (datapath_at net port)) Egress table packet state)
 
 -- the pipelines of the network as the parts of a walk
-abbrev pub pipelines : {S : Type 0} → Network → Parts Hit S
+abbrev pub pipelines : Network → Parts Hit State
 pipelines net = record { arriving = ingress net; leaving = egress net 0; late = egress net (last_table datapath.Switch) }
 
--- what the rows do with a packet that comes in by a port and may take so many hops
-abbrev pub machine : {S : Type 0} → Network → ℕ → ObjId → Values → S → Walked Hit S
+-- what the rows do with a packet that comes in by a port and may take so many hops, from a state on
+abbrev pub machine : Network → ℕ → ObjId → Values → State → Walked Hit State
 machine net hops port packet state = walk net (pipelines net) hops port packet state

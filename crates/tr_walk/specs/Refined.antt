@@ -1,44 +1,60 @@
 -- That the rows of a network do what the network means.
 use Rattle.std.specs.Prelude.{◌≡◌, ℕ, List, Contains, Some, option_map}
+use Rattle.ct_core.specs.State.{State}
 use Rattle.nv_base.specs.declared.object.ObjId.{ObjId}
 use Rattle.nv_base.specs.declared.field.Field.TheVariants.{Inport, Outport}
 use Rattle.pkt_core.specs.Packet.{Values, IsPacket, value}
 use Rattle.nb_records.specs.declared.switch.Port.{Port}
 use Rattle.nb_model.specs.Network.{Network}
-use Rattle.net_meaning.specs.Switches.{arriving_at, leaving_by, let_out, meaning}
-use Rattle.net_meaning.specs.Walk.{Walked, carrying, events}
+use Rattle.net_meaning.specs.Switches.{Did, arriving_at, leaving_by, leaving_late, meaning}
+use Rattle.net_meaning.specs.Walk.{Part, Walked, carrying, events}
 use Rattle.tr_walk.specs.Events.{without_hits}
-use Rattle.tr_walk.specs.Machine.{State, ingress, egress, machine}
+use Rattle.tr_stage.specs.declared.outcome.Hit.{Hit}
+use Rattle.tr_walk.specs.Machine.{ingress, egress, machine}
 use Rattle.tr_walk.specs.declared.event.Event.{Event}
 use Rattle.sb_model.specs.Stage.{last_table}
 use Rattle.sb_model.specs.declared.stage.DatapathKind.TheVariants as datapath
 
--- What a part of the machine makes of a packet is what the part of the meaning makes of it, in what goes on to the next part. The
--- state is left as it is.
+-- a part of the machine makes of a packet, in what goes on to the next part, what a part of the meaning makes of it, and leaves its state
+pub record DoesPart (part : Part Hit State) (did : Did) : Type 0 where
+  pub passes : option_map carrying part.passed ≡ Some (carrying did.passed)
+  pub leaves : part.state ≡ did.state
+
 abbrev pub IsIngress : Network → Type 0
 IsIngress net =
-    (port : Port) (packet : Values) → Contains net.ports port → IsPacket packet → value packet Inport ≡ port.id.0
-    → option_map carrying (ingress {S = State} net port.id packet tt).passed ≡ Some (carrying (arriving_at net port packet))
+    (port : Port) (packet : Values) (state : State) → Contains net.ports port → IsPacket packet → value packet Inport ≡ port.id.0
+    → DoesPart (ingress net port.id packet state) (arriving_at net port packet state)
 
 abbrev pub IsEgress : Network → Type 0
 IsEgress net =
-    (port : Port) (packet : Values) → Contains net.ports port → IsPacket packet → value packet Outport ≡ port.id.0
-    → option_map carrying (egress {S = State} net 0 port.id packet tt).passed ≡ Some (carrying (leaving_by net port packet))
+    (port : Port) (packet : Values) (state : State) → Contains net.ports port → IsPacket packet → value packet Outport ≡ port.id.0
+    → DoesPart (egress net 0 port.id packet state) (leaving_by net port packet state)
 
 abbrev pub IsLate : Network → Type 0
 IsLate net =
-    (port : Port) (packet : Values) → Contains net.ports port → IsPacket packet → value packet Outport ≡ port.id.0
-    → option_map carrying (egress {S = State} net (last_table datapath.Switch) port.id packet tt).passed ≡ Some (carrying (let_out port packet))
+    (port : Port) (packet : Values) (state : State) → Contains net.ports port → IsPacket packet → value packet Outport ≡ port.id.0
+    → DoesPart (egress net (last_table datapath.Switch) port.id packet state) (leaving_late port packet state)
 
 -- two walks tell the same of packets, and leave the same state
 pub record AreAlike {N M S : Type 0} (one : Walked N S) (other : Walked M S) : Type 0 where
   pub told : events one.told ≡ events other.told
   pub left : one.state ≡ other.state
 
--- these events of a packet that comes in by a port of a switch are, hits left out, what the network does with it
-abbrev pub AreMeant : Network → ℕ → ObjId → Values → List Event → Type 0
-AreMeant net hops port packet all =
-    (arrival : Port) → Contains net.ports arrival → arrival.id ≡ port → IsPacket packet → without_hits all ≡ events (meaning {S = State} net hops port packet tt).told
+-- what was told of a packet, and the states before and after
+pub record Trace : Type 0 where
+  pub before : State
+  pub told : List Event
+  pub after : State
+
+-- what was told is, hits left out, what happens in a walk, and the state after it is the one that the walk leaves
+pub record TellsOf {M : Type 0} (trace : Trace) (walked : Walked M State) : Type 0 where
+  pub told : without_hits trace.told ≡ events walked.told
+  pub left : trace.after ≡ walked.state
+
+-- what was told of a packet that comes in by a port of a switch is what the network does with it
+abbrev pub IsMeant : Network → ℕ → ObjId → Values → Trace → Type 0
+IsMeant net hops port packet trace =
+    (arrival : Port) → Contains net.ports arrival → arrival.id ≡ port → IsPacket packet → TellsOf trace (meaning net hops port packet trace.before)
 
 -- what the rows do with each packet that comes in by a port of a switch is, hits left out, what the network does with it
 abbrev pub IsRefined : Network → Type 0

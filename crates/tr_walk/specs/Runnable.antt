@@ -2,7 +2,7 @@
 use Rattle.std.specs.Prelude.{Contains}
 use Rattle.nb_records.specs.declared.switch.Switch.{Switch}
 use Rattle.nb_model.specs.Network.{Network}
-use Rattle.tr_stage.specs.Runnable.{IsRunnable}
+use Rattle.tr_pipe.specs.Runnable.{IsRunnable}
 use Rattle.ls_laws.specs.Steps.{flows_at}
 
 -- each packet comes to the end of a pipeline, on each switch

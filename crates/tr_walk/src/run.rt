@@ -3,13 +3,14 @@ ghost use Rattle.std.specs.Prelude.{◌≡◌, ◌++◌, map, IfOk, OnOk, IsSome
 ghost use Rattle.sb_model.specs.Stage.{stage_at};
 ghost use Rattle.sb_model.specs.declared.stage.DatapathKind.TheVariants as kinds;
 ghost use Rattle.net_meaning.specs.Places.{datapath_at};
-ghost use Rattle.tr_stage.specs.Machine.{run_pipeline};
+ghost use Rattle.tr_pipe.specs.Machine.{run_pipeline};
 ghost use Rattle.ls_laws.specs.Steps.{flows_at};
 ghost use Rattle.tr_walk.specs.declared.event.Event.TheVariants as variants;
 ghost use Rattle.tr_walk.specs.inner.Telling.{AreRowsOf};
 
 use crate::Event;
 use crate::places::datapath_at;
+use ct_state::Work;
 use expr_core::Env;
 use nb_store::Records;
 use nv_base::{ObjId, OutOfMemory};
@@ -17,7 +18,8 @@ use pkt_core::Packet;
 use sb_model::Pipeline;
 use sb_rows::Rows;
 use std::alloc::Global;
-use tr_stage::{Hit, Outcome, run_pipeline};
+use tr_pipe::run_pipeline;
+use tr_stage::{Hit, Outcome};
 
 // For so many hits there is room from the start: as many as most pipelines have.
 const FEW: usize = 16;
@@ -38,12 +40,15 @@ pub(crate) fn run(
     pipeline: Pipeline,
     table: u8,
     packet: &Packet,
+    work: &mut Work,
     events: &mut Vec<Event>,
 ) -> Result<Option<Outcome>, OutOfMemory>
     requires rows { AreRowsOf flows.records.now flows.rows.now }
     requires table { IsSome (stage_at kinds.Switch pipeline table) }
-    ensures hits { OnOk result (events.new.items ≡ events.old.items ++ map variants.Hit (run_pipeline (flows_at flows.entry.records.now (datapath_at flows.entry.records.now port)) pipeline table packet.now).hits) }
-    ensures outcome { IfOk result (λ outcome. outcome ≡ (run_pipeline (flows_at flows.entry.records.now (datapath_at flows.entry.records.now port)) pipeline table packet.now).outcome) }
+    ensures hits { OnOk result (events.new.items ≡ events.old.items ++ map variants.Hit (run_pipeline (flows_at flows.entry.records.now (datapath_at flows.entry.records.now port)) pipeline table packet.now work.old.state).hits) }
+    ensures state { OnOk result (work.new.state ≡ (run_pipeline (flows_at flows.entry.records.now (datapath_at flows.entry.records.now port)) pipeline table packet.now work.old.state).state) }
+    ensures back { work.new.back ≡ work.old.back }
+    ensures outcome { IfOk result (λ outcome. outcome ≡ (run_pipeline (flows_at flows.entry.records.now (datapath_at flows.entry.records.now port)) pipeline table packet.now work.old.state).outcome) }
 {
     let dp = datapath_at(flows.records, port);
     if !flows.records.is_switch(dp) {
@@ -57,6 +62,7 @@ pub(crate) fn run(
         pipeline,
         table,
         packet,
+        work,
         &mut hits,
     )?;
     put_hits(&hits, events)?;

@@ -1,5 +1,5 @@
 //! The walk of a packet: it comes in by a port, leaves by others, and goes on over their peers.
-ghost use Rattle.std.specs.Prelude.{◌≡◌, ◌&&◌, ◌==◌, ◌++◌, map, IfOk, OnOk, IsSome};
+ghost use Rattle.std.specs.Prelude.{◌≡◌, ◌&&◌, ◌==◌, ◌++◌, map, IfOk, OnOk, OnErr, IsSome};
 ghost use Rattle.nv_base.specs.declared.field.Field.TheVariants.{Outport, FlagsLoopback};
 ghost use Rattle.pkt_core.specs.Packet.{value};
 ghost use Rattle.sb_model.specs.Stage.{stage_at};
@@ -13,15 +13,16 @@ ghost use Rattle.net_meaning.specs.Walk.{carried, told_of};
 ghost use Rattle.net_meaning.specs.Walk.Target.{Ports};
 ghost use Rattle.net_rows.specs.Build as build;
 ghost use Rattle.tr_walk.specs.Events.{event_of};
-ghost use Rattle.tr_walk.specs.Machine.{State, machine, numbered, target_of};
-ghost use Rattle.tr_walk.specs.Refined.{AreMeant};
+ghost use Rattle.tr_walk.specs.Machine.{machine, numbered, target_of};
+ghost use Rattle.tr_walk.specs.Refined.{IsMeant};
 ghost use Rattle.tr_walk.specs.Runnable.{AreRunnable};
-ghost use Rattle.tr_walk.specs.inner.Telling.{AreRowsOf, table_for, entering, arriving, sending, leaving, going_out, delivering, answering};
+ghost use Rattle.tr_walk.specs.inner.Telling.{AreRowsOf, events_of, table_for, entering, arriving, sending, leaving, going_out, delivering, answering};
 
 use crate::Event;
 use crate::places::{Side, datapath_at, side_of};
 use crate::ports::{group_of, ports_of};
 use crate::run::{Flows, run};
+use ct_state::{State, Work};
 use nb_store::Records;
 use net_meaning::{Answer, Cause};
 use nv_base::{Field, ObjId, OutOfMemory};
@@ -35,12 +36,14 @@ use tr_stage::Outcome;
 const FEW: usize = 32;
 
 /// What is told of a packet that comes in by a port and may take so many hops: a hit for each row that acts, and what becomes of the
-/// packet and of its copies and answers, each to its end before the next (ovn-trace(8)). The network is sound, and the rows are its own,
-/// such that each packet comes to an end in them. Where memory runs out the answer is `OutOfMemory`.
+/// packet and of its copies and answers, each to its end before the next (ovn-trace(8)); and the state becomes the one that they leave.
+/// The network is sound, and the rows are its own, such that each packet comes to an end in them. Where memory runs out the answer is
+/// `OutOfMemory`, and the state is as before.
 pub fn trace(
     alloc: Global,
     rows: &Rows,
     records: &Records,
+    state: &mut State,
     port: ObjId,
     packet: &Packet,
     hops: u32,
@@ -48,8 +51,10 @@ pub fn trace(
     requires sound { IsSound records.now }
     requires rows { rows.now ≡ build.rows records.now }
     requires run { AreRunnable records.now }
-    ensures events { IfOk result (λ events. events.items ≡ map event_of (machine {S = State} records.now hops port packet.now tt).told) }
-    ensures refinement { IfOk result (λ events. IsStateless records.now → AreMeant records.now hops port packet.now events.items) }
+    ensures events { IfOk result (λ events. events.items ≡ map event_of (machine records.now hops port packet.now state.old).told) }
+    ensures state { OnOk result (state.new ≡ (machine records.now hops port packet.now state.old).state) }
+    ensures same { OnErr result (state.new ≡ state.old) }
+    ensures refinement { IfOk result (λ events. IsStateless records.now → IsMeant records.now hops port packet.now (record { before = state.old; told = events.items; after = state.new })) }
 {
     let mut events = Vec::with_capacity(alloc, FEW)?;
     let flows = Flows {
@@ -57,8 +62,17 @@ pub fn trace(
         rows,
         records,
     };
-    enter(flows, hops, port, packet, &mut events)?;
-    Ok(events)
+    let mut work = Work::begin(alloc, state)?;
+    match enter(flows, hops, port, packet, &mut work, &mut events) {
+        Ok(()) => {
+            work.finish(state);
+            Ok(events)
+        }
+        Err(OutOfMemory) => {
+            work.abandon(state);
+            Err(OutOfMemory)
+        }
+    }
 }
 
 // A packet comes into a datapath by a port.
@@ -69,14 +83,17 @@ fn enter(
     hops: u32,
     arrival: ObjId,
     packet: &Packet,
+    work: &mut Work,
     events: &mut Vec<Event>,
 ) -> Result<(), OutOfMemory>
     requires { AreRowsOf flows.records.now flows.rows.now }
-    ensures { OnOk result (events.new.items ≡ events.old.items ++ entering flows.entry.records.now hops arrival packet.now) }
+    ensures told { OnOk result (events.new.items ≡ events.old.items ++ events_of (entering flows.entry.records.now hops work.old.state arrival packet.now)) }
+    ensures left { OnOk result (work.new.state ≡ (entering flows.entry.records.now hops work.old.state arrival packet.now).state) }
+    ensures back { work.new.back ≡ work.old.back }
 {
     let start = packet.start(arrival);
-    let outcome = run(flows, arrival, Pipeline::Ingress, 0, &start, events)?;
-    arrive(flows, hops, arrival, &outcome, events)
+    let outcome = run(flows, arrival, Pipeline::Ingress, 0, &start, work, events)?;
+    arrive(flows, hops, arrival, &outcome, work, events)
 }
 
 // What follows ingress.
@@ -86,23 +103,26 @@ fn arrive(
     hops: u32,
     arrival: ObjId,
     outcome: &Option<Outcome>,
+    work: &mut Work,
     events: &mut Vec<Event>,
 ) -> Result<(), OutOfMemory>
     requires { AreRowsOf flows.records.now flows.rows.now }
-    ensures { OnOk result (events.new.items ≡ events.old.items ++ arriving flows.entry.records.now hops arrival outcome.now) }
+    ensures told { OnOk result (events.new.items ≡ events.old.items ++ events_of (arriving flows.entry.records.now hops work.old.state arrival outcome.now)) }
+    ensures left { OnOk result (work.new.state ≡ (arriving flows.entry.records.now hops work.old.state arrival outcome.now).state) }
+    ensures back { work.new.back ≡ work.old.back }
 {
     match outcome {
         Some(Outcome::Leave(packet, table)) => {
             if *table > 0 {
                 return Ok(());
             }
-            send(flows, hops, arrival, packet, events)
+            send(flows, hops, arrival, packet, work, events)
         }
         Some(Outcome::Made(packet, table, answer)) => {
             if *table != DatapathKind::Switch.last_table() {
                 return Ok(());
             }
-            reply(flows, hops, arrival, *answer, packet, events)
+            reply(flows, hops, arrival, *answer, packet, work, events)
         }
         Some(Outcome::Drop(cause)) => {
             events.push(Event::Drop(datapath_at(flows.records, arrival), *cause))?;
@@ -120,11 +140,14 @@ fn send(
     hops: u32,
     arrival: ObjId,
     packet: &Packet,
+    work: &mut Work,
     events: &mut Vec<Event>,
 ) -> Result<(), OutOfMemory>
     requires { AreRowsOf flows.records.now flows.rows.now }
-    ensures { OnOk result (events.new.items ≡ events.old.items
-        ++ sending flows.entry.records.now hops arrival (target_of flows.entry.records.now (datapath_at flows.entry.records.now arrival) (value packet.now Outport)) (carried packet.now)) }
+    ensures told { OnOk result (events.new.items ≡ events.old.items
+        ++ events_of (sending flows.entry.records.now hops work.old.state arrival (target_of flows.entry.records.now (datapath_at flows.entry.records.now arrival) (value packet.now Outport)) (carried packet.now))) }
+    ensures left { OnOk result (work.new.state ≡ (sending flows.entry.records.now hops work.old.state arrival (target_of flows.entry.records.now (datapath_at flows.entry.records.now arrival) (value packet.now Outport)) (carried packet.now)).state) }
+    ensures back { work.new.back ≡ work.old.back }
 {
     let port = outport(packet);
     let packet = carried(packet);
@@ -132,14 +155,14 @@ fn send(
     match group_of(port) {
         Some(group) => {
             let ports = ports_of(flows.alloc, flows.records, dp, group)?;
-            copy(flows, hops, arrival, &ports, &packet, events)
+            copy(flows, hops, arrival, &ports, &packet, work, events)
         }
         None => {
             if is_same_port(arrival, port, &packet) {
                 events.push(Event::Drop(dp, Cause::SamePort))?;
                 return Ok(());
             }
-            leave(flows, hops, arrival, port, 0, &packet, events)
+            leave(flows, hops, arrival, port, 0, &packet, work, events)
         }
     }
 }
@@ -153,16 +176,19 @@ fn copy(
     arrival: ObjId,
     ports: &[ObjId],
     packet: &Packet,
+    work: &mut Work,
     events: &mut Vec<Event>,
 ) -> Result<(), OutOfMemory>
     requires { AreRowsOf flows.records.now flows.rows.now }
-    ensures { OnOk result (events.new.items ≡ events.old.items ++ sending flows.entry.records.now hops arrival (Ports ports.now) packet.now) }
+    ensures told { OnOk result (events.new.items ≡ events.old.items ++ events_of (sending flows.entry.records.now hops work.old.state arrival (Ports ports.now) packet.now)) }
+    ensures left { OnOk result (work.new.state ≡ (sending flows.entry.records.now hops work.old.state arrival (Ports ports.now) packet.now).state) }
+    ensures back { work.new.back ≡ work.old.back }
 {
     for port in ports {
         if is_same(*port, arrival) {
             continue;
         }
-        leave(flows, hops, arrival, *port, 0, packet, events)?;
+        leave(flows, hops, arrival, *port, 0, packet, work, events)?;
     }
     Ok(())
 }
@@ -176,16 +202,19 @@ fn leave(
     port: ObjId,
     table: u8,
     packet: &Packet,
+    work: &mut Work,
     events: &mut Vec<Event>,
 ) -> Result<(), OutOfMemory>
     requires rows { AreRowsOf flows.records.now flows.rows.now }
     requires table { IsSome (stage_at kinds.Switch pipelines.Egress table) }
-    ensures { OnOk result (events.new.items ≡ events.old.items ++ leaving flows.entry.records.now hops arrival port table packet.now) }
+    ensures told { OnOk result (events.new.items ≡ events.old.items ++ events_of (leaving flows.entry.records.now hops work.old.state arrival port table packet.now)) }
+    ensures left { OnOk result (work.new.state ≡ (leaving flows.entry.records.now hops work.old.state arrival port table packet.now).state) }
+    ensures back { work.new.back ≡ work.old.back }
 {
     let mut packet = *packet;
     packet.set(Field::Outport, u128::from(port.0));
-    let outcome = run(flows, port, Pipeline::Egress, table, &packet, events)?;
-    go_out(flows, hops, arrival, port, &outcome, events)
+    let outcome = run(flows, port, Pipeline::Egress, table, &packet, work, events)?;
+    go_out(flows, hops, arrival, port, &outcome, work, events)
 }
 
 // What follows egress.
@@ -196,18 +225,28 @@ fn go_out(
     arrival: ObjId,
     port: ObjId,
     outcome: &Option<Outcome>,
+    work: &mut Work,
     events: &mut Vec<Event>,
 ) -> Result<(), OutOfMemory>
     requires { AreRowsOf flows.records.now flows.rows.now }
-    ensures { OnOk result (events.new.items ≡ events.old.items ++ going_out flows.entry.records.now hops arrival port outcome.now) }
+    ensures told { OnOk result (events.new.items ≡ events.old.items ++ events_of (going_out flows.entry.records.now hops work.old.state arrival port outcome.now)) }
+    ensures left { OnOk result (work.new.state ≡ (going_out flows.entry.records.now hops work.old.state arrival port outcome.now).state) }
+    ensures back { work.new.back ≡ work.old.back }
 {
     match outcome {
-        Some(Outcome::Deliver(packet)) => deliver(flows, hops, port, &carried(packet), events),
+        Some(Outcome::Deliver(packet)) => deliver(
+            flows,
+            hops,
+            port,
+            &carried(packet),
+            work,
+            events,
+        ),
         Some(Outcome::Made(packet, table, answer)) => {
             if *table != DatapathKind::Switch.last_table() {
                 return Ok(());
             }
-            reply(flows, hops, arrival, *answer, packet, events)
+            reply(flows, hops, arrival, *answer, packet, work, events)
         }
         Some(Outcome::Drop(cause)) => {
             events.push(Event::Drop(datapath_at(flows.records, port), *cause))?;
@@ -224,10 +263,13 @@ fn deliver(
     hops: u32,
     port: ObjId,
     packet: &Packet,
+    work: &mut Work,
     events: &mut Vec<Event>,
 ) -> Result<(), OutOfMemory>
     requires { AreRowsOf flows.records.now flows.rows.now }
-    ensures { OnOk result (events.new.items ≡ events.old.items ++ delivering flows.entry.records.now hops port packet.now) }
+    ensures told { OnOk result (events.new.items ≡ events.old.items ++ events_of (delivering flows.entry.records.now hops work.old.state port packet.now)) }
+    ensures left { OnOk result (work.new.state ≡ (delivering flows.entry.records.now hops work.old.state port packet.now).state) }
+    ensures back { work.new.back ≡ work.old.back }
 {
     match side_of(flows.records, port) {
         Side::Host => {
@@ -243,7 +285,7 @@ fn deliver(
                 events.push(Event::HopLimit(peer))?;
                 return Ok(());
             }
-            enter(flows, hops - 1, peer, packet, events)
+            enter(flows, hops - 1, peer, packet, work, events)
         }
     }
 }
@@ -256,10 +298,13 @@ fn reply(
     arrival: ObjId,
     answer: Answer,
     packet: &Packet,
+    work: &mut Work,
     events: &mut Vec<Event>,
 ) -> Result<(), OutOfMemory>
     requires { AreRowsOf flows.records.now flows.rows.now }
-    ensures { OnOk result (events.new.items ≡ events.old.items ++ answering flows.entry.records.now hops arrival answer packet.now) }
+    ensures told { OnOk result (events.new.items ≡ events.old.items ++ events_of (answering flows.entry.records.now hops work.old.state arrival answer packet.now)) }
+    ensures left { OnOk result (work.new.state ≡ (answering flows.entry.records.now hops work.old.state arrival answer packet.now).state) }
+    ensures back { work.new.back ≡ work.old.back }
 {
     tell_answer(arrival, answer, events)?;
     if hops == 0 {
@@ -275,6 +320,7 @@ fn reply(
         port,
         table_for(answer),
         &packet,
+        work,
         events,
     )
 }

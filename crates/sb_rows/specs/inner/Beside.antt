@@ -1,7 +1,9 @@
 -- What is kept beside a row.
-use Rattle.std.specs.Prelude.{◌≡◌, ◌<◌, ◌==◌, ◌%◌, ℕ, List, Bool, true, false}
+use Rattle.std.specs.Prelude.{◌≡◌, ◌<◌, ◌==◌, ◌+◌, ◌*◌, ◌%◌, ℕ, List, Bool, false}
 use Rattle.std.specs.declared.cmp.Ordering.{Ordering}
 use Rattle.std.specs.Ordering.{nat_cmp, ordering_then}
+use Rattle.nv_base.specs.Field.{field_number, field_width}
+use Rattle.nv_base.specs.declared.field.Field.{Field}
 use Rattle.expr_core.specs.Formula.{Formula}
 use Rattle.expr_core.specs.Lookup.{Lookup}
 use Rattle.expr_core.specs.Text.{typed_text}
@@ -10,14 +12,33 @@ use Rattle.expr_eval.specs.MatchMeaning.{holds}
 use Rattle.pkt_core.specs.Packet.{Values, value}
 use Rattle.sb_model.specs.declared.row.Row.{Row}
 use Rattle.sb_rows.specs.declared.stored.Asked.{Asked}
-use Rattle.sb_rows.specs.declared.stored.Asked.TheVariants.{Anything, LastByte}
+use Rattle.sb_rows.specs.declared.stored.Shape.{Shape}
+use Rattle.sb_rows.specs.declared.stored.Shape.TheVariants.{Anything, Number}
 use Rattle.sb_rows.specs.declared.stored.Key.{Key}
 use Rattle.sb_rows.specs.inner.Tables.{key_of, rank_key}
 
--- the packet has what is asked: anything, or this last byte of the number of the field
+-- The bucket of a number of a field, which tells both where the number has at most 48 bits. What two numbers share a bucket, a search
+-- only looks at once more.
+abbrev pub bucket_of : Field → ℕ → ℕ
+bucket_of field number = field_number field * 281474976710656 + number % 281474976710656
+
+-- the bucket of this shape that the packet is in
+abbrev pub bucket_at : Shape → Values → ℕ
+bucket_at Anything packet = 0
+bucket_at (Number field) packet = bucket_of field (value packet field)
+
+-- how many bits are asked
+abbrev pub width_of : Shape → ℕ
+width_of Anything = 0
+width_of (Number field) = field_width field
+
+-- each packet has it
+abbrev pub nothing_asked : Asked
+nothing_asked = record { shape = Anything; bucket = 0 }
+
+-- the packet has what is asked
 abbrev pub has_asked : Asked → Values → Bool
-has_asked Anything packet = true
-has_asked (LastByte field byte) packet = value packet field % 256 == byte
+has_asked asked packet = bucket_at asked.shape packet == asked.bucket
 
 -- the match holds of no packet without what is asked
 abbrev pub IsAskedBy : Formula TypedAtom → Asked → Type 0

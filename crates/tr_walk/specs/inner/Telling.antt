@@ -15,7 +15,8 @@ use Rattle.tr_stage.specs.declared.outcome.Hit.{Hit}
 use Rattle.tr_stage.specs.declared.outcome.Outcome.{Outcome}
 use Rattle.tr_walk.specs.declared.event.Event.{Event}
 use Rattle.tr_walk.specs.Events.{event_of}
-use Rattle.tr_walk.specs.Machine.{State, numbered, after_ingress, after_egress, egress, pipelines}
+use Rattle.ct_core.specs.State.{State}
+use Rattle.tr_walk.specs.Machine.{numbered, after_ingress, after_egress, egress, pipelines}
 use Rattle.tr_walk.specs.Runnable.{AreRunnable}
 use Rattle.sb_model.specs.Stage.{last_table}
 use Rattle.sb_model.specs.declared.stage.DatapathKind.TheVariants as datapath
@@ -26,8 +27,8 @@ pub record AreRowsOf (net : Network) (rows : List Row) : Type 0 where
   pub all : rows ≡ build.rows net
   pub run : AreRunnable net
 
-abbrev pub told : Walked Hit State → List Event
-told walked = map event_of walked.told
+abbrev pub events_of : Walked Hit State → List Event
+events_of walked = map event_of walked.told
 
 -- how a packet goes on while so many hops are left
 abbrev pub onward : Network → ℕ → Option (Onward Hit State)
@@ -38,32 +39,32 @@ abbrev pub table_for : Answer → ℕ
 table_for Reject = last_table datapath.Switch
 table_for Arp = 0
 
-module _ (net : Network) (hops : ℕ) where
+module _ (net : Network) (hops : ℕ) (state : State) where
   -- a packet comes in by a port
-  abbrev pub entering : ObjId → Values → List Event
-  entering arrival packet = told (enters net (pipelines net) (onward net hops) arrival packet tt)
+  abbrev pub entering : ObjId → Values → Walked Hit State
+  entering arrival packet = enters net (pipelines net) (onward net hops) arrival packet state
 
   -- a packet has come to the end of ingress
-  abbrev pub arriving : ObjId → Option Outcome → List Event
-  arriving arrival outcome = told (arrived net (pipelines net) (onward net hops) arrival (option_map carrying (after_ingress net (datapath_at net arrival) outcome)) tt)
+  abbrev pub arriving : ObjId → Option Outcome → Walked Hit State
+  arriving arrival outcome = arrived net (pipelines net) (onward net hops) arrival (option_map carrying (after_ingress net (datapath_at net arrival) outcome)) state
 
   -- a packet is sent to where it goes
-  abbrev pub sending : ObjId → Target → Values → List Event
-  sending arrival target packet = told (sent net (pipelines net) (onward net hops) arrival target packet tt)
+  abbrev pub sending : ObjId → Target → Values → Walked Hit State
+  sending arrival target packet = sent net (pipelines net) (onward net hops) arrival target packet state
 
   -- a packet leaves by a port, from a table of egress on
-  abbrev pub leaving : ObjId → ObjId → ℕ → Values → List Event
-  leaving arrival port table packet = told (then_part (egress net table port (with_value packet Outport port.0) tt) (left net (pipelines net) (onward net hops) arrival port))
+  abbrev pub leaving : ObjId → ObjId → ℕ → Values → Walked Hit State
+  leaving arrival port table packet = then_part (egress net table port (with_value packet Outport port.0) state) (left net (pipelines net) (onward net hops) arrival port)
 
   -- a packet has come to the end of egress
-  abbrev pub going_out : ObjId → ObjId → Option Outcome → List Event
-  going_out arrival port outcome = told (left net (pipelines net) (onward net hops) arrival port (option_map carrying (after_egress outcome)) tt)
+  abbrev pub going_out : ObjId → ObjId → Option Outcome → Walked Hit State
+  going_out arrival port outcome = left net (pipelines net) (onward net hops) arrival port (option_map carrying (after_egress outcome)) state
 
   -- a packet is delivered at a port
-  abbrev pub delivering : ObjId → Values → List Event
-  delivering port packet = told (delivered_to net (pipelines net) (onward net hops) port packet tt (side_of net port))
+  abbrev pub delivering : ObjId → Values → Walked Hit State
+  delivering port packet = delivered_to net (pipelines net) (onward net hops) port packet state (side_of net port)
 
   -- a packet is made in the place of another
-  abbrev pub answering : ObjId → Answer → Values → List Event
+  abbrev pub answering : ObjId → Answer → Values → Walked Hit State
   answering arrival answer packet =
-      told (after_told (told_of answer arrival) (made net (pipelines net) (onward net hops) arrival answer (onward net hops) (numbered (value packet Outport)) (carried packet) tt))
+      after_told (told_of answer arrival) (made net (pipelines net) (onward net hops) arrival answer (onward net hops) (numbered (value packet Outport)) (carried packet) state)

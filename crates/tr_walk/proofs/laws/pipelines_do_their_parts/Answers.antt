@@ -1,4 +1,4 @@
-use Rattle.tr_walk.proofs.Pipelines.{of_ingress, of_egress, of_late}
+use Rattle.tr_walk.proofs.Parts.{of_ingress, of_egress, of_late}
 use Rattle.tr_walk.proofs.StageLaws.{stage_laws}
 use Rattle.tr_walk.proofs.laws.pipelines_do_their_parts.Goals as goal
 

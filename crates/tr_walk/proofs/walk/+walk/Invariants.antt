@@ -1,6 +1,7 @@
-use Rattle.std.proofs.Common.{◌≡◌, ◌++◌, ◌+◌, ◌*◌, drop}
+use Rattle.std.proofs.Common.{◌≡◌, ◌+◌, ◌*◌, drop}
 use Rattle.net_meaning.specs.Walk.Target.{Ports}
 use Rattle.tr_walk.specs.inner.Telling.{sending}
+use Rattle.tr_walk.proofs.Steps.{SameEnd}
 use Rattle.tr_walk.proofs.walk.+walk.Given as goal
 
 -- each step of a walk is taken by the functions after it, and at last a hop
@@ -28,7 +29,8 @@ decreases-arrive l = 8 * l.hops + 5
 abbrev pub decreases-enter : goal.decreases-enter
 decreases-enter l = 8 * l.hops + 6
 
--- what is told so far, and then what the copies tell that are left, is all
+-- what is told so far, and then what the copies tell that are left, is all, and they leave the state that all leave
 abbrev pub invariant-copy-loop-port : goal.invariant-copy-loop-port
 invariant-copy-loop-port l =
-    l.events.items ++ sending l.flows.records.now l.hops l.arrival (Ports (drop l.port-index l.ports)) l.packet ≡ l.fn.events.items ++ sending l.flows.records.now l.hops l.arrival (Ports l.ports) l.packet
+    SameEnd l.events.items (sending l.flows.records.now l.hops l.work.state l.arrival (Ports (drop l.port-index l.ports)) l.packet) l.fn.events.items (sending l.flows.records.now l.hops l.fn.work.state l.arrival (Ports l.ports) l.packet)
+    × (l.work.back ≡ l.fn.work.back)

@@ -7,11 +7,11 @@ use Rattle.sb_rows.proofs.AsSet.{as_set, set_are_rows}
 use Rattle.sb_rows.proofs.rows.Rows.of_all.Goals as goal
 
 -- what is left is one of each that agree
-once : (c : goal.After-dedup_by) → c.dedup_by.new.self.items ≡ dedup (eq_by_cmp row_cmp) (put_rows [] c.args.new)
+once : (c : goal.In_ok-tables) → c.dedup_by.new.self.items ≡ dedup (eq_by_cmp row_cmp) (put_rows [] c.args.new)
 once c = rw (c.into_stored-sorted.ensures, c.in_ok-into_list.ensures) at (dedup_same _ (eq_by_cmp row_cmp) _ (λ x y b f x' y' called. search rules) _ _ c.dedup_by.ensures.filtered)
 
 pub invariant_of-result : goal.invariant_of-result
-invariant_of-result c = rw (once c) (set_are_rows c.args.new c.requires.agree c.requires.typed)
+invariant_of-result c = record { rows = rw (once c) (set_are_rows c.args.new c.requires.agree c.requires.typed); tables = rw c.deref.ensures.value at c.in_ok-tables.ensures }
 
 pub returns : goal.returns
 returns c = rw (once c) (as_set c.args.new c.requires.agree)

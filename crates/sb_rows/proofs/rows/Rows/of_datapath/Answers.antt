@@ -13,7 +13,7 @@ returns c =
     let dp = c.args.dp.0 in
     let low = c.partition_point-low in
     let count = c.partition_point-count in
-    let rise = dps_rise rows c.self.invariant.ordered in
+    let rise = dps_rise rows c.self.invariant.rows.ordered in
     let begins = IsPartitionPoint-from_clause (λ (r : Row). ltb r.dp.0 dp) rows _ (rw c.deref.ensures.value at low.ensures.partitioned) (IsPartitionedBy-ltb (λ (r : Row). r.dp.0) rows dp rise) (λ a r q k. search rules) in
     let ends = IsPartitionPoint-from_clause (λ (r : Row). leb r.dp.0 dp) (drop low.result rows) _ (rw (c.deref-2.ensures.value, take_rest) at count.ensures.partitioned) (IsPartitionedBy-leb (λ (r : Row). r.dp.0) _ dp (IsNonDecreasingBy-drop (λ (r : Row). r.dp.0) low.result rows rise)) (λ a r q k. search rules) in
     rw (c.deref-2.ensures.value, take_rest, ← c.self.view_is) (section_at (λ (r : Row). r.dp.0) dp rows low.result count.result (rw c.deref.ensures.value at low.ensures.bound) begins (rw (c.deref-2.ensures.value, take_rest) at count.ensures.bound) ends)

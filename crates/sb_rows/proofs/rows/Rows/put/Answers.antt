@@ -2,6 +2,7 @@ use Rattle.std.proofs.Common.{◌≡◌, ◌∙◌, ap, sym, subst}
 use Rattle.sb_model.specs.declared.row.Row.{Row}
 use Rattle.sb_rows.specs.Row.{AreRows, put_row}
 use Rattle.sb_rows.proofs.Distinct.{put_keeps_rows}
+use Rattle.sb_rows.proofs.Indexed.{unindexed}
 use Rattle.sb_rows.proofs.Place.{put_row_at}
 use Rattle.sb_rows.proofs.rows.Rows.put.Goals as goal
 
@@ -14,7 +15,7 @@ put_there c =
     ∙ ap (λ (row : Row). put_row row rows) c.in_ok-stored.ensures
 
 pub invariant_of-self-2 : goal.invariant_of-self-2
-invariant_of-self-2 c = subst AreRows (sym (put_there c)) (put_keeps_rows c.args.row _ (rw (← c.self.view_is) at c.requires.absent) c.requires.typed c.self.invariant)
+invariant_of-self-2 c = unindexed _ _ c.clear.ensures.items (subst AreRows (sym (put_there c)) (put_keeps_rows c.args.row _ (rw (← c.self.view_is) at c.requires.absent) c.requires.typed c.self.invariant.rows))
 
 pub returns-clause-ok : goal.returns-clause-ok
 returns-clause-ok c = rw (← c.self.view_is) (put_there c)

@@ -1,0 +1,128 @@
+ghost use Rattle.std.specs.Prelude.{◌≡◌, [], OnOk, OnErr, IfOk, IsTrue};
+
+use crate::grouping::{Table, apply};
+use crate::{Groups, Members};
+use inc_table::{Delta, NodeState, Owned};
+use nv_base::OutOfMemory;
+use std::alloc::Global;
+use std::marker::Model;
+
+/// Entries, and the groups that they are in, each with its members. A change touches the groups that its keys leave or enter, and no
+/// other.
+#[derive(Drop)]
+pub struct GroupNode<G: Groups> {
+    alloc: Global,
+    groups: G,
+    inputs: Owned<G::Key, G::Value>,
+    table: Table<G>,
+    state: NodeState,
+}
+
+impl<G: Groups> Model for GroupNode<G> {
+    ghost use Rattle.std.specs.Prelude.{◌≡◌};
+    ghost use Rattle.nv_map.specs.Map.{KeysRise};
+    ghost use Rattle.inc_table.specs.declared.node.NodeState.TheVariants.{Fresh};
+    ghost use Rattle.inc_group.specs.Group.{Grouping, IsGrouped};
+
+    ghost Value = { Grouping G.Key G.Value G.Group G };
+
+    ghost view = { λ node. record { inputs = node.inputs; table = node.table; state = node.state; groups = node.groups } };
+
+    ghost invariant = { λ node. node.state ≡ Fresh → KeysRise G.Key.cmp node.inputs × IsGrouped G.Group.cmp G.groups_of node.inputs node.table };
+}
+
+impl<G: Groups> GroupNode<G>
+where
+    G::Key: Drop,
+    G::Value: Drop,
+    G::Group: Drop,
+{
+    ghost use Rattle.inc_table.specs.declared.node.NodeState.TheVariants.{Fresh, Stale};
+    ghost use Rattle.inc_table.specs.Delta.{IsApplied, IsDifference, alters_each};
+    ghost use Rattle.inc_group.specs.Group.{IsGrouped, same_members};
+
+    /// A fresh node with no inputs. It takes no memory.
+    pub fn new(alloc: Global, groups: G) -> Self
+        ensures { result ≡ record { inputs = []; table = []; state = Fresh; groups = groups } }
+    {
+        GroupNode {
+            alloc,
+            groups,
+            inputs: Owned::new(alloc),
+            table: Owned::new(alloc),
+            state: NodeState::Fresh,
+        }
+    }
+
+    /// Applies a delta to the inputs, changes the groups that its keys leave or enter, and answers what changed in the table. Each of
+    /// its changes is one: a value that is put differs from what is there, and a key that goes is there. Where memory runs out the
+    /// answer is `OutOfMemory`, and the node is stale.
+    pub fn change(
+        &mut self,
+        delta: Delta<G::Key, G::Value>,
+    ) -> Result<Delta<G::Group, Members<G::Key, G::Value>>, OutOfMemory>
+        requires fresh { self.old.state ≡ Fresh }
+        requires alters { IsTrue (alters_each G.Key.cmp G.Value.eq delta self.old.inputs) }
+        ensures inputs { OnOk result (IsApplied G.Key.cmp delta self.old.inputs self.new.inputs) }
+        ensures table { OnOk result (IsGrouped G.Group.cmp G.groups_of self.new.inputs self.new.table) }
+        ensures changed { IfOk result (λ changed. IsDifference G.Group.cmp (same_members G.Key.eq G.Value.eq) self.old.table self.new.table changed) }
+        ensures fresh { OnOk result (self.new.state ≡ Fresh) }
+        ensures stale { OnErr result (self.new.state ≡ Stale) }
+    {
+        self.state = NodeState::Stale;
+        let changed = apply(
+            self.alloc,
+            &self.groups,
+            &mut self.inputs,
+            &mut self.table,
+            delta,
+        )?;
+        self.state = NodeState::Fresh;
+        Ok(changed)
+    }
+
+    /// Takes these inputs in place of those that are there, and groups all. The node may be stale. Where memory runs out the answer is
+    /// `OutOfMemory`, and the node is stale.
+    pub fn rebuild(&mut self, inputs: &Owned<G::Key, G::Value>) -> Result<(), OutOfMemory>
+        ensures inputs { OnOk result (self.new.inputs ≡ inputs.now) }
+        ensures table { OnOk result (IsGrouped G.Group.cmp G.groups_of inputs.now self.new.table) }
+        ensures fresh { OnOk result (self.new.state ≡ Fresh) }
+        ensures stale { OnErr result (self.new.state ≡ Stale) }
+    {
+        self.state = NodeState::Stale;
+        self.inputs = Owned::new(self.alloc);
+        self.table = Owned::new(self.alloc);
+        let delta = inputs.puts(self.alloc)?;
+        apply(
+            self.alloc,
+            &self.groups,
+            &mut self.inputs,
+            &mut self.table,
+            delta,
+        )?;
+        self.state = NodeState::Fresh;
+        Ok(())
+    }
+
+    /// The groups that have a member, each with its members by key: of a fresh node those of its inputs.
+    pub fn table(&self) -> &Owned<G::Group, Members<G::Key, G::Value>>
+        ensures table { result.now ≡ self.now.table }
+        ensures grouped { self.now.state ≡ Fresh → IsGrouped G.Group.cmp G.groups_of self.now.inputs self.now.table }
+    {
+        &self.table
+    }
+
+    /// The inputs by key.
+    pub fn inputs(&self) -> &Owned<G::Key, G::Value>
+        ensures { result.now ≡ self.now.inputs }
+    {
+        &self.inputs
+    }
+
+    /// Whether the table is to be relied on.
+    pub fn state(&self) -> NodeState
+        ensures { result ≡ self.now.state }
+    {
+        self.state
+    }
+}

@@ -1,0 +1,43 @@
+-- What is kept beside the rows of a table that has many: where those are that may hold of a packet.
+use Rattle.std.specs.Prelude.{ℕ, ◌+◌, ◌*◌, ◌<◌, ◌≤◌, ◌==◌, Bool, ◌&&◌, List}
+use Rattle.std.specs.List.{All, Contains, slice_index_or}
+use Rattle.std.specs.List.Sorted.{IsNonDecreasing}
+use Rattle.expr_core.specs.Lookup.{Lookup}
+use Rattle.expr_eval.specs.MatchMeaning.{holds}
+use Rattle.pkt_core.specs.Packet.{Values}
+use Rattle.sb_model.specs.declared.row.Row.{Row}
+use Rattle.sb_rows.specs.Row.{AreRows}
+use Rattle.sb_rows.specs.declared.stored.Asked.{Asked}
+use Rattle.sb_rows.specs.declared.stored.Shape.{Shape}
+use Rattle.sb_rows.specs.declared.index.Table.{Table}
+use Rattle.sb_rows.specs.inner.Beside.{IsAskedBy}
+use Rattle.sb_rows.specs.inner.Tables.{key_of}
+
+-- a place in a bucket
+abbrev pub spot : ℕ → ℕ → ℕ
+spot bucket place = bucket * 18446744073709551616 + place
+
+-- the row at this place is in a bucket of one of the shapes, whose packets alone it may take
+pub record IsCovered (row : Row) (place : ℕ) (shapes : List Shape) (spots : List ℕ) : Type 0 where
+  pub asked : Asked
+  pub asks : IsAskedBy row.matching asked
+  pub shaped : Contains shapes asked.shape
+  pub there : Contains spots (spot asked.bucket place)
+
+-- the rows between these places are covered
+abbrev pub AreCovered : List Row → ℕ → ℕ → List Shape → List ℕ → Type 0
+AreCovered rows low end shapes spots = (i : ℕ) (d : Row) → low ≤ i → i < end → IsCovered (slice_index_or rows i d) i shapes spots
+
+-- the places of a table's rows, each in its bucket, rise
+pub record IsTable (rows : List Row) (table : Table) : Type 0 where
+  pub rise : IsNonDecreasing table.spots.items
+  pub covered : AreCovered rows table.low table.end table.shapes.items table.spots.items
+
+-- rows, and what is kept of some of their tables
+pub record AreIndexed (all : List Row) (kept : List Table) : Type 0 where
+  pub rows : AreRows all
+  pub tables : All (IsTable all) kept
+
+-- the row is of the table of this key, and takes the packet
+abbrev pub acts : ℕ → Lookup → Values → Row → Bool
+acts key net packet r = (key_of r == key) && holds net packet r.matching

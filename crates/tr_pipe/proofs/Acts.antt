@@ -1,0 +1,46 @@
+-- What is left of a row's actions after one of them.
+use Rattle.std.proofs.Common.{◌≡◌, Bool, true, false, refl, List, [], ◌∷◌, length, sym, ap, ◌∙◌}
+use Rattle.std.specs.Prelude.{◌==◌}
+use Rattle.std.specs.Bool.{IsTrue}
+use Rattle.std.proofs.lemmas.Bool.{false≢true, and_parts}
+use Rattle.expr_core.specs.Lookup.{Lookup}
+use Rattle.act_core.specs.WellFormed.{is_action, is_well_formed}
+use Rattle.act_core.specs.declared.action.Action.{Action}
+use Rattle.act_core.specs.declared.action.Action.TheVariants as action
+use Rattle.act_core.specs.declared.step.Step.{Step}
+use Rattle.act_core.specs.declared.step.Step.TheVariants.{CtCommit}
+use Rattle.sb_model.specs.declared.stage.Stage.{Stage}
+use Rattle.tr_stage.specs.Runnable as runs
+use Rattle.tr_pipe.specs.Machine.{StageEnd, Effect, after, effect, run_actions}
+use Rattle.tr_pipe.specs.Machine.Effect.{Changed, Done}
+use Rattle.tr_pipe.specs.Runnable.{is_change, are_run}
+use Rattle.tr_pipe.specs.Tracking.{Flight}
+
+-- an action that others follow is a change
+pub step_changes : (net : Lookup) (stage : Stage) (step : Step) (others : List Action) → (length others == 0) ≡ false → IsTrue (are_run net stage (action.Step step ∷ others)) → IsTrue (is_change net step)
+step_changes net stage step [] some run = absurd (false≢true (sym some))
+step_changes net stage step (other ∷ others) some run = (and_parts (is_change net step) (are_run net stage (other ∷ others)) run).0
+
+module _ (net : Lookup) (stage : Stage) (whole : StageEnd) where
+  -- the actions that are left do what all of them do, and the machine runs them
+  abbrev pub IsLeft : List Action → Flight → Type 0
+  IsLeft rest flight = (whole ≡ run_actions net stage rest flight) × IsTrue (is_well_formed rest) × IsTrue (are_run net stage rest)
+
+  -- after a change the others are left
+  pub goes_on : (step : Step) (others : List Action) (flight changed : Flight) → (length others == 0) ≡ false → effect net stage step flight ≡ Changed changed
+      → IsLeft (action.Step step ∷ others) flight → IsLeft others changed
+  goes_on step [] flight changed some does left = absurd (false≢true (sym some))
+  goes_on step (other ∷ others) flight changed some does left =
+      let formed = and_parts (is_action (action.Step step)) (is_well_formed (other ∷ others)) left.1 in
+      let run = and_parts (is_change net step) (are_run net stage (other ∷ others)) left.2 in
+      (left.0 ∙ ap (λ (e : Effect). after e (run_actions net stage (other ∷ others))) does, formed.1, run.1)
+
+  -- an action that ends the step ends all
+  pub ends_here : (step : Step) (others : List Action) (flight : Flight) (end : StageEnd) → effect net stage step flight ≡ Done end
+      → IsLeft (action.Step step ∷ others) flight → whole ≡ end
+  ends_here step others flight end does left = left.0 ∙ ap (λ (e : Effect). after e (run_actions net stage others)) does
+
+-- a change that is no commit changes any packet
+pub other_change : (net : Lookup) (step : Step) → ((blocked : Bool) → step ≡ CtCommit blocked → ⊥) → is_change net step ≡ true → runs.is_change net step ≡ true
+other_change net (CtCommit blocked) other is = absurd (other blocked refl)
+other_change net _ other is = is

@@ -1,0 +1,5 @@
+pub mod Acts
+pub mod Plain
+pub mod Progress
+pub mod Runs
+pub mod Steps

@@ -1,0 +1,4 @@
+pub mod Machine
+pub mod Runnable
+pub mod Tracking
+pub mod inner

@@ -1,0 +1,105 @@
+-- The run of a packet through one pipeline of a datapath, a step for each stage, with the connections that it is tracked in (ovn-sb(5),
+-- 'Logical_Flow TABLE'; ovn-architecture(7)).
+use Rattle.std.specs.Prelude.{ℕ, zero, suc, List, [], ◌∷◌, ◌++◌, Option, Some, None}
+use Rattle.pkt_core.specs.Packet.{Values}
+use Rattle.ct_core.specs.State.{State}
+use Rattle.expr_core.specs.Lookup.{Lookup}
+use Rattle.act_core.specs.declared.action.Action.{Action}
+use Rattle.act_core.specs.declared.action.Action.TheVariants as action
+use Rattle.act_core.specs.declared.step.Step.{Step}
+use Rattle.act_core.specs.declared.step.Step.TheVariants.{CtNext, CtCommit}
+use Rattle.sb_model.specs.declared.stage.Stage.{Stage}
+use Rattle.sb_model.specs.declared.stage.Pipeline.{Pipeline}
+use Rattle.sb_model.specs.declared.row.Row.{Row}
+use Rattle.sb_model.specs.Stage.{pipeline_of, stage_at, next_stage}
+use Rattle.net_meaning.specs.declared.cause.Cause.TheVariants.{CtFull}
+use Rattle.tr_stage.specs.declared.outcome.Hit.{Hit}
+use Rattle.tr_stage.specs.declared.outcome.Outcome.{Outcome}
+use Rattle.tr_stage.specs.declared.outcome.Outcome.TheVariants.{Drop}
+use Rattle.tr_stage.specs.Machine as packets
+use Rattle.tr_stage.specs.Machine.{Flows, acting, hit_at, kind_of, step_budget}
+use Rattle.tr_pipe.specs.Tracking.{Flight, coming, committed, tracked, with_packet, zone_of}
+
+-- How a packet's step through a stage ends: it goes on at a stage, or it comes to the end of the pipeline, which leaves a state.
+pub data StageEnd : Type 0 where
+  On : Stage → Flight → StageEnd
+  Ends : Option Outcome → State → StageEnd
+
+-- on to the stage, if there is one
+abbrev pub on_to : Option Stage → Flight → StageEnd
+on_to (Some stage) flight = On stage flight
+on_to None flight = Ends None flight.state
+
+-- what an action does: it changes the packet or the state, or it ends the step
+pub data Effect : Type 0 where
+  Changed : Flight → Effect
+  Done : StageEnd → Effect
+
+-- what asks for no connection does to the packet what it does to any, and leaves the state
+abbrev pub ended : Flight → packets.StageEnd → StageEnd
+ended flight (packets.StageEnd.On stage packet) = On stage (with_packet flight packet)
+ended flight (packets.StageEnd.Ends outcome) = Ends outcome flight.state
+
+abbrev pub done : Flight → packets.Effect → Effect
+done flight (packets.Effect.Changed packet) = Changed (with_packet flight packet)
+done flight (packets.Effect.Done end) = Done (ended flight end)
+
+-- the packet goes on with the state that a commit leaves; where there was no room, it is dropped
+abbrev pub kept : Flight → Option State → Effect
+kept flight (Some state) = Changed (record flight { state = state })
+kept flight None = Done (Ends (Some (Drop CtFull)) flight.state)
+
+-- what an action of a row in a stage does
+abbrev pub effect : Lookup → Stage → Step → Flight → Effect
+effect net stage CtNext flight = Done (on_to (next_stage stage) (tracked (zone_of (pipeline_of stage) flight.packet) flight))
+effect net stage (CtCommit blocked) flight = kept flight (committed (zone_of (pipeline_of stage) flight.packet) blocked flight.packet flight.state flight.look)
+effect net stage step flight = done flight (packets.effect net stage step flight.packet)
+
+-- after an action: the others follow, or none does
+abbrev pub after : Effect → (Flight → StageEnd) → StageEnd
+after (Changed flight) others = others flight
+after (Done end) others = end
+
+-- what actions do, one after the other; nothing follows a block
+abbrev pub run_actions : Lookup → Stage → List Action → Flight → StageEnd
+run_actions net stage [] flight = Ends None flight.state
+run_actions net stage (action.Step step ∷ others) flight = after (effect net stage step flight) (run_actions net stage others)
+run_actions net stage (block ∷ []) flight = ended flight (packets.run_actions net stage (block ∷ []) flight.packet)
+run_actions net stage (_ ∷ others) flight = Ends None flight.state
+
+-- what a row does
+abbrev pub acted : Lookup → Stage → Flight → Option Row → StageEnd
+acted net stage flight (Some row) = run_actions net stage row.actions flight
+acted net stage flight None = Ends None flight.state
+
+-- a packet's step through a stage
+unfoldable pub step : Flows → Stage → Flight → StageEnd
+step flows stage flight = acted flows.net stage flight (acting flows stage flight.packet)
+
+-- a packet's run through a pipeline: the hits, in order, the outcome, if there is one, and the state that is left
+pub record PipelineRun : Type 0 where
+  pub hits : List Hit
+  pub outcome : Option Outcome
+  pub state : State
+
+-- a run that begins with these hits
+abbrev pub after_hits : List Hit → PipelineRun → PipelineRun
+after_hits hits rest = record rest { hits = hits ++ rest.hits }
+
+-- a run that is over
+abbrev pub over : Option Outcome → State → PipelineRun
+over outcome state = record { hits = []; outcome = outcome; state = state }
+
+-- how a run goes on after a step; `run_at` gives the run from a stage on
+abbrev pub go_on : (Stage → Flight → PipelineRun) → StageEnd → PipelineRun
+go_on run_at (On stage flight) = run_at stage flight
+go_on run_at (Ends outcome state) = over outcome state
+
+-- the run from a stage on, in at most this many steps
+unfoldable pub run_from : Flows → ℕ → Stage → Flight → PipelineRun
+run_from flows zero stage flight = over None flight.state
+run_from flows (suc budget) stage flight = after_hits (hit_at flows stage flight.packet) (go_on (run_from flows budget) (step flows stage flight))
+
+-- the run of a packet through a pipeline of the datapath, from this table on
+unfoldable pub run_pipeline : Flows → Pipeline → ℕ → Values → State → PipelineRun
+run_pipeline flows pipeline table packet state = go_on (run_from flows step_budget) (on_to (stage_at (kind_of flows) pipeline table) (coming packet state))

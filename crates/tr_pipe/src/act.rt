@@ -1,0 +1,84 @@
+//! What the actions of a row do.
+ghost use Rattle.std.specs.Prelude.{◌≡◌, IsTrue, [], ◌∷◌, IfOk};
+ghost use Rattle.act_core.specs.WellFormed.{is_action, is_step, is_well_formed};
+ghost use Rattle.tr_pipe.specs.Machine.{effect, run_actions};
+ghost use Rattle.tr_pipe.specs.Runnable.{is_change, may_be_last, are_run};
+ghost use Rattle.tr_pipe.specs.inner.Moving.{effect_of, in_flight, with_flight};
+
+use crate::moving::Moving;
+use crate::track::{commit, track};
+use act_core::{Action, Step};
+use ct_state::Work;
+use expr_core::Env;
+use nv_base::OutOfMemory;
+use sb_model::Stage;
+use tr_stage::{Ending, change, end};
+
+/// Does the actions of a row, one after the other, and answers how the step ends.
+pub(crate) fn run_actions<E: Env>(
+    env: &E,
+    stage: Stage,
+    actions: &[Action],
+    moving: &mut Moving,
+    work: &mut Work,
+) -> Result<Ending, OutOfMemory>
+    requires formed { IsTrue (is_well_formed actions.now) }
+    requires run { IsTrue (are_run (E.lookup env.now) stage actions.now) }
+    ensures end { IfOk result (λ ending. run_actions (E.lookup env.now) stage actions.now (in_flight moving.old work.old.state) ≡ with_flight ending (in_flight moving.new work.new.state)) }
+    ensures back { work.new.back ≡ work.old.back }
+{
+    let mut rest = actions;
+    while let Some((first, others)) = rest.split_first() {
+        if others.is_empty() {
+            return Ok(do_last(env, stage, first, moving, work));
+        }
+        let Action::Step(step) = first else {
+            unreachable!()
+        };
+        if let Some(ending) = do_step(env, stage, step, moving, work)? {
+            return Ok(ending);
+        }
+        rest = others;
+    }
+    unreachable!()
+}
+
+// Does an action that others may follow.
+fn do_step<E: Env>(
+    env: &E,
+    stage: Stage,
+    step: &Step,
+    moving: &mut Moving,
+    work: &mut Work,
+) -> Result<Option<Ending>, OutOfMemory>
+    requires formed { IsTrue (is_step step.now) }
+    requires change { IsTrue (is_change (E.lookup env.now) step.now) }
+    ensures effect { IfOk result (λ ended. effect (E.lookup env.now) stage step.now (in_flight moving.old work.old.state) ≡ effect_of ended (in_flight moving.new work.new.state)) }
+    ensures back { work.new.back ≡ work.old.back }
+{
+    match step {
+        Step::CtCommit { blocked } => commit(stage, *blocked, moving, work),
+        _ => {
+            change(env, step, &mut moving.packet);
+            Ok(None)
+        }
+    }
+}
+
+// Does the last action of a row.
+fn do_last<E: Env>(env: &E, stage: Stage, last: &Action, moving: &mut Moving, work: &Work) -> Ending
+    requires formed { IsTrue (is_action last.now) }
+    requires last { IsTrue (may_be_last (E.lookup env.now) stage last.now) }
+    ensures { run_actions (E.lookup env.now) stage (last.now ∷ []) (in_flight moving.old work.now.state) ≡ with_flight result (in_flight moving.new work.now.state) }
+{
+    match last {
+        Action::Step(Step::CtNext) => {
+            track(stage, moving, work);
+            match stage.next() {
+                Some(next) => Ending::On(next),
+                None => unreachable!(),
+            }
+        }
+        _ => end(env, stage, last, &mut moving.packet),
+    }
+}

@@ -170,6 +170,42 @@ fn no_more_are_recorded_than_there_may_be(rt: HostRuntime) {
     assert!(rt; place_of(&mut conns, entry(PORT, 1, 2)) == Some(0));
 }
 
+// Leaves the first connections, so many, if there are as many.
+fn cut(conns: &mut Conns, len: usize) -> bool {
+    let are_there = len <= conns.len();
+    if are_there {
+        conns.cut_back(len);
+    }
+    are_there
+}
+
+#[test]
+fn what_is_cut_off_is_not_found(rt: HostRuntime) {
+    let snat = Zone::Snat(ObjId(7));
+    let mut conns = Conns::new(rt.alloc());
+    assert!(rt; place_of(&mut conns, entry(PORT, 1, 2)) == Some(0));
+    assert!(rt; place_of(&mut conns, entry(PORT, 2, 1)) == Some(1));
+    assert!(rt; place_of(&mut conns, entry(PORT, 1, 2)) == Some(2));
+    assert!(rt; place_of(&mut conns, entry(PORT, 1, 3)) == Some(3));
+    assert!(rt; place_of(&mut conns, entry(PORT, 1, 3)) == Some(4));
+    assert!(rt; place_of(&mut conns, entry(snat, 1, 2)) == Some(5));
+    assert!(rt; cut(&mut conns, 2));
+    assert!(rt; conns.len() == 2);
+    assert!(rt; conns.classify(PORT, &tcp(1, 2, 0)) == found(0, Side::Orig, false, false));
+    assert!(rt; conns.classify(PORT, &tcp(2, 1, 0)) == found(1, Side::Orig, false, false));
+    assert!(rt; conns.classify(PORT, &tcp(1, 3, 0)) == Look::New);
+    assert!(rt; conns.classify(snat, &tcp(1, 2, 0)) == Look::New);
+    assert!(rt; cut(&mut conns, 1));
+    assert!(rt; conns.classify(PORT, &tcp(2, 1, 0)) == found(0, Side::Reply, false, false));
+    assert!(rt; place_of(&mut conns, entry(PORT, 1, 3)) == Some(1));
+    assert!(rt; conns.classify(PORT, &tcp(3, 1, 0)) == found(1, Side::Reply, false, false));
+    conns.drop_zone(snat);
+    assert!(rt; conns.len() == 2);
+    assert!(rt; cut(&mut conns, 0));
+    assert!(rt; conns.is_empty());
+    assert!(rt; conns.classify(PORT, &tcp(1, 2, 0)) == Look::New);
+}
+
 // Records a connection, blocks it and what is not there, and keeps this or comes back.
 fn walk(alloc: Global, state: &mut State, keeps: bool) -> bool {
     let Ok(mut work) = Work::begin(alloc, state) else {
@@ -195,4 +231,36 @@ fn what_a_walk_changes_is_kept_or_taken_back(rt: HostRuntime) {
     assert!(rt; walk(rt.alloc(), &mut state, false));
     assert!(rt; state.conns().len() == 1);
     assert!(rt; state.nbrs().is_empty());
+}
+
+// How many connections a copy of the state has.
+fn copied(state: &State) -> Option<usize> {
+    match state.copy() {
+        Ok(copied) => Some(copied.conns().len()),
+        Err(_) => None,
+    }
+}
+
+// Marks a connection that was there to and fro, and so one that it records, which is of the same tuple, and comes back.
+fn walk_back(alloc: Global, state: &mut State) -> bool {
+    let Ok(mut work) = Work::begin(alloc, state) else {
+        return false;
+    };
+    let before = work.mark(0, false).is_ok() && work.mark(0, true).is_ok();
+    let recorded = work.commit(entry(PORT, 1, 2)).is_ok() && work.commit(entry(PORT, 1, 3)).is_ok();
+    let after = work.mark(1, true).is_ok() && work.mark(0, false).is_ok();
+    work.abandon(state);
+    before && recorded && after
+}
+
+#[test]
+fn marks_and_connections_come_back(rt: HostRuntime) {
+    let mut state = State::new(rt.alloc());
+    assert!(rt; walk(rt.alloc(), &mut state, true));
+    assert!(rt; walk_back(rt.alloc(), &mut state));
+    assert!(rt; state.conns().len() == 1);
+    assert!(rt; state.conns().classify(PORT, &tcp(1, 2, 0)) == found(0, Side::Orig, false, true));
+    assert!(rt; state.conns().classify(PORT, &tcp(1, 3, 0)) == Look::New);
+    assert!(rt; walk_back(rt.alloc(), &mut state));
+    assert!(rt; copied(&state) == Some(1));
 }

@@ -1,9 +1,12 @@
-ghost use Rattle.std.specs.Prelude.{◌≡◌, IfOk};
-ghost use Rattle.ct_core.specs.State.{empty_state};
+ghost use Rattle.std.specs.Prelude.{◌≡◌, [], IfOk};
+ghost use Rattle.ct_core.specs.declared.zone.Zone.TheVariants.{Port};
+ghost use Rattle.ct_core.specs.Changes.{without_zone};
+ghost use Rattle.ct_core.specs.State.{empty_state, with_conns};
 
+use ct_core::Zone;
 use ct_nbrs::Neighbours;
 use ct_table::Conns;
-use nv_base::OutOfMemory;
+use nv_base::{ObjId, OutOfMemory};
 use std::alloc::Global;
 use std::marker::Model;
 
@@ -46,6 +49,21 @@ impl State {
         ensures { result.now ≡ self.now.nbrs }
     {
         &self.nbrs
+    }
+
+    /// Strikes out the connections of the zone of a switch's port (not from OVN). It takes no memory; where none of the zone was
+    /// recorded since it was last struck out, it costs one look.
+    pub fn strike_port(&mut self, port: ObjId)
+        ensures { self.new ≡ with_conns (without_zone (Port port) self.old.conns) self.old }
+    {
+        self.conns.drop_zone(Zone::Port(port));
+    }
+
+    /// Takes all connections out (modelled on `dpctl/flush-conntrack` of ovs-appctl(8)). Neighbours stay.
+    pub fn flush_conns(&mut self)
+        ensures { self.new ≡ with_conns [] self.old }
+    {
+        self.conns.flush();
     }
 
     /// An equal state. Where memory runs out the answer is `OutOfMemory`.

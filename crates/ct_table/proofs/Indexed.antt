@@ -1,7 +1,6 @@
 -- The index after each change of the list.
-use Rattle.std.proofs.Common.{◌≡◌, ℕ, zero, suc, ◌+◌, ◌<◌, ◌≤◌, Bool, true, false, cond, not, ◌||◌, List, [], ◌∷◌, ◌++◌, length, get_or, slice_set, Option, None, Some, is_some, refl, sym, ap, subst, ◌∙◌, arith}
-use Rattle.std.proofs.lemmas.Bool.{true≢false}
-use Rattle.std.proofs.lemmas.List.{length_push}
+use Rattle.std.proofs.Common.{◌≡◌, ℕ, zero, suc, ◌<◌, Bool, true, false, cond, ◌||◌, List, [], ◌∷◌, ◌++◌, length, get_or, slice_set, Option, None, Some, is_some, refl, sym, ap, ◌∙◌}
+use Rattle.std.proofs.lemmas.Bool.{true≢false, false≢true}
 use Rattle.std.proofs.lemmas.List.Folds.{list_any-append}
 use Rattle.std.specs.List.{list_any, position}
 use Rattle.std.specs.Map.{lookup}
@@ -25,11 +24,21 @@ use Rattle.ct_table.specs.inner.Key.{key_on, keys_equal}
 use Rattle.ct_table.proofs.Numbered.{has_key}
 use Rattle.ct_table.proofs.Removed.{has-without, in-without, same_zone-sym}
 
-either : (b any : Bool) → cond b true any ≡ (any || (b || false))
-either true true = refl
-either true false = refl
-either false true = refl
-either false false = refl
+-- what is among the others is there, and so is the last
+either : (b any there : Bool) → (any ≡ true → there ≡ true) → (any || (b || false)) ≡ true → cond b true there ≡ true
+either true any there others e = refl
+either false true there others e = others refl
+either false false there others e = absurd (false≢true e)
+
+-- a zone that is not there has no entry
+pub not_there : (any there : Bool) → (any ≡ true → there ≡ true) → there ≡ false → any ≡ false
+not_there true there all e = absurd (true≢false (sym (all refl) ∙ e))
+not_there false there all e = refl
+
+-- what is there and is not that which goes stays
+others : (b any there : Bool) → (any ≡ true → there ≡ true) → cond b false any ≡ true → cond b false there ≡ true
+others true any there all e = absurd (false≢true e)
+others false any there all e = all e
 
 has_mark : (side : Side) (z : Zone) (t : Tuple) (e : Entry) (b : Bool) → has side z t (record e { blocked = b }) ≡ has side z t e
 has_mark Orig z t e b = refl
@@ -56,11 +65,10 @@ module _ {S : Type 0} where
 
   zones_last : (conns : List Entry) (e : Entry) (zones kept new : IndexSet Zone S) → Zones conns zones → kept.keys ≡ zones.keys
       → ((z : Zone) → contains zones_equal new z ≡ cond (zones_equal e.zone z) true (contains zones_equal kept z)) → Zones (conns ++ e ∷ []) new
-  zones_last conns e zones kept new all same put z =
+  zones_last conns e zones kept new all same put z there =
       put z
-      ∙ (λ i. cond (zones_agree e.zone z i) true ((ap (list_any (zones_equal z)) same ∙ all z) i))
-      ∙ either (same_zone e.zone z) (list_any (is_in z) conns)
-      ∙ sym (list_any-append (is_in z) conns (e ∷ []))
+      ∙ (λ i. cond (zones_agree e.zone z i) true (list_any (zones_equal z) (same i)))
+      ∙ either (same_zone e.zone z) (list_any (is_in z) conns) (contains zones_equal zones z) (all z) (sym (list_any-append (is_in z) conns (e ∷ [])) ∙ there)
 
   pub indexed_last : (conns : List Entry) (e : Entry) (n : ℕ) (origs origs1 origs2 replies replies1 replies2 : IndexMap Key ℕ S) (zones zones1 zones2 : IndexSet Zone S)
       → IsIndexed conns origs replies zones → length conns < connection_limit → IsEntry e → n ≡ length conns
@@ -83,7 +91,7 @@ module _ {S : Type 0} where
     are = keeps_marked place b conns old.are;
     by_orig = λ k. old.by_orig k ∙ sym (position-marked (has Orig k.zone k.tuple) (has_mark Orig k.zone k.tuple) place b conns);
     by_reply = λ k. old.by_reply k ∙ sym (position-marked (has Reply k.zone k.tuple) (has_mark Reply k.zone k.tuple) place b conns);
-    by_zone = λ z. old.by_zone z ∙ sym (any-marked z place b conns);
+    by_zone = λ z there. old.by_zone z (sym (any-marked z place b conns) ∙ there);
   }
 
   -- ---- without a zone
@@ -111,7 +119,8 @@ module _ {S : Type 0} where
         are = keeps_without zone conns are;
         by_orig = by_orig;
         by_reply = by_reply;
-        by_zone = λ z. taken z ∙ (λ i. cond ((zones_agree zone z ∙ same_zone-sym zone z) i) false (all z i)) ∙ sym (in-without z zone conns);
+        by_zone = λ z there. taken z ∙ (λ i. cond ((zones_agree zone z ∙ same_zone-sym zone z) i) false (contains zones_equal zones z))
+            ∙ others (same_zone z zone) (list_any (is_in z) conns) (contains zones_equal zones z) (all z) (sym (in-without z zone conns) ∙ there);
       }
 
 -- a mark that is written is that of the list

@@ -1,3 +1,4 @@
+mod Cut
 mod Indexed
 mod Numbered
 mod Removed

@@ -1,4 +1,4 @@
-ghost use Rattle.std.specs.Prelude.{◌≡◌, ◌==◌, ◌||◌, ◌-◌, ◌<◌, ◌≤◌, ◌↔◌, ◌++◌, ◌∷◌, [], true, not, length, slice_get, IfOk, OnOk, OnErr, IsTrue, Some, Err};
+ghost use Rattle.std.specs.Prelude.{◌≡◌, ◌==◌, ◌||◌, ◌-◌, ◌<◌, ◌≤◌, ◌↔◌, ◌++◌, ◌∷◌, [], true, not, length, take, slice_get, IfOk, OnOk, OnErr, IsTrue, Some, Err};
 ghost use Rattle.std.specs.List.{find, position};
 ghost use Rattle.pkt_core.specs.Prerequisite.{is_ip4};
 ghost use Rattle.ct_core.specs.declared.look.Look.TheVariants.{Found};
@@ -10,7 +10,7 @@ ghost use Rattle.ct_core.specs.Translation.{is_free, ports, snat_port};
 ghost use Rattle.ct_core.specs.inner.Exact.{zones_equal};
 ghost use Rattle.ct_table.specs.declared.conns.CtFault.TheVariants.{Full};
 
-use crate::index::{put_first, put_zone, renumber, take_zone};
+use crate::index::{put_first, put_zone, renumber, take_place, take_zone};
 use crate::key::Key;
 use ct_core::{Entry, Look, Side, Zone, sought, unfound};
 use indexmap::{IndexMap, IndexSet};
@@ -43,7 +43,7 @@ pub enum CtFault {
 #[derive(Drop)]
 pub struct Conns {
     entries: Vec<Entry>,
-    // The first place of each key of either direction, and the zones that have an entry.
+    // The first place of each key of either direction, and zones, those that have an entry among them.
     origs: IndexMap<Key, u32>,
     replies: IndexMap<Key, u32>,
     zones: IndexSet<Zone>,
@@ -234,7 +234,8 @@ impl Conns {
         self.first_reply(zone, &translated.swap()).is_none()
     }
 
-    /// Takes the entries of a zone out; those after them move up. Where the zone has none, it costs one look.
+    /// Takes the entries of a zone out; those after them move up. Where none of the zone was recorded since it was last taken out,
+    /// it costs one look.
     pub fn drop_zone(&mut self, zone: Zone)
         ensures { self.new ≡ without_zone zone self.old }
     {
@@ -250,6 +251,28 @@ impl Conns {
         take_zone(&mut self.replies, zone);
         renumber(&mut self.origs, &self.entries, Side::Orig);
         renumber(&mut self.replies, &self.entries, Side::Reply);
+    }
+
+    /// Leaves the first entries, so many, and takes those after them out; there are as many. It takes no memory, and costs by the
+    /// number of entries that go.
+    pub fn cut_back(&mut self, len: usize)
+        requires { len ≤ length self.old }
+        ensures { self.new ≡ take len self.old }
+    {
+        while self.entries.len() > len {
+            self.take_last();
+        }
+    }
+
+    // Takes the last entry out, where there is one, and its keys where no entry before it has them. Its zone stays among the zones.
+    fn take_last(&mut self)
+        ensures { self.new ≡ take (length self.old - 1) self.old }
+    {
+        if let Some(entry) = self.entries.pop() {
+            let place = self.entries.len() as u32;
+            take_place(&mut self.origs, Key::of(&entry, Side::Orig), place);
+            take_place(&mut self.replies, Key::of(&entry, Side::Reply), place);
+        }
     }
 
     /// Takes all entries out (modelled on `dpctl/flush-conntrack` of ovs-appctl(8)).

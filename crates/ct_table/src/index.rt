@@ -1,5 +1,5 @@
 //! What is done to the index of connections.
-ghost use Rattle.std.specs.Prelude.{◌≡◌, ◌<◌, ◌≤◌, true, Some, None, cond, is_some, not, length};
+ghost use Rattle.std.specs.Prelude.{◌≡◌, ◌<◌, ◌≤◌, ◌&&◌, true, Some, None, cond, is_some, not, length};
 ghost use Rattle.std.specs.List.{list_any};
 ghost use Rattle.std.specs.Option.{option_or};
 ghost use Rattle.indexmap.specs.IndexMap.{get, spare};
@@ -10,7 +10,7 @@ ghost use Rattle.ct_core.specs.Changes.{connection_limit};
 ghost use Rattle.ct_core.specs.Entry.{has};
 ghost use Rattle.ct_table.specs.declared.key.Key.{Key};
 ghost use Rattle.ct_table.specs.inner.Key.{key_on, keys_equal};
-ghost use Rattle.ct_table.specs.inner.Index.{Places};
+ghost use Rattle.ct_table.specs.inner.Index.{Places, is_place};
 
 use crate::key::Key;
 use ct_core::{Entry, Side, Zone};
@@ -49,6 +49,15 @@ pub(crate) fn take_zone(map: &mut IndexMap<Key, u32>, zone: Zone)
             ensures { (result ≡ not (zones_equal key.now.zone zone)) × (place.new ≡ place.old) }
         { key.zone != zone },
     );
+}
+
+/// Takes a key out where it has this place.
+pub(crate) fn take_place(map: &mut IndexMap<Key, u32>, key: Key, place: u32)
+    ensures { (k : Key) → get keys_equal map.new k ≡ cond (keys_equal key k && is_place place (get keys_equal map.old k)) None (get keys_equal map.old k) }
+{
+    if map.get(&key).copied() == Some(place) {
+        map.swap_remove(&key);
+    }
 }
 
 /// Writes the places that the keys of the entries have now. They are the keys that there are.

@@ -1,4 +1,4 @@
--- The stages of ACLs decide as the ACLs do.
+-- The stages of ACLs decide as the ACLs do, where a switch tracks no connections.
 use Rattle.std.proofs.Common.{◌≡◌, ◌+◌, Bool, true, false, cond, List, [], ◌∷◌, ◌++◌, sym, ap, refl, ◌∙◌, subst, ◌⊎◌, inl, inr, arith}
 use Rattle.std.specs.Prelude.{◌||◌, ◌&&◌, Option, Some, None, fold}
 use Rattle.std.specs.Ordering.{is_gt}
@@ -46,10 +46,10 @@ use Rattle.net_rows.proofs.Units.{rows-acl, rows-switch, rows-in_order}
 use Rattle.tr_stage.specs.declared.outcome.Outcome.TheVariants.{Made, Drop}
 use Rattle.tr_stage.specs.Machine.{acted, answer_for, answered, run_actions, step}
 use Rattle.tr_stage.specs.Machine.StageEnd.{On, Ends}
-use Rattle.ls_laws.specs.Steps.{IsOn, DecidesIn, DecidesOut, decided, flows_at, rejected, sent_back}
+use Rattle.ls_laws.specs.Steps.{IsOn, IsUntracked, DecidesIn, DecidesOut, decided, flows_at, rejected, sent_back}
 use Rattle.ls_laws.proofs.Deciding.{Rises, IsAfter, IsFirst, first_of, rises_kept}
 use Rattle.ls_laws.proofs.PassingStages.{passing}
-use Rattle.ls_laws.proofs.RuleStages.{rules_at, among_rules_at, from_rules_at, the_only, is_of_security, is_of_addresses, is_of_acls, port_rule_stage, untracked_rule, untracked_rules, switch_rules-untracked, tracks_none, acl_rule-gives}
+use Rattle.ls_laws.proofs.RuleStages.{rules_at, among_rules_at, from_rules_at, the_only, is_of_security, is_of_addresses, port_rule_stage, untracked_rule, rules_where, switch_rules-untracked, acl_rule-gives}
 use Rattle.ls_laws.proofs.Selected.{first_of_takers}
 use Rattle.ls_laws.proofs.Tables.{IsSwitchRule, IsPortRule, IsAclRule, IsRule, filter_passes, table-gives}
 use Rattle.ls_laws.proofs.Takers.{lower_after, later_after, step_by}
@@ -75,7 +75,7 @@ abbrev block : List Step
 block = turns_back ++ Jump true (last_table datapath.Switch) ∷ []
 
 -- the stage after that of a direction
-abbrev next_of : Way → Stage
+abbrev pub next_of : Way → Stage
 next_of From = LsInLb
 next_of To = LsOutStateful
 
@@ -99,7 +99,7 @@ module _ (net : Network) (way : Way) (packet : Values) where
       by To true = refl
       by To false = refl
 
-  does : (v : Verdict) → run_actions (names net) (stage_of way) (ending v) packet ≡ decided (decision_of v) (next_of way) packet
+  pub does : (v : Verdict) → run_actions (names net) (stage_of way) (ending v) packet ≡ decided (decision_of v) (next_of way) packet
   does verdict.Allow = goes_to way
   does verdict.AllowRelated = goes_to way
   does verdict.AllowStateless = goes_to way
@@ -108,13 +108,13 @@ module _ (net : Network) (way : Way) (packet : Values) where
 
 -- ---- ACLs of a direction
 
-same_way-is : (v w : Way) → same_way v w ≡ true → v ≡ w
+pub same_way-is : (v w : Way) → same_way v w ≡ true → v ≡ w
 same_way-is From From is = refl
 same_way-is From To is = absurd (false≢true is)
 same_way-is To From is = absurd (false≢true is)
 same_way-is To To is = refl
 
-same_way-self : (w : Way) → same_way w w ≡ true
+pub same_way-self : (w : Way) → same_way w w ≡ true
 same_way-self From = refl
 same_way-self To = refl
 
@@ -123,29 +123,25 @@ abbrev is_from : Stage → Bool
 is_from LsInAclEval = true
 is_from _ = false
 
-stage_tells : (v w : Way) → stage_of v ≡ stage_of w → v ≡ w
+pub stage_tells : (v w : Way) → stage_of v ≡ stage_of w → v ≡ w
 stage_tells From From is = refl
 stage_tells From To is = absurd (false≢true (sym (ap is_from is)))
 stage_tells To From is = absurd (false≢true (ap is_from is))
 stage_tells To To is = refl
 
-of_acls : (w : Way) → is_of_acls (stage_of w) ≡ true
-of_acls From = refl
-of_acls To = refl
-
-not_of_ports : (w : Way) → (is_of_security (stage_of w) || is_of_addresses (stage_of w)) ≡ false
+pub not_of_ports : (w : Way) → (is_of_security (stage_of w) || is_of_addresses (stage_of w)) ≡ false
 not_of_ports From = refl
 not_of_ports To = refl
 
 -- the only rule of a switch in the stage, which passes each packet on
-only_rule : (w : Way) (balances unknown : Bool) → rules_at (stage_of w) (untracked_rules balances unknown) ≡ passing (stage_of w) ∷ []
+only_rule : (w : Way) (balances unknown : Bool) → rules_at (stage_of w) (rules_where false balances unknown) ≡ passing (stage_of w) ∷ []
 unfolding switch_acl_rules switch_l2_rules stage_place
 only_rule From balances true = refl
 only_rule From balances false = refl
 only_rule To balances true = refl
 only_rule To balances false = refl
 
-module _ (net : Network) (switch : Switch) (way : Way) (packet : Values) (on : IsOn net switch packet) where
+module _ (net : Network) (switch : Switch) (way : Way) (packet : Values) (on : IsOn net switch packet) (none_tracked : IsUntracked net switch) where
   abbrev dp : ObjId
   dp = switch.id
 
@@ -163,7 +159,7 @@ module _ (net : Network) (switch : Switch) (way : Way) (packet : Values) (on : I
 
   -- the rule of the switch
   are : rules_at stage (switch_rules net dp) ≡ passing stage ∷ []
-  are = ap (rules_at stage) (switch_rules-untracked net switch on.stateless on.among) ∙ only_rule way (balances net dp) (has_unknown net dp)
+  are = ap (rules_at stage) (switch_rules-untracked net dp none_tracked) ∙ only_rule way (balances net dp) (has_unknown net dp)
 
   of_switch : (x : Row) → IsSwitchRule net dp stage x → x ≡ row_of (unit_of_datapath dp) (passing stage)
   of_switch x of =
@@ -181,10 +177,10 @@ module _ (net : Network) (switch : Switch) (way : Way) (packet : Values) (on : I
   row_for acl = row_of (unit_of dp acl.id) (rule_for acl)
 
   of_acl-row : (x : Row) (of : IsAclRule net dp stage x) → x ≡ row_for of.acl
-  of_acl-row x of = of.is ∙ ap (row_of (unit_of dp of.acl.id)) (acl_rule-gives net switch on.stateless on.among of.acl of.says of.in_rules)
+  of_acl-row x of = of.is ∙ ap (row_of (unit_of dp of.acl.id)) (acl_rule-gives net dp none_tracked of.acl of.says of.in_rules)
 
   of_acl-way : (x : Row) (of : IsAclRule net dp stage x) → of.acl.way ≡ way
-  of_acl-way x of = stage_tells of.acl.way way (sym (ap (λ (r : Rule). r.stage) (acl_rule-gives net switch on.stateless on.among of.acl of.says of.in_rules)) ∙ of.of_stage)
+  of_acl-way x of = stage_tells of.acl.way way (sym (ap (λ (r : Rule). r.stage) (acl_rule-gives net dp none_tracked of.acl of.says of.in_rules)) ∙ of.of_stage)
 
   of_acl-held : (x : Row) (of : IsAclRule net dp stage x) → holds (names net) packet x.matching ≡ true → Contains holding of.acl
   of_acl-held x of takes = in_holding of.acl of.among of.applied (of_acl-way x of) (sym (ap (λ (r : Row). holds (names net) packet r.matching) (of_acl-row x of)) ∙ takes)
@@ -234,7 +230,7 @@ module _ (net : Network) (switch : Switch) (way : Way) (packet : Values) (on : I
 
     its_rule : Contains (acl_on_rules (acl_on_input net acl dp)) (rule_for acl)
     unfolding acl_on_rules
-    its_rule = rw (in_range, tracks_none net switch on.stateless on.among) (one_first (rule_for acl) [] (rule_for acl) refl)
+    its_rule = rw (in_range, none_tracked) (one_first (rule_for acl) [] (rule_for acl) refl)
 
     its_row : Contains (rows net) (row_for acl)
     its_row = rows-acl net acl switch (rule_for acl) there (Contains-filter (λ (s : Switch). applies net s.id acl) net.switches switch on.among passes.0) its_rule
@@ -282,7 +278,7 @@ module _ (net : Network) (switch : Switch) (way : Way) (packet : Values) (on : I
 -- ---- the laws
 
 pub decides_in : DecidesIn
-decides_in net switch packet on = decides net switch From packet on
+decides_in net switch packet on none = decides net switch From packet on none
 
 pub decides_out : DecidesOut
-decides_out net switch packet on = decides net switch To packet on
+decides_out net switch packet on none = decides net switch To packet on none

@@ -1,8 +1,8 @@
 -- The rules of the addresses of a port: those of ARP replies, and those of the lookup.
 use Rattle.std.proofs.Common.{◌≡◌, ℕ, Bool, true, false, cond, List, [], ◌∷◌, ◌++◌, map, sym, ap, refl, ◌∙◌, subst, ◌⊎◌, inl, inr}
-use Rattle.std.specs.Prelude.{◌&&◌, not}
+use Rattle.std.specs.Prelude.{◌&&◌}
 use Rattle.std.specs.List.{Contains, flat_map, list_any}
-use Rattle.std.proofs.lemmas.Bool.{false≢true, not-true}
+use Rattle.std.proofs.lemmas.Bool.{false≢true}
 use Rattle.std.proofs.lemmas.List.Elements.{Contains-append_left, Contains-append_right, Contains-append_cases}
 use Rattle.nv_base.specs.declared.ip4.Ip4.{Ip4}
 use Rattle.nv_base.specs.declared.field.Field.TheVariants.{Inport}
@@ -12,7 +12,7 @@ use Rattle.nb_records.specs.declared.switch.Port.{Port}
 use Rattle.nb_model.specs.Addresses.{macs}
 use Rattle.nb_model.specs.Belongs.{is_router_kind, is_to_router, peer_router_port}
 use Rattle.nb_model.specs.Network.{Network}
-use Rattle.net_meaning.specs.Stateless.{IsStateless}
+use Rattle.nb_model.specs.Plain.{IsPlain}
 use Rattle.nb_model.specs.Ports.{is_router_word}
 use Rattle.net_meaning.specs.Switches.{all_macs, mac_of_peer}
 use Rattle.sb_model.specs.Make.{all_of, goes_on, is_port, steps}
@@ -24,12 +24,11 @@ use Rattle.net_rows.specs.Unit.{rule}
 use Rattle.net_rows.specs.declared.inputs.PortL2Input.{PortL2Input}
 use Rattle.net_rows.specs.declared.rule.Rule.{Rule}
 use Rattle.net_rows.proofs.Elements.{one_of, one_of_none, one_first, one_later, Contains-from_map, Contains-map, Contains-from_flat_map, Contains-flat_map}
-use Rattle.net_rows.proofs.Sound.{each_passes}
 use Rattle.ls_laws.proofs.RuleStages.{the_only, each_of, is_of_security, of_port_sec}
 
 -- where no port leads to a router, each is a host's
-pub is_host : (net : Network) (port : Port) → IsStateless net → Contains net.ports port → is_to_router port ≡ false
-is_host net port stateless there = not-true (is_to_router port) (each_passes (λ (p : Port). not (is_to_router p)) net.ports port stateless.hosts there)
+pub is_host : (net : Network) (port : Port) → IsPlain net → Contains net.ports port → is_to_router port ≡ false
+is_host net port plain there = each_of (λ (p : Port). is_to_router p ≡ false) net.ports port plain.ports there
 
 -- the rules for an IPv4 address of a host: its own request goes on, and that of others is answered
 abbrev pub own_rule : List ℕ → Ip4 → Rule

@@ -28,11 +28,11 @@ use Rattle.sb_model.specs.declared.stage.Stage.{Stage}
 use Rattle.sb_model.specs.declared.stage.Stage.TheVariants.{LsInArpRsp, LsInL2Lkup}
 use Rattle.sb_rows.specs.Match.{select}
 use Rattle.sb_rows.specs.Row.{row_cmp}
-use Rattle.nb_model.specs.Applies.{balances}
+use Rattle.nb_model.specs.Applies.{tracks, balances}
 use Rattle.nb_model.specs.Ports.{is_open}
 use Rattle.net_meaning.specs.Switches.{answering, has_ip, is_among_ips, is_answering, is_request, mac_with}
 use Rattle.net_rows.specs.Acls.{switch_acl_rules}
-use Rattle.net_rows.specs.Build.{has_unknown, rows, switch_rules}
+use Rattle.net_rows.specs.Build.{acl_on_input, has_unknown, rows, switch_rules}
 use Rattle.net_rows.specs.Lookup.{answers, requests, switch_l2_rules}
 use Rattle.net_rows.specs.Unit.{unit_of, unit_of_datapath, row_of}
 use Rattle.net_rows.specs.declared.rule.Rule.{Rule}
@@ -51,7 +51,7 @@ use Rattle.ls_laws.proofs.AtPort.{at_port-gives, at_port-from, same_port}
 use Rattle.ls_laws.proofs.FoundPorts.{IsFoundPort, found_port, found_none}
 use Rattle.ls_laws.proofs.Packets.{other_value}
 use Rattle.ls_laws.proofs.PassingStages.{passing}
-use Rattle.ls_laws.proofs.RuleStages.{rules_at, among_rules_at, from_rules_at, the_only, is_of_security, is_of_acls, untracked_rules, switch_rules-untracked, acl_rule_stage}
+use Rattle.ls_laws.proofs.RuleStages.{rules_at, among_rules_at, from_rules_at, the_only, is_of_security, is_of_acls, rules_where, acl_rule_stage}
 use Rattle.ls_laws.proofs.Selected.{first_of_takers}
 use Rattle.ls_laws.proofs.Tables.{IsSwitchRule, IsPortRule, IsRule, table-gives}
 use Rattle.ls_laws.proofs.Takers.{lower_after, later_after, step_by}
@@ -172,10 +172,12 @@ module _ (net : Network) (port : Port) (ip : Ip4) where
 -- ---- the stage
 
 -- the only rule of a switch, which passes each packet on
-only_passes : (balances unknown : Bool) → rules_at LsInArpRsp (untracked_rules balances unknown) ≡ passing LsInArpRsp ∷ []
+only_passes : (tracking balances unknown : Bool) → rules_at LsInArpRsp (rules_where tracking balances unknown) ≡ passing LsInArpRsp ∷ []
 unfolding switch_acl_rules switch_l2_rules stage_place
-only_passes balances true = refl
-only_passes balances false = refl
+only_passes true balances true = refl
+only_passes true balances false = refl
+only_passes false balances true = refl
+only_passes false balances false = refl
 
 abbrev is_arp : Stage → Bool
 is_arp LsInArpRsp = true
@@ -223,14 +225,14 @@ module _ (net : Network) (switch : Switch) (packet : Values) (on : IsOn net swit
     ByLast : row ≡ last_row → IsTaker row
 
   are : rules_at LsInArpRsp (switch_rules net dp) ≡ passing LsInArpRsp ∷ []
-  are = ap (rules_at LsInArpRsp) (switch_rules-untracked net switch on.stateless on.among) ∙ only_passes (balances net dp) (has_unknown net dp)
+  are = only_passes (tracks net dp) (balances net dp) (has_unknown net dp)
 
   -- an enabled port of the switch with the address is one that answers
   answers_for-from : (port : Port) → Contains net.ports port → port.switch ≡ dp → port.enabled ≡ true → has_ip asked.0 port ≡ true → answers_for port ≡ true
   answers_for-from port there of_dp enabled has =
       and_from (is_open dp port && not (is_to_router port)) (has_ip asked.0 port)
       (and_from (is_open dp port) (not (is_to_router port)) (and_from (eqb port.switch.0 dp.0) port.enabled (eq-eqb port.switch.0 dp.0 (ap (λ (o : ObjId). o.0) of_dp)) enabled)
-      (ap not (is_host net port on.stateless there)))
+      (ap not (is_host net port on.plain there)))
       has
 
   module _ (row : Row) (takes : holds (names net) packet row.matching ≡ true) where
@@ -241,7 +243,7 @@ module _ (net : Network) (switch : Switch) (packet : Values) (on : IsOn net swit
 
     by_port_rule : IsPortRule net dp LsInArpRsp row → IsTaker row
     by_port_rule of =
-        let gives = address_rule-gives net of.port (is_host net of.port on.stateless of.among) of.says (ap is_of_security of.of_stage) of.in_rules in
+        let gives = address_rule-gives net of.port (is_host net of.port on.plain of.among) of.says (ap is_of_security of.of_stage) of.in_rules in
         by gives.0 gives.1
       where
         as_row : (says : Rule) → of.says ≡ says → row ≡ row_of (unit_of of.port.switch of.port.id) says
@@ -268,7 +270,7 @@ module _ (net : Network) (switch : Switch) (packet : Values) (on : IsOn net swit
     taker : IsRule net dp LsInArpRsp row → IsTaker row
     taker (inl of) = by_switch_rule of
     taker (inr (inl of)) = by_port_rule of
-    taker (inr (inr of)) = absurd (false≢true (sym (ap is_of_acls of.of_stage) ∙ acl_rule_stage net switch on.stateless on.among of.acl of.says of.in_rules))
+    taker (inr (inr of)) = absurd (false≢true (sym (ap is_of_acls of.of_stage) ∙ acl_rule_stage (acl_on_input net of.acl dp) of.says of.in_rules))
 
   -- ---- what is done
 
@@ -307,13 +309,13 @@ module _ (net : Network) (switch : Switch) (packet : Values) (on : IsOn net swit
     is_its_mac = sym (mac_of_ip port.addresses its_address.0 its_address.1.ips asked (port_is_sound net on.sound port there).ips_apart its_address.1.address its_address.1.among)
 
     own_row_there : Contains (rows net) (own_row port)
-    own_row_there = rows-port net port (own_rule port.name asked) there (own-from net port (is_host net port on.stateless there) opens.1 its_address.0 asked its_address.1)
+    own_row_there = rows-port net port (own_rule port.name asked) there (own-from net port (is_host net port on.plain there) opens.1 its_address.0 asked its_address.1)
 
     row_there : Contains (rows net) (row_for port)
     row_there =
         let says = answer_rule (mac_with asked.0 port.addresses) asked in
         let has = subst (λ (mac : ℕ). HasAddress net port mac asked) is_its_mac its_address.1 in
-        rows-port net port says there (answer-from net port (is_host net port on.stateless there) opens.1 (mac_with asked.0 port.addresses) asked has)
+        rows-port net port says there (answer-from net port (is_host net port on.plain there) opens.1 (mac_with asked.0 port.addresses) asked has)
 
     -- where the asker has the address itself, its request goes on
     by_own : value packet Inport ≡ port.id.0 → is_request packet ≡ true → step (flows_at net dp) LsInArpRsp packet ≡ On LsInL2Lkup packet

@@ -23,12 +23,12 @@ use Rattle.sb_model.specs.declared.stage.Stage.TheVariants.{LsInL2Lkup, LsInL2Un
 use Rattle.sb_rows.specs.Match.{select}
 use Rattle.sb_rows.specs.Row.{row_cmp}
 use Rattle.net_meaning.specs.Address.{is_multicast}
-use Rattle.nb_model.specs.Applies.{balances}
+use Rattle.nb_model.specs.Applies.{tracks, balances}
 use Rattle.nb_model.specs.Ports.{is_open, takes_unknown}
 use Rattle.net_meaning.specs.Switches.{all_macs, has_mac, numbers, port_for}
 use Rattle.net_meaning.specs.declared.cause.Cause.TheVariants.{Unknown}
 use Rattle.net_rows.specs.Acls.{switch_acl_rules}
-use Rattle.net_rows.specs.Build.{has_unknown, rows, switch_rules}
+use Rattle.net_rows.specs.Build.{acl_on_input, has_unknown, rows, switch_rules}
 use Rattle.net_rows.specs.Lookup.{lookup_rule, switch_l2_rules, unknown_rules}
 use Rattle.net_rows.specs.Unit.{unit_of, unit_of_datapath, rule, row_of}
 use Rattle.net_rows.specs.declared.rule.Rule.{Rule}
@@ -43,7 +43,7 @@ use Rattle.ls_laws.proofs.AddressRules.{IsAddressRule, address_rule-gives, is_ho
 use Rattle.ls_laws.proofs.AddressRules.IsAddressRule.{Own, Asked, ForMac}
 use Rattle.ls_laws.proofs.FoundPorts.{IsFoundPort, found_port, found_none}
 use Rattle.ls_laws.proofs.PortNames.{number_of_port}
-use Rattle.ls_laws.proofs.RuleStages.{rules_at, among_rules_at, from_rules_at, is_of_security, is_of_addresses, is_of_acls, port_rule_stage, untracked_rules, switch_rules-untracked, acl_rule_stage}
+use Rattle.ls_laws.proofs.RuleStages.{rules_at, among_rules_at, from_rules_at, is_of_security, is_of_addresses, is_of_acls, port_rule_stage, rules_where, acl_rule_stage}
 use Rattle.ls_laws.proofs.Selected.{first_of_takers}
 use Rattle.ls_laws.proofs.Tables.{IsSwitchRule, IsPortRule, IsRule, table-gives}
 use Rattle.ls_laws.proofs.Takers.{lower_after, later_after, step_by}
@@ -58,10 +58,12 @@ many_rule = rule LsInL2Lkup 100 (is_predicate EthMcast) (goes_out_by flood_group
 abbrev last_rule : Rule
 last_rule = rule LsInL2Lkup 0 takes_each goes_on
 
-lookup_rules : (balances unknown : Bool) → rules_at LsInL2Lkup (untracked_rules balances unknown) ≡ many_rule ∷ last_rule ∷ []
+lookup_rules : (tracking balances unknown : Bool) → rules_at LsInL2Lkup (rules_where tracking balances unknown) ≡ many_rule ∷ last_rule ∷ []
 unfolding switch_acl_rules switch_l2_rules stage_place
-lookup_rules balances true = refl
-lookup_rules balances false = refl
+lookup_rules true balances true = refl
+lookup_rules true balances false = refl
+lookup_rules false balances true = refl
+lookup_rules false balances false = refl
 
 -- the rules for the MACs of ports are of the lookup
 abbrev is_lookup : Stage → Bool
@@ -97,7 +99,7 @@ module _ (net : Network) (switch : Switch) (packet : Values) (on : IsOn net swit
     ByLast : row ≡ last_row → IsTaker row
 
   are : rules_at LsInL2Lkup (switch_rules net dp) ≡ many_rule ∷ last_rule ∷ []
-  are = ap (rules_at LsInL2Lkup) (switch_rules-untracked net switch on.stateless on.among) ∙ lookup_rules (balances net dp) (has_unknown net dp)
+  are = lookup_rules (tracks net dp) (balances net dp) (has_unknown net dp)
 
   module _ (row : Row) (takes : holds (names net) packet row.matching ≡ true) where
     by_switch_rule : IsSwitchRule net dp LsInL2Lkup row → IsTaker row
@@ -115,7 +117,7 @@ module _ (net : Network) (switch : Switch) (packet : Values) (on : IsOn net swit
 
     by_port_rule : IsPortRule net dp LsInL2Lkup row → IsTaker row
     by_port_rule of =
-        let gives = address_rule-gives net of.port (is_host net of.port on.stateless of.among) of.says (ap is_of_security of.of_stage) of.in_rules in
+        let gives = address_rule-gives net of.port (is_host net of.port on.plain of.among) of.says (ap is_of_security of.of_stage) of.in_rules in
         by gives.0 gives.1
       where
         by : of.port.enabled ≡ true → IsAddressRule net of.port of.says → IsTaker row
@@ -134,7 +136,7 @@ module _ (net : Network) (switch : Switch) (packet : Values) (on : IsOn net swit
     taker : IsRule net dp LsInL2Lkup row → IsTaker row
     taker (inl of) = by_switch_rule of
     taker (inr (inl of)) = by_port_rule of
-    taker (inr (inr of)) = absurd (false≢true (sym (ap is_of_acls of.of_stage) ∙ acl_rule_stage net switch on.stateless on.among of.acl of.says of.in_rules))
+    taker (inr (inr of)) = absurd (false≢true (sym (ap is_of_acls of.of_stage) ∙ acl_rule_stage (acl_on_input net of.acl dp) of.says of.in_rules))
 
   -- ---- what is done
 
@@ -183,7 +185,7 @@ module _ (net : Network) (switch : Switch) (packet : Values) (on : IsOn net swit
       its_row : Contains (rows net) (row_for port)
       its_row =
           rows-port net port (lookup_rule port.name mac) is_found.among
-          (lookup-from net port (is_host net port on.stateless is_found.among) (and_parts (eqb port.switch.0 dp.0) port.enabled opens.0).1 mac has_it)
+          (lookup-from net port (is_host net port on.plain is_found.among) (and_parts (eqb port.switch.0 dp.0) port.enabled opens.0).1 mac has_it)
 
       -- each other row that takes the packet is after it
       others : (row : Row) → IsTaker row → (row ≡ row_for port) ⊎ (is_gt (row_cmp row (row_for port)) ≡ true)
@@ -231,10 +233,12 @@ drop_rule = rule LsInL2Unknown 0 takes_each drops
 abbrev send_rule : Rule
 send_rule = rule LsInL2Unknown 50 takes_each (goes_out_by unknown_group)
 
-rules_for_unknown : (balances unknown : Bool) → rules_at LsInL2Unknown (untracked_rules balances unknown) ≡ drop_rule ∷ unknown_rules unknown
+rules_for_unknown : (tracking balances unknown : Bool) → rules_at LsInL2Unknown (rules_where tracking balances unknown) ≡ drop_rule ∷ unknown_rules unknown
 unfolding switch_acl_rules switch_l2_rules stage_place
-rules_for_unknown balances true = refl
-rules_for_unknown balances false = refl
+rules_for_unknown true balances true = refl
+rules_for_unknown true balances false = refl
+rules_for_unknown false balances true = refl
+rules_for_unknown false balances false = refl
 
 module _ (net : Network) (switch : Switch) (packet : Values) (on : IsOn net switch packet) where
   abbrev at_dp : ObjId
@@ -243,14 +247,12 @@ module _ (net : Network) (switch : Switch) (packet : Values) (on : IsOn net swit
   -- the rules of the stage are the switch's, where there are ports for unknown addresses and where there are none
   module _ (unknown : Bool) (is : has_unknown net at_dp ≡ unknown) where
     they_are : rules_at LsInL2Unknown (switch_rules net at_dp) ≡ drop_rule ∷ unknown_rules unknown
-    they_are =
-        ap (rules_at LsInL2Unknown) (switch_rules-untracked net switch on.stateless on.among) ∙ rules_for_unknown (balances net at_dp) (has_unknown net at_dp)
-        ∙ ap (λ (b : Bool). drop_rule ∷ unknown_rules b) is
+    they_are = rules_for_unknown (tracks net at_dp) (balances net at_dp) (has_unknown net at_dp) ∙ ap (λ (b : Bool). drop_rule ∷ unknown_rules b) is
 
     of_switch : (row : Row) → IsRule net at_dp LsInL2Unknown row → (says : Rule) × Contains (drop_rule ∷ unknown_rules unknown) says × (row ≡ row_of (unit_of_datapath at_dp) says)
     of_switch row (inl of) = (of.says, subst (λ rs. Contains rs of.says) they_are (among_rules_at LsInL2Unknown (switch_rules net at_dp) of.says of.in_rules of.of_stage), of.is)
     of_switch row (inr (inl of)) = absurd (false≢true (sym (ap (λ s. is_of_security s || is_of_addresses s) of.of_stage) ∙ port_rule_stage net of.port of.says of.in_rules))
-    of_switch row (inr (inr of)) = absurd (false≢true (sym (ap is_of_acls of.of_stage) ∙ acl_rule_stage net switch on.stateless on.among of.acl of.says of.in_rules))
+    of_switch row (inr (inr of)) = absurd (false≢true (sym (ap is_of_acls of.of_stage) ∙ acl_rule_stage (acl_on_input net of.acl at_dp) of.says of.in_rules))
 
     -- what the highest rule does is done
     done_by : (r : Rule) → Contains (drop_rule ∷ unknown_rules unknown) r → r.stage ≡ LsInL2Unknown → r.matching ≡ takes_each

@@ -19,14 +19,14 @@ use Rattle.nb_model.specs.Sound.{IsSound}
 use Rattle.nb_model.proofs.Readable.{of_port}
 use Rattle.nv_base.specs.Name.{is_object_name}
 use Rattle.net_meaning.specs.Address.{is_multicast}
-use Rattle.nb_model.specs.Applies.{is_empty, balances}
+use Rattle.nb_model.specs.Applies.{is_empty, tracks, balances}
 use Rattle.net_meaning.specs.Guards.{lets_any_in, lets_nets_in, lets_in, lets_nets_out, lets_out, some_guard}
 use Rattle.net_meaning.specs.declared.cause.Cause.TheVariants.{PortSec}
 use Rattle.sb_model.specs.Make.{drops, goes_on, goes_out, equals, is_port, as_mac}
 use Rattle.sb_model.specs.Stage.{all_stages, next_stage, stage_at, pipeline_of}
 use Rattle.sb_model.specs.declared.row.Row.{Row}
 use Rattle.sb_model.specs.declared.stage.Stage.TheVariants.{LsInCheckPortSec, LsInPreAcl, LsOutCheckPortSec}
-use Rattle.net_rows.specs.Build.{has_unknown, port_rules, switch_rules}
+use Rattle.net_rows.specs.Build.{acl_on_input, has_unknown, port_rules, switch_rules}
 use Rattle.net_rows.specs.Unit.{unit_of, unit_of_datapath, row_of}
 use Rattle.net_rows.specs.declared.rule.Rule.{Rule}
 use Rattle.net_rows.proofs.Elements.{one_of, one_of_none, one_first, one_later, any_from, any_gives, Contains-flat_map}
@@ -38,7 +38,7 @@ use Rattle.tr_stage.specs.declared.outcome.Outcome.TheVariants.{Deliver, Drop}
 use Rattle.ls_laws.specs.Steps.{IsOn, IsPortOf, ChecksIn, ChecksOut, flows_at}
 use Rattle.ls_laws.proofs.AtPort.{always_there, at_port-gives, at_port-from, same_port}
 use Rattle.ls_laws.proofs.GuardTerms.{Terms, AreNets, in_meaning, out_meaning}
-use Rattle.ls_laws.proofs.RuleStages.{rules_at, among_rules_at, from_rules_at, is_of_acls, switch_rules-untracked, acl_rule_stage}
+use Rattle.ls_laws.proofs.RuleStages.{rules_at, among_rules_at, from_rules_at, is_of_acls, acl_rule_stage}
 use Rattle.ls_laws.proofs.SecurityRules.{Side, IsSide, many_rule, off_rule, let_rule, shut_rule, last_rule, ingress_side, egress_side, ingress_is, egress_is, IsSecRule, sec_rule-gives, off-from, shut-from, let-from}
 use Rattle.ls_laws.proofs.SecurityRules.IsSecRule.{Off, Shut, Lets}
 use Rattle.ls_laws.proofs.Tables.{IsSwitchRule, IsPortRule, IsRule}
@@ -98,7 +98,7 @@ module _ (side : Side) (is : IsSide side) (net : Network) (switch : Switch) (pac
     ByLast : row.actions ≡ side.goes → row.priority ≡ 0 → IsTaker row
 
   switch_rules_are : rules_at side.stage (switch_rules net switch.id) ≡ many_rule side ∷ last_rule side ∷ []
-  switch_rules_are = ap (rules_at side.stage) (switch_rules-untracked net switch on.stateless on.among) ∙ is.of_switch (balances net switch.id) (has_unknown net switch.id)
+  switch_rules_are = is.of_switch (tracks net switch.id) (balances net switch.id) (has_unknown net switch.id)
 
   module _ (row : Row) (takes : holds (names net) packet row.matching ≡ true) where
     by_switch_rule : IsSwitchRule net switch.id side.stage row → IsTaker row
@@ -150,7 +150,7 @@ module _ (side : Side) (is : IsSide side) (net : Network) (switch : Switch) (pac
     taker : IsRule net switch.id side.stage row → IsTaker row
     taker (inl from) = by_switch_rule from
     taker (inr (inl from)) = by_port_rule from
-    taker (inr (inr from)) = absurd (false≢true (sym is.no_acl ∙ sym (ap is_of_acls from.of_stage) ∙ acl_rule_stage net switch on.stateless on.among from.acl from.says from.in_rules))
+    taker (inr (inr from)) = absurd (false≢true (sym is.no_acl ∙ sym (ap is_of_acls from.of_stage) ∙ acl_rule_stage (acl_on_input net from.acl switch.id) from.says from.in_rules))
 
   -- ---- what is done
 

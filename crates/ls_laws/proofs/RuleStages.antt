@@ -1,27 +1,29 @@
--- Which stages the rules of switches without connections are of, of their ports, and of ACLs that apply to them.
+-- Which stages the rules of switches are of, of their ports, and of ACLs that apply to them; and which rules there are where a switch
+-- tracks no connections.
 use Rattle.std.proofs.Common.{◌≡◌, ℕ, ◌+◌, Bool, true, false, cond, List, [], ◌∷◌, ◌++◌, map, eqb, sym, ap, refl, ◌∙◌, subst, ◌⊎◌, inl, inr}
-use Rattle.std.specs.Prelude.{◌||◌, not}
+use Rattle.std.specs.Prelude.{◌||◌}
 use Rattle.std.specs.List.{AllByRecursion, Contains, filter, flat_map}
-use Rattle.std.proofs.lemmas.Bool.{false≢true, eq-eqb, not-true}
+use Rattle.std.proofs.lemmas.Bool.{false≢true, eq-eqb}
 use Rattle.std.proofs.lemmas.List.Elements.{All-contains, All-from_recursion, Contains-append_cases}
 use Rattle.nv_base.specs.declared.ip4.Ip4.{Ip4}
+use Rattle.nv_base.specs.declared.object.ObjId.{ObjId}
 use Rattle.nb_records.specs.declared.acl.Acl.{Acl}
+use Rattle.nb_records.specs.declared.acl.Verdict.{Verdict}
+use Rattle.nb_records.specs.declared.acl.Verdict.TheVariants.{Allow, AllowRelated, AllowStateless, Drop, Reject}
 use Rattle.nb_records.specs.declared.acl.Way.{Way}
 use Rattle.nb_records.specs.declared.acl.Way.TheVariants.{From, To}
 use Rattle.nb_records.specs.declared.switch.Addr.{Addr}
 use Rattle.nb_records.specs.declared.switch.Addr.TheVariants as addr
 use Rattle.nb_records.specs.declared.switch.Guard.{Guard}
 use Rattle.nb_records.specs.declared.switch.Port.{Port}
-use Rattle.nb_records.specs.declared.switch.Switch.{Switch}
 use Rattle.nb_model.specs.Belongs.{is_router_kind}
 use Rattle.nb_model.specs.Network.{Network}
 use Rattle.nb_model.specs.Readable.{is_priority}
 use Rattle.nb_model.specs.Applies.{is_empty, tracks, balances}
-use Rattle.net_meaning.specs.Stateless.{IsStateless}
 use Rattle.sb_model.specs.Stage.{stage_place}
 use Rattle.sb_model.specs.declared.stage.Stage.{Stage}
-use Rattle.sb_model.specs.declared.stage.Stage.TheVariants.{LsInCheckPortSec, LsInAclEval, LsInArpRsp, LsInL2Lkup, LsOutAclEval, LsOutCheckPortSec}
-use Rattle.net_rows.specs.Acls.{switch_acl_rules, stage_of, ending, tracked_rules, untracking_rules, acl_on_rules}
+use Rattle.sb_model.specs.declared.stage.Stage.TheVariants.{LsInCheckPortSec, LsInPreAcl, LsInAclEval, LsInArpRsp, LsInL2Lkup, LsOutPreAcl, LsOutAclEval, LsOutCheckPortSec}
+use Rattle.net_rows.specs.Acls.{switch_acl_rules, first_stage_of, stage_of, ending, tracked_rules, untracking_rules, acl_on_rules}
 use Rattle.net_rows.specs.Build.{port_sec_input, acl_on_input, has_unknown, port_l2_input, switch_rules, port_rules}
 use Rattle.net_rows.specs.LoadBalancers.{switch_lb_rules}
 use Rattle.net_rows.specs.Lookup.{switch_l2_rules, arp_rules, arp_rules_of, lookup_rule, looked_up, host_rules, port_l2_rules}
@@ -32,7 +34,6 @@ use Rattle.net_rows.specs.declared.inputs.PortL2Input.{PortL2Input}
 use Rattle.net_rows.specs.declared.inputs.PortSecInput.{PortSecInput}
 use Rattle.net_rows.specs.declared.rule.Rule.{Rule}
 use Rattle.net_rows.proofs.Elements.{one_of, one_of_none, every_append, Contains-filter, Contains-from_filter}
-use Rattle.net_rows.proofs.Sound.{each_passes}
 
 -- ---- the rules of a stage
 
@@ -78,9 +79,17 @@ is_of_addresses _ = false
 
 -- those of ACLs
 abbrev pub is_of_acls : Stage → Bool
+is_of_acls LsInPreAcl = true
 is_of_acls LsInAclEval = true
+is_of_acls LsOutPreAcl = true
 is_of_acls LsOutAclEval = true
 is_of_acls _ = false
+
+-- those of them where ACLs decide
+abbrev pub is_of_decisions : Stage → Bool
+is_of_decisions LsInAclEval = true
+is_of_decisions LsOutAclEval = true
+is_of_decisions _ = false
 
 -- ---- the rules of ports
 
@@ -163,18 +172,59 @@ port_rule_stage net port says there = by (Contains-append_cases (port_sec_rules 
 
 -- ---- the rules of ACLs
 
--- on a switch that tracks no connections an ACL has rules in its own stage alone
-acl_stage : (way : Way) → is_of_acls (stage_of way) ≡ true
-acl_stage From = refl
-acl_stage To = refl
+-- an ACL has rules in the stage where it decides, and on a switch that tracks connections also in the first one of its direction
+decides_there : (way : Way) → is_of_decisions (stage_of way) ≡ true
+decides_there From = refl
+decides_there To = refl
 
+abbrev OfAcls : Rule → Type 0
+OfAcls says = is_of_acls says.stage ≡ true
+
+deciding_stage : (way : Way) → is_of_acls (stage_of way) ≡ true
+deciding_stage From = refl
+deciding_stage To = refl
+
+first_stage : (way : Way) → is_of_acls (first_stage_of way) ≡ true
+first_stage From = refl
+first_stage To = refl
+
+module _ (way : Way) (priority : ℕ) (matching : _) where
+  of_untracking : (verdict : Verdict) → AllByRecursion OfAcls (untracking_rules way priority matching verdict)
+  of_untracking Allow = tt
+  of_untracking AllowRelated = tt
+  of_untracking AllowStateless = (first_stage way, tt)
+  of_untracking Drop = tt
+  of_untracking Reject = tt
+
+  of_tracked : (verdict : Verdict) → AllByRecursion OfAcls (tracked_rules (stage_of way) priority matching verdict)
+  of_tracked Allow = (deciding_stage way, tt)
+  of_tracked AllowRelated = (deciding_stage way, tt)
+  of_tracked AllowStateless = (deciding_stage way, tt)
+  of_tracked Drop = (deciding_stage way, (deciding_stage way, tt))
+  of_tracked Reject = (deciding_stage way, (deciding_stage way, tt))
+
+-- where connections are not tracked, its rule is this
 abbrev pub untracked_rule : AclOnInput → Rule
 untracked_rule input = rule (stage_of input.way) (input.priority + 1000) input.matching (ending input.verdict)
 
--- and on one that does, these
-abbrev rules_where_tracked : AclOnInput → List Rule
+-- and where they are, its rules are these
+abbrev pub rules_where_tracked : AclOnInput → List Rule
 rules_where_tracked input =
     untracking_rules input.way (input.priority + 1000) input.matching input.verdict ++ tracked_rules (stage_of input.way) (input.priority + 1000) input.matching input.verdict
+
+of_acl : (input : AclOnInput) → AllByRecursion OfAcls (acl_on_rules input)
+unfolding acl_on_rules
+of_acl input = by (is_priority input.priority) input.tracks
+  where
+    by : (b t : Bool) → AllByRecursion OfAcls (cond b (cond t (rules_where_tracked input) (untracked_rule input ∷ [])) [])
+    by false t = tt
+    by true true =
+        every_append OfAcls (untracking_rules input.way (input.priority + 1000) input.matching input.verdict) (tracked_rules (stage_of input.way) (input.priority + 1000) input.matching input.verdict)
+        (of_untracking input.way (input.priority + 1000) input.matching input.verdict) (of_tracked input.way (input.priority + 1000) input.matching input.verdict)
+    by true false = (deciding_stage input.way, tt)
+
+pub acl_rule_stage : (input : AclOnInput) (says : Rule) → Contains (acl_on_rules input) says → is_of_acls says.stage ≡ true
+acl_rule_stage input says there = each_of OfAcls (acl_on_rules input) says (of_acl input) there
 
 pub untracked_gives : (input : AclOnInput) (says : Rule) → input.tracks ≡ false → Contains (acl_on_rules input) says → says ≡ untracked_rule input
 unfolding acl_on_rules
@@ -187,21 +237,20 @@ untracked_gives input says none there = by (is_priority input.priority) input.tr
 
 -- ---- the rules of switches
 
--- those of a switch that tracks no connections
-abbrev pub untracked_rules : Bool → Bool → List Rule
-untracked_rules balances unknown = switch_sec_rules ++ (switch_acl_rules (record { tracks = false; balances = balances }) ++ (switch_lb_rules ++ switch_l2_rules (record { unknown = unknown })))
+-- those of a switch that tracks connections or not, to which load balancers are attached or not, with or without ports for unknown
+-- addresses
+abbrev pub rules_where : (tracking balances unknown : Bool) → List Rule
+rules_where tracking balances unknown =
+    switch_sec_rules ++ (switch_acl_rules (record { tracks = tracking; balances = balances }) ++ (switch_lb_rules ++ switch_l2_rules (record { unknown = unknown })))
 
-module _ (net : Network) (switch : Switch) (stateless : IsStateless net) (among : Contains net.switches switch) where
-  pub tracks_none : tracks net switch.id ≡ false
-  tracks_none = not-true (tracks net switch.id) (each_passes (λ (s : Switch). not (tracks net s.id)) net.switches switch stateless.untracked among)
+-- where a switch tracks no connections
+module _ (net : Network) (dp : ObjId) (none : tracks net dp ≡ false) where
+  pub switch_rules-untracked : switch_rules net dp ≡ rules_where false (balances net dp) (has_unknown net dp)
+  switch_rules-untracked = ap (λ (t : Bool). rules_where t (balances net dp) (has_unknown net dp)) none
 
-  pub switch_rules-untracked : switch_rules net switch.id ≡ untracked_rules (balances net switch.id) (has_unknown net switch.id)
-  switch_rules-untracked =
-      ap (λ (t : Bool). switch_sec_rules ++ (switch_acl_rules (record { tracks = t; balances = balances net switch.id }) ++ (switch_lb_rules ++ switch_l2_rules (record { unknown = has_unknown net switch.id })))) tracks_none
+  -- an ACL has one rule, in the stage where it decides
+  pub acl_rule-gives : (acl : Acl) (says : Rule) → Contains (acl_on_rules (acl_on_input net acl dp)) says → says ≡ untracked_rule (acl_on_input net acl dp)
+  acl_rule-gives acl says there = untracked_gives (acl_on_input net acl dp) says none there
 
-  -- so an ACL has one rule, in its own stage
-  pub acl_rule-gives : (acl : Acl) (says : Rule) → Contains (acl_on_rules (acl_on_input net acl switch.id)) says → says ≡ untracked_rule (acl_on_input net acl switch.id)
-  acl_rule-gives acl says there = untracked_gives (acl_on_input net acl switch.id) says tracks_none there
-
-  pub acl_rule_stage : (acl : Acl) (says : Rule) → Contains (acl_on_rules (acl_on_input net acl switch.id)) says → is_of_acls says.stage ≡ true
-  acl_rule_stage acl says there = ap (λ (r : Rule). is_of_acls r.stage) (acl_rule-gives acl says there) ∙ acl_stage acl.way
+  pub untracked_stage : (acl : Acl) (says : Rule) → Contains (acl_on_rules (acl_on_input net acl dp)) says → is_of_decisions says.stage ≡ true
+  untracked_stage acl says there = ap (λ (r : Rule). is_of_decisions r.stage) (acl_rule-gives acl says there) ∙ decides_there acl.way

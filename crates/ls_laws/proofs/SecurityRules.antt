@@ -28,7 +28,7 @@ use Rattle.net_rows.specs.Unit.{rule}
 use Rattle.net_rows.specs.declared.rule.Rule.{Rule}
 use Rattle.net_rows.proofs.Elements.{one_of, one_of_none, one_first, one_later, Contains-from_map, Contains-map, Contains-from_flat_map, Contains-flat_map, Contains-from_filter}
 use Rattle.ls_laws.proofs.GuardTerms.{Terms, open_in_terms, closed_in_terms, in_terms, open_out_terms, closed_out_terms, out_terms}
-use Rattle.ls_laws.proofs.RuleStages.{is_at, rules_at, among_rules_at, from_rules_at, the_only, each_of, is_of_addresses, is_of_acls, of_port_l2, untracked_rules}
+use Rattle.ls_laws.proofs.RuleStages.{is_at, rules_at, among_rules_at, from_rules_at, the_only, each_of, is_of_addresses, is_of_acls, of_port_l2, rules_where}
 
 -- The stage of port security of a pipeline: the fields of the port and of its MAC, what is done with what may pass, what guards ask for,
 -- what all that is for many or from many meets, and whether a disabled port lets in nothing.
@@ -64,7 +64,7 @@ off_rules side name off = cond off (off_rule side name ∷ []) []
 
 -- the rules are these in the stage
 pub record IsSide (side : Side) : Type 0 where
-  pub of_switch : (balances unknown : Bool) → rules_at side.stage (untracked_rules balances unknown) ≡ many_rule side ∷ last_rule side ∷ []
+  pub of_switch : (tracking balances unknown : Bool) → rules_at side.stage (rules_where tracking balances unknown) ≡ many_rule side ∷ last_rule side ∷ []
   pub of_disabled : (name : List ℕ) (enabled : Bool) → rules_at side.stage (disabled_rules enabled name) ≡ off_rules side name (side.disables && not enabled)
   pub of_guarded : (name : List ℕ) (guard : Guard) (guards : List Guard)
       → rules_at side.stage (guarded_rules name (guard ∷ guards)) ≡ shut_rule side name ∷ rules_at side.stage (flat_map (guard_rules name) (guard ∷ guards))
@@ -97,9 +97,11 @@ ingress_is = record {
   off_drops = λ e. refl;
 }
   where
-    of_switch : (balances unknown : Bool) → rules_at LsInCheckPortSec (untracked_rules balances unknown) ≡ many_rule ingress_side ∷ last_rule ingress_side ∷ []
-    of_switch balances true = refl
-    of_switch balances false = refl
+    of_switch : (tracking balances unknown : Bool) → rules_at LsInCheckPortSec (rules_where tracking balances unknown) ≡ many_rule ingress_side ∷ last_rule ingress_side ∷ []
+    of_switch true balances true = refl
+    of_switch true balances false = refl
+    of_switch false balances true = refl
+    of_switch false balances false = refl
 
     of_disabled : (name : List ℕ) (enabled : Bool) → rules_at LsInCheckPortSec (disabled_rules enabled name) ≡ off_rules ingress_side name (not enabled)
     of_disabled name true = refl
@@ -124,9 +126,11 @@ egress_is = record {
   off_drops = λ e. absurd (false≢true e);
 }
   where
-    of_switch : (balances unknown : Bool) → rules_at LsOutCheckPortSec (untracked_rules balances unknown) ≡ many_rule egress_side ∷ last_rule egress_side ∷ []
-    of_switch balances true = refl
-    of_switch balances false = refl
+    of_switch : (tracking balances unknown : Bool) → rules_at LsOutCheckPortSec (rules_where tracking balances unknown) ≡ many_rule egress_side ∷ last_rule egress_side ∷ []
+    of_switch true balances true = refl
+    of_switch true balances false = refl
+    of_switch false balances true = refl
+    of_switch false balances false = refl
 
     of_disabled : (name : List ℕ) (enabled : Bool) → rules_at LsOutCheckPortSec (disabled_rules enabled name) ≡ []
     of_disabled name true = refl

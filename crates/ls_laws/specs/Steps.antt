@@ -1,6 +1,7 @@
--- What a packet's step through each stage of a switch does, said of the network's objects: the stage laws. They are of networks whose
--- switches track no connections.
-use Rattle.std.specs.Prelude.{◌≡◌, ℕ, not, ◌&&◌, if◌then◌else◌, List, [], ◌∷◌, Contains, Option, Some, None}
+-- What a packet's step through each stage of a switch does, said of the network's objects: the stage laws. They are of plain networks.
+-- Where a switch tracks connections, its stages of ACLs and of connections ask for connections, of which nothing is said here: the laws
+-- of these are of switches that track none.
+use Rattle.std.specs.Prelude.{◌≡◌, ℕ, false, not, ◌&&◌, if◌then◌else◌, List, [], ◌∷◌, Contains, Option, Some, None}
 use Rattle.nv_base.specs.declared.object.ObjId.{ObjId}
 use Rattle.nv_base.specs.declared.field.Field.TheVariants.{Inport, Outport, FlagsLoopback, EthDst, ArpTpa}
 use Rattle.pkt_core.specs.Packet.{Values, IsPacket, value, with_value, with_values}
@@ -8,6 +9,7 @@ use Rattle.pkt_core.specs.Replies.{is_answerable, arp_reply}
 use Rattle.nb_records.specs.declared.acl.Way.TheVariants.{From, To}
 use Rattle.nb_records.specs.declared.switch.Port.{Port}
 use Rattle.nb_records.specs.declared.switch.Switch.{Switch}
+use Rattle.nb_model.specs.Applies.{tracks}
 use Rattle.nb_model.specs.Names.{names}
 use Rattle.nb_model.specs.Network.{Network}
 use Rattle.nb_model.specs.Sound.{IsSound}
@@ -17,7 +19,7 @@ use Rattle.net_meaning.specs.AclVerdict.{Decision, decision}
 use Rattle.net_meaning.specs.AclVerdict.Decision.{Allowed, Dropped, Rejected, Full}
 use Rattle.net_meaning.specs.Address.{is_multicast}
 use Rattle.net_meaning.specs.Guards.{is_let_in, is_let_out}
-use Rattle.net_meaning.specs.Stateless.{IsStateless}
+use Rattle.nb_model.specs.Plain.{IsPlain}
 use Rattle.net_meaning.specs.Switches.{rejection, is_request, is_answering, answering, mac_with, port_for, unknown_ports}
 use Rattle.net_meaning.specs.declared.answer.Answer.TheVariants.{Reject}
 use Rattle.net_meaning.specs.declared.cause.Cause.TheVariants.{PortSec, Acl, Unknown, CtFull}
@@ -36,7 +38,7 @@ flows_at net dp = flows_of (rows net) (names net) dp
 -- the networks and the packets of which the laws speak: on one of the network's switches
 pub record IsOn (net : Network) (switch : Switch) (packet : Values) : Type 0 where
   pub sound : IsSound net
-  pub stateless : IsStateless net
+  pub plain : IsPlain net
   pub among : Contains net.switches switch
   pub formed : IsPacket packet
 
@@ -48,9 +50,18 @@ IsPortOf net switch port = Contains net.ports port × (port.switch ≡ switch.id
 abbrev pub Does : Network → Switch → Stage → Values → StageEnd → Type 0
 Does net switch stage packet end = step (flows_at net switch.id) stage packet ≡ end
 
+-- the switch tracks no connections
+abbrev pub IsUntracked : Network → Switch → Type 0
+IsUntracked net switch = tracks net switch.id ≡ false
+
 -- each packet goes on at the next stage
 abbrev pub Passes : Stage → Stage → Type 0
 Passes stage next = (net : Network) (switch : Switch) (packet : Values) → IsOn net switch packet → Does net switch stage packet (On next packet)
+
+-- each packet goes on at the next stage where the switch tracks no connections
+abbrev pub PassesUntracked : Stage → Stage → Type 0
+PassesUntracked stage next =
+    (net : Network) (switch : Switch) (packet : Values) → IsOn net switch packet → IsUntracked net switch → Does net switch stage packet (On next packet)
 
 -- ---- port security
 
@@ -83,14 +94,15 @@ decided Dropped next packet = Ends (Some (Drop Acl))
 decided Rejected next packet = rejected packet
 decided Full next packet = Ends (Some (Drop CtFull))
 
+-- what the ACLs of a direction decide is done, where the switch tracks no connections
 abbrev pub DecidesIn : Type 0
 DecidesIn =
-    (net : Network) (switch : Switch) (packet : Values) → IsOn net switch packet
+    (net : Network) (switch : Switch) (packet : Values) → IsOn net switch packet → IsUntracked net switch
     → Does net switch LsInAclEval packet (decided (decision net switch.id From packet) LsInLb packet)
 
 abbrev pub DecidesOut : Type 0
 DecidesOut =
-    (net : Network) (switch : Switch) (packet : Values) → IsOn net switch packet
+    (net : Network) (switch : Switch) (packet : Values) → IsOn net switch packet → IsUntracked net switch
     → Does net switch LsOutAclEval packet (decided (decision net switch.id To packet) LsOutStateful packet)
 
 -- ---- ARP replies

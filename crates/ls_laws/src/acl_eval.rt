@@ -1,4 +1,4 @@
-//! ACLs.
+//! ACLs, where a switch tracks no connections.
 ghost use Rattle.ls_laws.specs.Steps.{DecidesIn, DecidesOut};
 
 /// The ACLs for what comes from ports decide: of those that apply and hold, the one of the highest priority, and of equals the

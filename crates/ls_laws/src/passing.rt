@@ -1,14 +1,14 @@
-//! Stages of connections and load balancing, which do nothing where a switch tracks no connections.
+//! Stages of connections, which do nothing where a switch tracks no connections, and the stage of load balancing.
 ghost use Rattle.sb_model.specs.declared.stage.Stage.TheVariants as stages;
-ghost use Rattle.ls_laws.specs.Steps.{Passes};
+ghost use Rattle.ls_laws.specs.Steps.{Passes, PassesUntracked};
 
 /// Each packet goes on at the next stage.
 pub fn stages_without_connections_pass()
-    ensures ls_in_pre_acl { Passes stages.LsInPreAcl stages.LsInPreStateful }
-    ensures ls_in_pre_stateful { Passes stages.LsInPreStateful stages.LsInAclEval }
+    ensures ls_in_pre_acl { PassesUntracked stages.LsInPreAcl stages.LsInPreStateful }
+    ensures ls_in_pre_stateful { PassesUntracked stages.LsInPreStateful stages.LsInAclEval }
     ensures ls_in_lb { Passes stages.LsInLb stages.LsInStateful }
-    ensures ls_in_stateful { Passes stages.LsInStateful stages.LsInArpRsp }
-    ensures ls_out_pre_acl { Passes stages.LsOutPreAcl stages.LsOutPreStateful }
-    ensures ls_out_pre_stateful { Passes stages.LsOutPreStateful stages.LsOutAclEval }
-    ensures ls_out_stateful { Passes stages.LsOutStateful stages.LsOutCheckPortSec }
+    ensures ls_in_stateful { PassesUntracked stages.LsInStateful stages.LsInArpRsp }
+    ensures ls_out_pre_acl { PassesUntracked stages.LsOutPreAcl stages.LsOutPreStateful }
+    ensures ls_out_pre_stateful { PassesUntracked stages.LsOutPreStateful stages.LsOutAclEval }
+    ensures ls_out_stateful { PassesUntracked stages.LsOutStateful stages.LsOutCheckPortSec }
 {}

@@ -1,5 +1,5 @@
 //! Edits of the records of a sound network, one by one: each is done, or changes nothing.
-ghost use Rattle.std.specs.Prelude.{◌≡◌, ◌+◌, ◌<◌, ◌≤◌, Ok, None, OnOk, OnErr, IfOk, IfErr, length};
+ghost use Rattle.std.specs.Prelude.{◌≡◌, ◌+◌, ◌<◌, ◌≤◌, ◌++◌, [], Ok, None, OnOk, OnErr, IfOk, IfErr, length};
 ghost use Rattle.std.specs.List.{AllByRecursion, list_all};
 ghost use Rattle.nb_model.specs.Amounts.{first_over};
 ghost use Rattle.nb_model.specs.Effect.{effect};
@@ -10,10 +10,12 @@ ghost use Rattle.nb_model.specs.Transactions.{unless, applied, edited};
 ghost use Rattle.nb_store.specs.Undo.{back, changes_nothing};
 ghost use Rattle.nb_words.specs.Fault.{IsFaultOf};
 ghost use Rattle.nb_limits.specs.Ceilings.{AreCeilings};
+ghost use Rattle.nb_check.specs.inner.Going.{Since, going};
 ghost use Rattle.nb_check.specs.inner.Undone.{back_all};
 ghost use Rattle.nb_limits.specs.Limitless.{IsSoundButLimits};
 ghost use Rattle.nv_base.specs.Object.{number_limit};
 
+use crate::gone::Gone;
 use nb_limits::{Ceilings, first_over, may_rise};
 use nb_records::{Edit, Kind};
 use nb_store::{Records, Undo};
@@ -84,37 +86,42 @@ fn keep(
 }
 
 /// Does what the edits of a line ask for, in order, up to the first that is refused or for which memory runs out, and notes what undoes
-/// each (not from OVN).
+/// each, and which ports are gone then (not from OVN).
 pub(crate) fn apply_each(
     alloc: Global,
     records: &mut Records,
     known: &mut Ceilings,
     edits: Vec<Edit>,
     undos: &mut Vec<Undo>,
+    gone: &mut Gone,
 ) -> Result<(), LineFault>
     requires sound { IsSound records.old }
     requires known { AreCeilings records.old known.old }
     requires readable { AllByRecursion IsReadable edits.items }
     requires room { records.old.next + length edits.items < number_limit }
+    requires first { gone.old.first ≡ records.old.next }
+    requires none { gone.old.numbers ≡ [] }
     ensures done { OnOk result (edited records.old edits.items ≡ Ok records.new) }
     ensures refused { IfErr result (λ fault. IsFaultOf (edited records.old edits.items) fault) }
     ensures back { back_all undos.new.items records.new ≡ back_all undos.old.items records.old }
     ensures sound { IsSound records.new }
     ensures known { OnOk result (AreCeilings records.new known.new) }
+    ensures gone { OnOk result (Since records.old records.new gone.new.numbers) }
 {
     for edit in edits {
-        apply_next(alloc, records, known, edit, undos)?;
+        apply_next(alloc, records, known, edit, undos, gone)?;
     }
     Ok(())
 }
 
-// Does what one edit more asks for, and notes what undoes it. Where it is refused or memory runs out, nothing changes.
+// Does what one edit more asks for, and notes what undoes it and which ports it removes. Where it is refused or memory runs out, nothing changes.
 fn apply_next(
     alloc: Global,
     records: &mut Records,
     known: &mut Ceilings,
     edit: Edit,
     undos: &mut Vec<Undo>,
+    gone: &mut Gone,
 ) -> Result<(), LineFault>
     requires sound { IsSound records.old }
     requires known { AreCeilings records.old known.old }
@@ -126,7 +133,10 @@ fn apply_next(
     ensures back { back_all undos.new.items records.new ≡ back_all undos.old.items records.old }
     ensures sound { IsSound records.new }
     ensures known { OnOk result (AreCeilings records.new known.new) }
+    ensures gone { OnOk result (gone.new.numbers ≡ gone.old.numbers ++ going gone.old.first records.old edit) }
+    ensures first { gone.new.first ≡ gone.old.first }
 {
+    gone.note(records, &edit)?;
     let undo = apply(alloc, records, known, edit)?;
     match undos.push(undo) {
         Ok(()) => Ok(()),

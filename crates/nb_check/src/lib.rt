@@ -2,6 +2,9 @@
 #![tactic(auto)]
 
 mod apply;
+mod changes;
+mod gone;
 mod tables;
 
+pub use changes::Changes;
 pub use tables::Tables;

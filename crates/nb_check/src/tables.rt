@@ -2,17 +2,22 @@ ghost use Rattle.std.specs.Prelude.{◌≡◌, ◌+◌, ◌<◌, ◌⊎◌, fals
 ghost use Rattle.std.specs.List.{AllByRecursion};
 ghost use Rattle.nb_records.specs.declared.refusal.Kind.TheVariants as kinds;
 ghost use Rattle.nb_model.specs.Amounts.{amount};
+ghost use Rattle.nb_model.specs.Belongs.{is_among};
 ghost use Rattle.nb_model.specs.Effect.{effect};
 ghost use Rattle.nb_model.specs.Network.{empty_network};
 ghost use Rattle.nb_model.specs.Readable.{IsReadable};
-ghost use Rattle.nb_model.specs.Sound.{IsSound};
+ghost use Rattle.nb_model.specs.Sound.{IsSound, port_ids};
 ghost use Rattle.nb_model.specs.Tests.{refusal};
 ghost use Rattle.nb_model.specs.Transactions.{applied, edited};
 ghost use Rattle.nb_store.specs.Undo.{back};
+ghost use Rattle.nb_check.specs.Gone.{is_gone};
 ghost use Rattle.nb_words.specs.Fault.{IsFaultOf};
 ghost use Rattle.nv_base.specs.Object.{number_limit};
+ghost use Rattle.nv_base.specs.declared.object.ObjId.{ObjId};
 
 use crate::apply::{apply, apply_each, change_nothing, undo_all};
+use crate::changes::Changes;
+use crate::gone::Gone;
 use nb_limits::{Ceilings, amount};
 use nb_records::{Edit, Kind};
 use nb_store::{Records, Undo};
@@ -97,22 +102,34 @@ impl Tables {
 
     /// Does what all edits of a line ask for, each of the network that those before it leave; at the first that is
     /// refused the line is refused as that one (not from OVN: ovn-nbctl(8) runs the commands of one call as one
-    /// transaction). Then, or where memory runs out, none is done. The answer is whether there may be a change: `false` where the
-    /// network is as before.
-    #[tactic(auto, using(crate::proofs::Undone::nothing_undone))]
-    pub fn apply_all(&mut self, alloc: Global, edits: Items<Edit>) -> Result<bool, LineFault>
+    /// transaction). Then, or where memory runs out, none is done. The answer is whether there may be a change, and which ports of
+    /// switches are gone.
+    #[tactic(auto, using(crate::proofs::Undone::nothing_undone, crate::proofs::Going::gone_since))]
+    pub fn apply_all(&mut self, alloc: Global, edits: Items<Edit>) -> Result<Changes, LineFault>
         requires readable { AllByRecursion IsReadable edits }
         requires room { self.old.next + length edits < number_limit }
         ensures done { OnOk result (edited self.old edits ≡ Ok self.new) }
-        ensures unchanged { IfOk result (λ changed. changed ≡ false → self.new ≡ self.old) }
+        ensures unchanged { IfOk result (λ changes. changes.any ≡ false → self.new ≡ self.old) }
+        ensures gone { IfOk result (λ changes. (n : ObjId) → is_among n changes.gone ≡ is_gone (port_ids self.old) (port_ids self.new) n) }
         ensures refused { IfErr result (λ fault. IsFaultOf (edited self.old edits) fault) }
         ensures same { OnErr result (self.new ≡ self.old) }
     {
         let mut undos = Vec::new(alloc);
+        let mut gone = Gone::new(alloc, &self.records);
         let before = self.known;
         let edits = edits.into_items();
-        match apply_each(alloc, &mut self.records, &mut self.known, edits, &mut undos) {
-            Ok(()) => Ok(!change_nothing(&undos)),
+        match apply_each(
+            alloc,
+            &mut self.records,
+            &mut self.known,
+            edits,
+            &mut undos,
+            &mut gone,
+        ) {
+            Ok(()) => Ok(Changes {
+                any: !change_nothing(&undos),
+                gone: gone.numbers,
+            }),
             Err(fault) => {
                 undo_all(&mut self.records, undos);
                 self.known = before;

@@ -26,8 +26,8 @@ use Rattle.nb_edit.specs.declared.verb.Verb.TheVariants as verb
 use Rattle.nb_edit.proofs.Fits.{has_places}
 use Rattle.nb_model.proofs.Reading
 use Rattle.nb_model.proofs.Reading.{goes_on, goes_on_anyway, there}
-use Rattle.nb_model.specs.Plain.{tracks_none, IsBuilt}
-use Rattle.nb_cmds.specs.Built.{related_place, unbuilt, unbuilt_word, built}
+use Rattle.nb_model.specs.Plain.{IsBuilt}
+use Rattle.nb_cmds.specs.Built.{unbuilt, unbuilt_word, built}
 use Rattle.nb_cmds.specs.Lines.{task, task_by, read_line}
 use Rattle.nb_cmds.specs.Tasks.{tasks, task_of, is_named}
 use Rattle.nb_cmds.specs.declared.line.Line.TheVariants as line
@@ -38,46 +38,6 @@ use Rattle.nb_cmds.proofs.EachEdit.{HoldsAs, line_given}
 both : (a b : Bool) → (a && b) ≡ true → (a ≡ true) × (b ≡ true)
 both true b e = (refl, e)
 both false b e = absurd cc
-
--- ---- ACLs
-
--- a verdict other than `allow-related` tracks no connections
-verdict_built : (text : List ℕ) → bytes_eq text (codes "allow-related") ≡ false → IfSome (verdict_of text) (λ v. tracks_none v ≡ true)
-verdict_built text other =
-    by (bytes_eq text (codes "allow")) (bytes_eq text (codes "allow-related")) (bytes_eq text (codes "allow-stateless")) (bytes_eq text (codes "drop")) (bytes_eq text (codes "reject")) other
-  where
-    by : (a b c d e : Bool) → b ≡ false
-        → IfSome (if a then Some Allow else (if b then Some AllowRelated else (if c then Some AllowStateless else (if d then Some Drop else (if e then Some Reject else None))))) (λ v. tracks_none v ≡ true)
-    by true b c d e is = refl
-    by false true c d e is = absurd cc
-    by false false true d e is = refl
-    by false false false true e is = refl
-    by false false false false true is = refl
-    by false false false false false is = tt
-
--- of the five words of an ACL the last is another
-last_is_other : (start : ℕ) (options words : List Word) → is_well_formed verb.AclAdd options words ≡ true → related_place start words ≡ None → bytes_eq (bytes (slice_get words 4)) (codes "allow-related") ≡ false
-last_is_other start options [] good none = absurd (omega (arith, has_places verb.AclAdd options [] good))
-last_is_other start options (a ∷ []) good none = absurd (omega (arith, has_places verb.AclAdd options (a ∷ []) good))
-last_is_other start options (a ∷ b ∷ []) good none = absurd (omega (arith, has_places verb.AclAdd options (a ∷ b ∷ []) good))
-last_is_other start options (a ∷ b ∷ c ∷ []) good none = absurd (omega (arith, has_places verb.AclAdd options (a ∷ b ∷ c ∷ []) good))
-last_is_other start options (a ∷ b ∷ c ∷ d ∷ []) good none = absurd (omega (arith, has_places verb.AclAdd options (a ∷ b ∷ c ∷ d ∷ []) good))
-last_is_other start options (a ∷ b ∷ c ∷ d ∷ e ∷ []) good none = by (bytes_eq e.text (codes "allow-related")) none
-  where
-    by : (is : Bool) → (if is then Some (start + 4) else None) ≡ None → is ≡ false
-    by true none = absurd cc
-    by false none = refl
-last_is_other start options (a ∷ b ∷ c ∷ d ∷ e ∷ f ∷ words) good none =
-    let fit = (both (list_all (λ word. is_whole word.text) options && list_all (is_once options) (form verb.AclAdd).flags) (fits (form verb.AclAdd).places Ends (a ∷ b ∷ c ∷ d ∷ e ∷ f ∷ words)) good).1 in
-    let rest = (both (suits place.Direction b) (suits place.Verdict e && false) fit).1 in
-    absurd (false≢true ((both (suits place.Verdict e) false rest).1))
-
-acl_add_built : (start : ℕ) (call : Call) → is_well_formed verb.AclAdd call.options call.words ≡ true → related_place start call.words ≡ None → IfOk (edits.edit_of verb.AclAdd call) IsBuilt
-acl_add_built start call good none =
-    goes_on_anyway IsBuilt (at call 0 (owner_name (owner_kind call))) _ (λ owner. goes_on_anyway IsBuilt (at call 1 way) _ (λ w. goes_on_anyway IsBuilt (at call 2 priority) _ (λ p.
-    goes_on_anyway IsBuilt (acl_match w (text call 3)) _ (λ m.
-    goes_on (λ v. tracks_none v ≡ true) IsBuilt (at call 4 verdict) _
-    (there (λ v. tracks_none v ≡ true) (verdict_of (text call 4)) (NotInProfile (call.first + 4)) (verdict_built (text call 4) (last_is_other start call.options call.words good none))) (λ v other. other)))))
 
 -- ---- Commands
 
@@ -108,7 +68,11 @@ all_built = (
             (
               (refl, λ start call good none. goes_on_anyway IsBuilt (at call 0 object_name) _ (λ port. goes_on_anyway IsBuilt (at call 1 state) _ (λ enabled. tt))),
               (
-                (refl, acl_add_built),
+                (
+                  refl,
+                  λ start call good none. goes_on_anyway IsBuilt (at call 0 (owner_name (owner_kind call))) _ (λ owner. goes_on_anyway IsBuilt (at call 1 way) _ (λ w. goes_on_anyway IsBuilt (at call 2 priority) _ (λ p.
+                      goes_on_anyway IsBuilt (acl_match w (text call 3)) _ (λ m. goes_on_anyway IsBuilt (at call 4 verdict) _ (λ v. tt))))),
+                ),
                 (
                   (refl, λ start call good none. goes_on_anyway IsBuilt (at call 0 (owner_name (owner_kind call))) _ (λ owner. goes_on_anyway IsBuilt (maybe call 1 way) _ (λ w. goes_on_anyway IsBuilt (rule call w) _ (λ r. tt)))),
                   (
@@ -121,7 +85,7 @@ all_built = (
                           (refl, λ start call good none. goes_on_anyway IsBuilt (at call 0 set_name) _ (λ name. goes_on_anyway IsBuilt (from call 1 (members [])) _ (λ list. tt))),
                           (
                             (refl, λ start call good none. goes_on_anyway IsBuilt (at call 0 set_name) _ (λ name. goes_on_anyway IsBuilt (from call 1 (members [])) _ (λ list. tt))),
-                            ((refl, λ start call good none. goes_on_anyway IsBuilt (at call 0 set_name) _ (λ name. tt)), (tt, (tt, (tt, tt)))),
+                            ((refl, λ start call good none. goes_on_anyway IsBuilt (at call 0 set_name) _ (λ name. tt)), (tt, (tt, (tt, (tt, (tt, tt)))))),
                           ),
                         ),
                       ),

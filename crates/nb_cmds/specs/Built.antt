@@ -1,5 +1,5 @@
--- What is not built yet: the address `router` of a switch port, and the verdict `allow-related`.
-use Rattle.std.specs.Prelude.{ℕ, ◌+◌, Bool, not, ◌||◌, List, [], ◌∷◌, drop, take, position, Option, Some, None, option_map, codes, Result, Err, if◌then◌else◌}
+-- What is not built yet: the address `router` of a switch port.
+use Rattle.std.specs.Prelude.{ℕ, ◌+◌, Bool, not, ◌||◌, List, drop, take, position, Option, Some, None, option_map, codes, Result, Err}
 use Rattle.std.specs.Str.{bytes_eq}
 use Rattle.nb_records.specs.declared.edit.Edit.{Edit}
 use Rattle.nb_records.specs.declared.refusal.Refusal.{Refusal}
@@ -10,7 +10,7 @@ use Rattle.nb_words.specs.declared.word.Word.{Word}
 use Rattle.nb_read.specs.Then.{and_then}
 use Rattle.nb_edit.specs.Commands.{option_count, read_command}
 use Rattle.nb_edit.specs.declared.verb.Verb.{Verb}
-use Rattle.nb_edit.specs.declared.verb.Verb.TheVariants.{LspSetAddresses, AclAdd}
+use Rattle.nb_edit.specs.declared.verb.Verb.TheVariants.{LspSetAddresses}
 
 -- the word is the address `router`
 abbrev pub is_router : Word → Bool
@@ -20,15 +20,9 @@ is_router word = bytes_eq word.text (codes "router")
 abbrev pub router_place : ℕ → List Word → Option ℕ
 router_place place words = option_map (λ n. place + n) (position is_router words)
 
--- the place of the verdict `allow-related`, the last of the five words of an ACL, which begin at this place
-abbrev pub related_place : ℕ → List Word → Option ℕ
-related_place place (owner ∷ direction ∷ priority ∷ matching ∷ verdict ∷ []) = if bytes_eq verdict.text (codes "allow-related") then Some (place + 4) else None
-related_place place words = None
-
 -- the place of the first word that is not built, where the words after the name begin at this place
 abbrev pub unbuilt : Verb → ℕ → List Word → Option ℕ
 unbuilt LspSetAddresses place words = router_place (place + 1) (drop 1 words)
-unbuilt AclAdd place words = related_place place words
 unbuilt _ place words = None
 
 -- the place of the first word of a command that is not built

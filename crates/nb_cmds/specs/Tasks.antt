@@ -6,7 +6,7 @@ use Rattle.nb_edit.specs.Forms.{form}
 use Rattle.nb_edit.specs.declared.verb.Verb.TheVariants.{LsAdd, LsDel, LspAdd, LspDel, LspSetAddresses, LspSetPortSecurity, LspSetEnabled, AclAdd, AclDel, PgAdd, PgSetPorts, PgDel, AsAdd, AsSet, AsDel}
 use Rattle.nb_words.specs.declared.word.Word.{Word}
 use Rattle.nb_cmds.specs.declared.task.Question.{Question}
-use Rattle.nb_cmds.specs.declared.task.Question.TheVariants.{FlowList, Trace, Dump}
+use Rattle.nb_cmds.specs.declared.task.Question.TheVariants.{FlowList, Trace, CtList, CtFlush, Dump}
 use Rattle.nb_cmds.specs.declared.task.Task.{Task}
 use Rattle.nb_cmds.specs.declared.task.Task.TheVariants.{Edit, Query}
 
@@ -14,13 +14,16 @@ use Rattle.nb_cmds.specs.declared.task.Task.TheVariants.{Edit, Query}
 unfoldable pub tasks : List Task
 tasks =
     Edit LsAdd ∷ Edit LsDel ∷ Edit LspAdd ∷ Edit LspDel ∷ Edit LspSetAddresses ∷ Edit LspSetPortSecurity ∷ Edit LspSetEnabled ∷
-    Edit AclAdd ∷ Edit AclDel ∷ Edit PgAdd ∷ Edit PgSetPorts ∷ Edit PgDel ∷ Edit AsAdd ∷ Edit AsSet ∷ Edit AsDel ∷ Query FlowList ∷ Query Trace ∷ Query Dump ∷ []
+    Edit AclAdd ∷ Edit AclDel ∷ Edit PgAdd ∷ Edit PgSetPorts ∷ Edit PgDel ∷ Edit AsAdd ∷ Edit AsSet ∷ Edit AsDel ∷
+    Query FlowList ∷ Query Trace ∷ Query CtList ∷ Query CtFlush ∷ Query Dump ∷ []
 
 -- the name of a command, or of a query
 abbrev pub task_name : Task → List ℕ
 task_name (Edit verb) = (form verb).name
 task_name (Query FlowList) = codes "lflow-list"
 task_name (Query Trace) = codes "trace"
+task_name (Query CtList) = codes "ct-list"
+task_name (Query CtFlush) = codes "ct-flush"
 task_name (Query Dump) = codes "dump"
 
 -- this is its name

@@ -1,8 +1,8 @@
-//! What is not built yet: the address `router` of a switch port, and the verdict `allow-related`.
+//! What is not built yet: the address `router` of a switch port.
 ghost use Rattle.std.specs.Prelude.{◌≡◌, ◌≤◌, ◌<◌, ◌+◌, ◌^◌, Ok, IfOk, IfErr, IfSome, true, length, position};
 ghost use Rattle.nb_words.specs.Commands.{is_small};
 ghost use Rattle.nb_words.specs.Fault.{IsFaultOf};
-ghost use Rattle.nb_cmds.specs.Built.{is_router, router_place, related_place, unbuilt, unbuilt_word, not_built, built, edit_of};
+ghost use Rattle.nb_cmds.specs.Built.{is_router, router_place, unbuilt, unbuilt_word, not_built, built, edit_of};
 
 use nb_edit::{Verb, option_count, read_command, read_words};
 use nb_records::{Edit, Refusal};
@@ -36,24 +36,6 @@ fn router_place(place: usize, words: &[Word]) -> Option<usize>
     }
 }
 
-// The place of the verdict `allow-related`, the last of the five words of an ACL, which begin at this place.
-fn related_place(place: usize, words: &[Word]) -> Option<usize>
-    requires { place + length words.now < 2 ^ 64 }
-    ensures place { result ≡ related_place place words.now }
-    ensures within { IfSome result (λ p. p < place + length words.now) }
-{
-    match words {
-        [_, _, _, _, verdict] => {
-            if verdict.text.as_slice() == b"allow-related".as_slice() {
-                Some(place + 4)
-            } else {
-                None
-            }
-        }
-        _ => None,
-    }
-}
-
 // The place of the first word that is not built, where the words after the name begin at this place.
 fn unbuilt(verb: Verb, place: usize, words: &[Word]) -> Option<usize>
     requires { place + length words.now < 2 ^ 64 }
@@ -65,7 +47,6 @@ fn unbuilt(verb: Verb, place: usize, words: &[Word]) -> Option<usize>
             [] => None,
             [_, addresses @ ..] => router_place(place + 1, addresses),
         },
-        Verb::AclAdd => related_place(place, words),
         _ => None,
     }
 }

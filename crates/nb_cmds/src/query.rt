@@ -29,6 +29,10 @@ pub enum Query {
         dp: Name,
         micro: Micro,
     },
+    /// `ct-list`: the connections that are tracked (modelled on `dpctl/dump-conntrack` of ovs-appctl(8)).
+    CtList,
+    /// `ct-flush`: from now on none is tracked (modelled on `dpctl/flush-conntrack` of ovs-appctl(8)).
+    CtFlush,
     /// `dump`: the network (not from OVN).
     Dump,
 }
@@ -151,6 +155,8 @@ fn query_of(
             Ok(Query::FlowList(Some(name)))
         }
         (Question::Trace, [_, words @ ..]) => trace(alloc, options, number + 1, words),
+        (Question::CtList, [_]) => Ok(Query::CtList),
+        (Question::CtFlush, [_]) => Ok(Query::CtFlush),
         (Question::Dump, [_]) => Ok(Query::Dump),
         _ => Err(LineFault::Refused(Refusal::WrongWords)),
     }

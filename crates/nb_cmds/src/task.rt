@@ -12,6 +12,10 @@ pub enum Question {
     FlowList,
     /// `trace`, of ovn-trace(8).
     Trace,
+    /// `ct-list`, modelled on `dpctl/dump-conntrack` of ovs-appctl(8).
+    CtList,
+    /// `ct-flush`, modelled on `dpctl/flush-conntrack` of ovs-appctl(8).
+    CtFlush,
     /// `dump`, which is not from OVN.
     Dump,
 }
@@ -26,7 +30,7 @@ pub enum Task {
 }
 
 // The table.
-static TASKS: [Task; 18] = [
+static TASKS: [Task; 20] = [
     Task::Edit(Verb::LsAdd),
     Task::Edit(Verb::LsDel),
     Task::Edit(Verb::LspAdd),
@@ -44,13 +48,15 @@ static TASKS: [Task; 18] = [
     Task::Edit(Verb::AsDel),
     Task::Query(Question::FlowList),
     Task::Query(Question::Trace),
+    Task::Query(Question::CtList),
+    Task::Query(Question::CtFlush),
     Task::Query(Question::Dump),
 ];
 
 impl Task {
     /// All that is built.
     #[tactic(auto, unfolding(crate::specs::Tasks::tasks))]
-    pub fn all() -> &'static [Task; 18]
+    pub fn all() -> &'static [Task; 20]
         ensures { result.now ≡ tasks }
     {
         &TASKS
@@ -64,6 +70,8 @@ impl Task {
             Task::Edit(verb) => verb.form().name,
             Task::Query(Question::FlowList) => "lflow-list",
             Task::Query(Question::Trace) => "trace",
+            Task::Query(Question::CtList) => "ct-list",
+            Task::Query(Question::CtFlush) => "ct-flush",
             Task::Query(Question::Dump) => "dump",
         }
     }
@@ -96,6 +104,6 @@ pub(crate) fn takes(question: Question, word: &Word) -> bool
 {
     match question {
         Question::Trace => is_minimal(word),
-        Question::FlowList | Question::Dump => false,
+        Question::FlowList | Question::CtList | Question::CtFlush | Question::Dump => false,
     }
 }

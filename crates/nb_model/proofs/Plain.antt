@@ -11,12 +11,12 @@ use Rattle.nb_records.specs.declared.refusal.Refusal.{Refusal}
 use Rattle.nb_records.specs.declared.switch.Port.{Port}
 use Rattle.nb_records.specs.declared.switch.Switch.{Switch}
 use Rattle.nb_model.specs.Belongs.{is_number, is_to_router, owner_id}
-use Rattle.nb_model.specs.Effect.{each_where, where_there, add_switch, add_port, delete_switch, delete_port, set_port, acl_like, add_acl, is_acl, effect}
-use Rattle.nb_model.specs.Network.{Network, empty_network, next_number, switch_named, port_named, switch_id, group_id}
+use Rattle.nb_model.specs.Effect.{each_where, where_there, add_switch, add_port, delete_switch, delete_port, set_port, acl_like, add_acl, effect}
+use Rattle.nb_model.specs.Network.{Network, empty_network, next_number, switch_named, port_named, switch_id}
 use Rattle.nb_model.specs.Tests.{refusal}
 use Rattle.nb_model.specs.Transactions.{unless, applied, edited}
 use Rattle.nb_model.proofs.Reading.{goes_on}
-use Rattle.nb_model.specs.Plain.{tracks_none, IsBuilt, IsPlain}
+use Rattle.nb_model.specs.Plain.{IsBuilt, IsPlain}
 
 -- ---- lists of which this holds of each element
 
@@ -48,35 +48,34 @@ module _ (net : Network) (plain : IsPlain net) where
   OfPort port = is_to_router port ≡ false
 
   with_ports : (change : Port → Port) → ((p : Port) → OfPort p → OfPort (change p)) → (name : List ℕ) → IsPlain (set_port net name change)
-  with_ports change keeps name = record { acls = plain.acls; switches = plain.switches; ports = all_changed OfPort (λ port. bytes_eq port.name name) change keeps net.ports plain.ports }
+  with_ports change keeps name = record { switches = plain.switches; ports = all_changed OfPort (λ port. bytes_eq port.name name) change keeps net.ports plain.ports }
 
   add_switch_plain : (name : List ℕ) → IsPlain (add_switch net name)
-  add_switch_plain name = record { acls = plain.acls; switches = all_append _ net.switches (record { id = next_number net; name = name; lbs = [] } ∷ []) plain.switches (refl, tt); ports = plain.ports }
+  add_switch_plain name = record { switches = all_append _ net.switches (record { id = next_number net; name = name; lbs = [] } ∷ []) plain.switches (refl, tt); ports = plain.ports }
 
   add_port_plain : (name : List ℕ) (found : Option Switch) → IsPlain (where_there found (add_port net name) net)
   add_port_plain name None = plain
-  add_port_plain name (Some switch) = record { acls = plain.acls; switches = plain.switches; ports = all_append OfPort net.ports _ plain.ports (refl, tt) }
+  add_port_plain name (Some switch) = record { switches = plain.switches; ports = all_append OfPort net.ports _ plain.ports (refl, tt) }
 
   delete_switch_plain : (name : List ℕ) → IsPlain (delete_switch net name)
   delete_switch_plain name = record {
-    acls = all_filter _ (λ acl. not (is_number (switch_id net name) acl.owner)) net.acls plain.acls;
     switches = all_filter _ (λ switch. not (is_number (switch_id net name) switch.id)) net.switches plain.switches;
     ports = all_filter OfPort (λ port. not (is_number (switch_id net name) port.switch)) net.ports plain.ports;
   }
 
   delete_port_plain : (name : List ℕ) → IsPlain (delete_port net name)
-  delete_port_plain name = record { acls = plain.acls; switches = plain.switches; ports = all_filter OfPort (λ port. not (bytes_eq port.name name)) net.ports plain.ports }
+  delete_port_plain name = record { switches = plain.switches; ports = all_filter OfPort (λ port. not (bytes_eq port.name name)) net.ports plain.ports }
 
-  add_acl_plain : (acl : Acl) → tracks_none acl.verdict ≡ true → IsPlain (add_acl net acl)
-  add_acl_plain acl none = by (is_some (acl_like net acl.owner acl.way (acl.priority, acl.matching)))
+  add_acl_plain : (acl : Acl) → IsPlain (add_acl net acl)
+  add_acl_plain acl = by (is_some (acl_like net acl.owner acl.way (acl.priority, acl.matching)))
     where
       by : (b : Bool) → IsPlain (cond b net (record net { acls = net.acls ++ acl ∷ []; next = net.next + 1 }))
       by true = plain
-      by false = record { acls = all_append (λ (a : Acl). tracks_none a.verdict ≡ true) net.acls (acl ∷ []) plain.acls (none, tt); switches = plain.switches; ports = plain.ports }
+      by false = record { switches = plain.switches; ports = plain.ports }
 
-  where_added : (found : Option ObjId) (acl_for : ObjId → Acl) → ((owner : ObjId) → tracks_none (acl_for owner).verdict ≡ true) → IsPlain (where_there found (λ owner. add_acl net (acl_for owner)) net)
-  where_added None acl_for none = plain
-  where_added (Some owner) acl_for none = add_acl_plain (acl_for owner) (none owner)
+  where_added : (found : Option ObjId) (acl_for : ObjId → Acl) → IsPlain (where_there found (λ owner. add_acl net (acl_for owner)) net)
+  where_added None acl_for = plain
+  where_added (Some owner) acl_for = add_acl_plain (acl_for owner)
 
   -- of the network or of another that is plain
   if_there : (b : Bool) (other : Network) → IsPlain other → IsPlain (cond b net other)
@@ -93,16 +92,14 @@ module _ (net : Network) (plain : IsPlain net) where
   edit_plain (edit.LspSetPortSecurity port list) built = with_ports (λ p. record p { security = list }) (λ p is. is) port
   edit_plain (edit.LspSetEnabled port enabled) built = with_ports (λ p. record p { enabled = enabled }) (λ p is. is) port
   edit_plain (edit.AclAdd name way priority matching verdict may of) built =
-      where_added (owner_id net of name) (λ owner. record { id = next_number net; owner = owner; way = way; priority = priority; matching = matching; verdict = verdict }) (λ owner. built)
-  edit_plain (edit.AclDel name way rule of) built =
-      record { acls = all_filter _ (λ acl. not (is_acl (owner_id net of name) way rule acl)) net.acls plain.acls; switches = plain.switches; ports = plain.ports }
-  edit_plain (edit.PgAdd name ports) built = record { acls = plain.acls; switches = plain.switches; ports = plain.ports }
-  edit_plain (edit.PgSetPorts name ports) built = record { acls = plain.acls; switches = plain.switches; ports = plain.ports }
-  edit_plain (edit.PgDel name given) built =
-      record { acls = all_filter _ (λ acl. not (is_number (group_id net name) acl.owner)) net.acls plain.acls; switches = plain.switches; ports = plain.ports }
-  edit_plain (edit.AsAdd name members) built = record { acls = plain.acls; switches = plain.switches; ports = plain.ports }
-  edit_plain (edit.AsSet name members) built = record { acls = plain.acls; switches = plain.switches; ports = plain.ports }
-  edit_plain (edit.AsDel name given) built = record { acls = plain.acls; switches = plain.switches; ports = plain.ports }
+      where_added (owner_id net of name) (λ owner. record { id = next_number net; owner = owner; way = way; priority = priority; matching = matching; verdict = verdict })
+  edit_plain (edit.AclDel name way rule of) built = record { switches = plain.switches; ports = plain.ports }
+  edit_plain (edit.PgAdd name ports) built = record { switches = plain.switches; ports = plain.ports }
+  edit_plain (edit.PgSetPorts name ports) built = record { switches = plain.switches; ports = plain.ports }
+  edit_plain (edit.PgDel name given) built = record { switches = plain.switches; ports = plain.ports }
+  edit_plain (edit.AsAdd name members) built = record { switches = plain.switches; ports = plain.ports }
+  edit_plain (edit.AsSet name members) built = record { switches = plain.switches; ports = plain.ports }
+  edit_plain (edit.AsDel name given) built = record { switches = plain.switches; ports = plain.ports }
   edit_plain _ built = absurd built
 
 -- ---- lines
@@ -117,4 +114,4 @@ edited_plain net (e ∷ list) plain built =
     goes_on IsPlain IsPlain (applied net e) (λ one. edited one list) (not_refused IsPlain (refusal net e) (effect net e) (edit_plain net plain e built.0)) (λ one left. edited_plain one list left built.1)
 
 pub empty_plain : IsPlain empty_network
-empty_plain = record { acls = tt; switches = tt; ports = tt }
+empty_plain = record { switches = tt; ports = tt }

@@ -1,9 +1,6 @@
--- Networks of switches that track no connections, with hosts at their ports, and the edits that lead to no others.
-use Rattle.std.specs.Prelude.{◌≡◌, Bool, true, false, []}
+-- Networks of switches to which no load balancer is attached, with hosts at their ports, and the edits that lead to no others.
+use Rattle.std.specs.Prelude.{◌≡◌, false, []}
 use Rattle.std.specs.List.{AllByRecursion}
-use Rattle.nb_records.specs.declared.acl.Acl.{Acl}
-use Rattle.nb_records.specs.declared.acl.Verdict.{Verdict}
-use Rattle.nb_records.specs.declared.acl.Verdict.TheVariants.{AllowRelated}
 use Rattle.nb_records.specs.declared.edit.Edit.{Edit}
 use Rattle.nb_records.specs.declared.edit.Edit.TheVariants as edit
 use Rattle.nb_records.specs.declared.switch.Port.{Port}
@@ -11,19 +8,13 @@ use Rattle.nb_records.specs.declared.switch.Switch.{Switch}
 use Rattle.nb_model.specs.Belongs.{is_to_router}
 use Rattle.nb_model.specs.Network.{Network}
 
--- an ACL with another verdict than `allow-related` tracks no connections
-abbrev pub tracks_none : Verdict → Bool
-tracks_none AllowRelated = false
-tracks_none _ = true
-
--- no ACL tracks connections, no load balancer is attached to a switch, and no port leads to a router
+-- no load balancer is attached to a switch, and no port leads to a router
 pub record IsPlain (net : Network) : Type 0 where
-  pub acls : AllByRecursion (λ (acl : Acl). tracks_none acl.verdict ≡ true) net.acls
   pub switches : AllByRecursion (λ (switch : Switch). switch.lbs ≡ []) net.switches
   pub ports : AllByRecursion (λ (port : Port). is_to_router port ≡ false) net.ports
 
--- the edits of switches, of their ports, of ACLs, address sets and port groups that lines can ask for while connections and routers
--- are not built
+-- the edits of switches, of their ports, of ACLs, address sets and port groups, which lines can ask for while routers and load
+-- balancers are not built
 abbrev pub IsBuilt : Edit → Type 0
 IsBuilt (edit.LsAdd name may) = Unit {0}
 IsBuilt (edit.LsDel name given) = Unit {0}
@@ -32,7 +23,7 @@ IsBuilt (edit.LspDel port given) = Unit {0}
 IsBuilt (edit.LspSetAddresses port list) = Unit {0}
 IsBuilt (edit.LspSetPortSecurity port list) = Unit {0}
 IsBuilt (edit.LspSetEnabled port enabled) = Unit {0}
-IsBuilt (edit.AclAdd name way priority matching verdict may of) = tracks_none verdict ≡ true
+IsBuilt (edit.AclAdd name way priority matching verdict may of) = Unit {0}
 IsBuilt (edit.AclDel name way rule of) = Unit {0}
 IsBuilt (edit.AsAdd name members) = Unit {0}
 IsBuilt (edit.AsSet name members) = Unit {0}

@@ -3,7 +3,6 @@ pub mod Address
 pub mod Cause
 pub mod Guards
 pub mod Places
-pub mod Stateless
 pub mod Switches
 pub mod Tracked
 pub mod Walk

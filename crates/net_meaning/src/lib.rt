@@ -5,9 +5,7 @@ mod answer;
 mod cause;
 mod event;
 mod kept;
-mod laws;
 
 pub use answer::Answer;
 pub use cause::Cause;
 pub use event::PlainEvent;
-pub use laws::plain_networks_are_stateless;

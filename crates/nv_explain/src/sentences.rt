@@ -268,14 +268,19 @@ pub(crate) static PLACES: [(&str, &str); 28] = [
     ("DIRECTION", "`from-lport` or `to-lport`"),
     ("PRIORITY", "a number from 0 to 32,767"),
     ("MATCH", "a match as one word, in quotes"),
-    ("VERDICT", "`allow`, `allow-stateless`, `drop` or `reject`"),
+    (
+        "VERDICT",
+        "`allow`, `allow-related`, `allow-stateless`, `drop` or `reject`",
+    ),
     ("MEMBER", "a MAC, an IPv4 address or a network"),
 ];
 
 /// The forms of queries, in the order of `nb_cmds::Question`.
-pub(crate) static QUERIES: [&str; 3] = [
+pub(crate) static QUERIES: [&str; 5] = [
     "lflow-list [SWITCH]",
     "[--minimal] trace SWITCH MICROFLOW",
+    "ct-list",
+    "ct-flush",
     "dump",
 ];
 
@@ -349,7 +354,6 @@ pub(crate) enum Slip {
     PortForDatapath,
     MayExist,
     IfExists,
-    AllowRelated,
     RouterAddress,
     Ipv6,
     Comma,
@@ -358,7 +362,7 @@ pub(crate) enum Slip {
 }
 
 /// What a slip looks like, and the hint.
-pub(crate) static SLIPS: [(&str, &str); 26] = [
+pub(crate) static SLIPS: [(&str, &str); 25] = [
     (
         "`ls-add sw0 # the first one`",
         "a comment stands on a line of its own: after other words `#` begins a word",
@@ -435,10 +439,6 @@ pub(crate) static SLIPS: [(&str, &str); 26] = [
     (
         "`ls-del sw0` a second time",
         "with --if-exists before the command it is no refusal that the object is not there",
-    ),
-    (
-        "`acl-add sw0 to-lport 1 ip4 allow-related`",
-        "connections are not tracked yet: write allow, and allow the replies by an ACL of their own",
     ),
     (
         "`lsp-set-addresses p1 router`",

@@ -258,7 +258,6 @@ fn is_acl_option(text: &[u8]) -> bool {
 
 fn not_in_profile(command: &Command, text: &[u8]) -> Option<Slip> {
     match text {
-        b"allow-related" => Some(Slip::AllowRelated),
         b"router" => Some(Slip::RouterAddress),
         _ => {
             if is_acl_option(text) && matches!(verb_in(command), Some(Verb::AclAdd)) {

@@ -33,7 +33,7 @@ impl Server {
         ensures refused { result.some_refused ≡ false }
     {
         Server {
-            session: Session::new(hops),
+            session: Session::new(alloc, hops),
             line: Vec::new(alloc),
             some_refused: false,
         }

@@ -1,6 +1,9 @@
 pub mod Answering
+pub mod ConnectionLines
 pub mod Keeping
 pub mod Listings
 pub mod Reached
 pub mod Refusals
 pub mod Stops
+pub mod Struck
+pub mod Tracing

@@ -19,9 +19,8 @@ use Rattle.nb_cmds.proofs.ShortLines.{line_short}
 use Rattle.nb_cmds.proofs.BuiltLines.{line_built}
 use Rattle.nb_model.specs.Plain.{IsBuilt, IsPlain}
 use Rattle.nb_model.proofs.Plain.{edited_plain, empty_plain}
-use Rattle.net_meaning.proofs.Stateless as plain_networks
 use Rattle.tr_walk.specs.Refined.{IsRefined}
-use Rattle.tr_walk.proofs.Refinement.{stateless_refined}
+use Rattle.tr_walk.proofs.Refinement.{plain_is_refined}
 use Rattle.nv_reply.specs.Reply.{reply, session_after}
 use Rattle.nv_reply.specs.Session.{Session, new_session}
 use Rattle.nv_reply.proofs.Keeping.{reply_keeps}
@@ -64,12 +63,12 @@ edited_sound net (edit ∷ list) sound readable room =
 -- a line draws no more numbers than it has bytes
 pub reply_next : (session : Session) (line : List ℕ) → (reply session line).after.network.next ≤ session.network.next + length line
 reply_next session line =
-    reply_keeps (λ after. after.network.next ≤ session.network.next + length line) session line (omega arith) (λ list net said done.
+    reply_keeps (λ after. after.next ≤ session.network.next + length line) session line (omega arith) (λ list net said done.
     omega (arith, line_short line list said, IfOk-at_ok (λ (after : Network). after.next ≤ session.network.next + length list) done (edited_next session.network list)))
 
 reply_sound : (session : Session) (line : List ℕ) → IsSound session.network → session.network.next + length line < number_limit → IsSound (reply session line).after.network
 reply_sound session line sound room =
-    reply_keeps (λ after. IsSound after.network) session line sound (λ list net said done.
+    reply_keeps IsSound session line sound (λ list net said done.
     IfOk-at_ok IsSound done (edited_sound session.network list sound (line_readable line list said) (omega (arith, line_short line list said, room))))
 
 lines_sound : (session : Session) (lines : List (List ℕ)) → IsSound session.network → session.network.next + sum_by length lines < number_limit → IsSound (session_after session lines).network
@@ -130,7 +129,7 @@ plain_edited old new list plain built done = IfOk-at_ok IsPlain done (edited_pla
 -- a line leaves a plain network plain
 reply_plain : (session : Session) (line : List ℕ) → IsPlain session.network → IsPlain (reply session line).after.network
 reply_plain session line plain =
-    reply_keeps (λ after. IsPlain after.network) session line plain (λ list net said done.
+    reply_keeps IsPlain session line plain (λ list net said done.
     plain_edited session.network net list plain (line_built line list said) done)
 
 lines_plain : (session : Session) (lines : List (List ℕ)) → IsPlain session.network → IsPlain (session_after session lines).network
@@ -141,10 +140,6 @@ lines_plain session (line ∷ lines) plain = lines_plain (reply session line).af
 pub plain_after : (hops : ℕ) (lines : List (List ℕ)) → IsPlain (session_after (new_session hops) lines).network
 plain_after hops lines = lines_plain (new_session hops) lines empty_plain
 
--- the rows of a sound plain network do what the network does
-pub plain_refined : (net : Network) → IsSound net → IsPlain net → IsRefined net
-plain_refined net sound plain = stateless_refined net sound (plain_networks.stateless net plain)
-
 -- and so do those of each network that lines leave
 pub each_refined : (hops : ℕ) (lines : List (List ℕ)) → 1 + sum_by length lines < number_limit → IsRefined (session_after (new_session hops) lines).network
-each_refined hops lines room = plain_refined (session_after (new_session hops) lines).network (sound_after hops lines room) (plain_after hops lines)
+each_refined hops lines room = plain_is_refined (session_after (new_session hops) lines).network (sound_after hops lines room) (plain_after hops lines)

@@ -1,8 +1,11 @@
 -- A reply is a refusal exactly where its text says so.
-use Rattle.std.proofs.Common.{◌≡◌, ℕ, Bool, true, false, Some, None, Result, Ok, Err, List, [], ◌∷◌, ◌++◌, refl}
+use Rattle.std.proofs.Common.{◌≡◌, ℕ, Bool, true, false, Some, None, Result, Ok, Err, List, [], ◌∷◌, ◌++◌, append_assoc, refl, sym, ap, ◌∙◌}
 use Rattle.std.specs.Prelude.{codes, filter, nat_eq, Option}
 use Rattle.std.specs.List.{starts_with, flat_map}
 use Rattle.nv_base.specs.declared.object.ObjId.{ObjId}
+use Rattle.ct_core.specs.declared.entry.Entry.{Entry}
+use Rattle.ct_core.specs.declared.zone.Zone.{Zone}
+use Rattle.ct_core.specs.declared.zone.Zone.TheVariants.{Port, Dnat, Snat}
 use Rattle.nb_records.specs.declared.refusal.Refusal.{Refusal}
 use Rattle.nb_cmds.specs.Lines.{read_line}
 use Rattle.nb_cmds.specs.declared.line.Line.{Line}
@@ -17,6 +20,7 @@ use Rattle.sb_rows.specs.Listing.{datapath_listing, is_asked_for}
 use Rattle.net_rows.specs.Build as build
 use Rattle.tr_walk.specs.declared.event.Event.{Event}
 use Rattle.tr_walk.specs.declared.event.Event.TheVariants as events
+use Rattle.nv_reply.specs.Connections.{connection_line, connection_lines, entry_text, zone_text}
 use Rattle.nv_reply.specs.Events.{event_lines}
 use Rattle.nv_reply.specs.Reply.{Reply, ok_line, answered, datapaths, flows, wanted_datapath, traced, traced_port, reply_to_query, reply_to, reply}
 use Rattle.nv_reply.specs.Session.{Session}
@@ -43,6 +47,20 @@ events_say net false (events.Reject port ∷ more) = refl
 events_say net true (events.HopLimit port ∷ more) = refl
 events_say net false (events.HopLimit port ∷ more) = refl
 
+-- no line of a connection does
+zone_says : (net : Network) (zone : Zone) (more : List ℕ) → false ≡ starts_with nat_eq (zone_text net zone ++ more) (codes "refused ")
+zone_says net (Port number) more = refl
+zone_says net (Dnat number) more = refl
+zone_says net (Snat number) more = refl
+
+connections_say : (net : Network) (conns : List Entry) → false ≡ starts_with nat_eq (connection_lines net conns ++ ok_line) (codes "refused ")
+connections_say net [] = refl
+connections_say net (entry ∷ conns) =
+    let others = connection_lines net conns in
+    zone_says net entry.zone (entry_text entry ++ (others ++ ok_line))
+    ∙ ap (λ text. starts_with nat_eq text (codes "refused "))
+    (sym (append_assoc (connection_line net entry) others ok_line ∙ append_assoc (zone_text net entry.zone) (entry_text entry) (others ++ ok_line)))
+
 -- no listing does
 datapaths_say : (rows : List Row) (some : List (ObjId × List ℕ)) → false ≡ starts_with nat_eq (flat_map (λ d. datapath_listing (rows_of d.0 rows) d.1) some ++ ok_line) (codes "refused ")
 datapaths_say rows [] = refl
@@ -55,9 +73,11 @@ flows_say net only = datapaths_say (build.rows net) (filter (λ d. is_asked_for 
 query_says : (session : Session) (q : Query) → Says (reply_to_query session q)
 query_says session (query.FlowList None) = flows_say session.network None
 query_says session (query.FlowList (Some name)) = answered_says session (wanted_datapath session.network name) _ (λ number. flows_say session.network (Some number))
-query_says session query.Dump = refl
 query_says session (query.Trace minimal dp micro) =
     answered_says session (traced_port session.network dp micro.inport) _ (λ port. events_say session.network minimal (traced session port micro.packet))
+query_says session query.CtList = connections_say session.network session.state.conns
+query_says session query.CtFlush = refl
+query_says session query.Dump = refl
 
 line_says : (session : Session) (said : Line) → Says (reply_to session said)
 line_says session line.Nothing = refl

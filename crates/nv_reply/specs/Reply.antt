@@ -2,7 +2,7 @@
 use Rattle.std.specs.Prelude.{ℕ, Bool, true, false, ◌||◌, List, [], ◌∷◌, ◌++◌, map, Option, Some, None, ok_or, Result, Ok, Err, if◌then◌else◌, codes}
 use Rattle.nv_base.specs.declared.object.ObjId.{ObjId}
 use Rattle.pkt_core.specs.Packet.{Values}
-use Rattle.ct_core.specs.State.{empty_state}
+use Rattle.ct_core.specs.State.{State, with_conns}
 use Rattle.nb_records.specs.declared.refusal.Refusal.{Refusal}
 use Rattle.nb_records.specs.declared.refusal.Refusal.TheVariants.{NoSuchObject, NotOnDatapath}
 use Rattle.nb_records.specs.declared.switch.Switch.{Switch}
@@ -11,7 +11,7 @@ use Rattle.nb_cmds.specs.Lines.{read_line}
 use Rattle.nb_cmds.specs.declared.line.Line.{Line}
 use Rattle.nb_cmds.specs.declared.line.Line.TheVariants.{Nothing, Edits, Query}
 use Rattle.nb_cmds.specs.declared.query.Query as query
-use Rattle.nb_cmds.specs.declared.query.Query.TheVariants.{FlowList, Dump, Trace}
+use Rattle.nb_cmds.specs.declared.query.Query.TheVariants.{FlowList, CtList, CtFlush, Dump, Trace}
 use Rattle.nb_read.specs.Then.{and_then}
 use Rattle.nb_model.specs.Belongs.{is_number}
 use Rattle.nb_model.specs.Network.{Network}
@@ -22,9 +22,13 @@ use Rattle.sb_rows.specs.Listing.{listing}
 use Rattle.net_rows.specs.Build.{rows}
 use Rattle.tr_walk.specs.declared.event.Event.{Event}
 use Rattle.tr_walk.specs.Events.{event_of}
+use Rattle.net_meaning.specs.Walk.{Walked}
+use Rattle.tr_stage.specs.declared.outcome.Hit.{Hit}
 use Rattle.tr_walk.specs.Machine.{machine}
+use Rattle.nv_reply.specs.Connections.{connection_lines}
 use Rattle.nv_reply.specs.Events.{event_lines}
-use Rattle.nv_reply.specs.Session.{Session}
+use Rattle.nv_reply.specs.Session.{Session, with_state}
+use Rattle.nv_reply.specs.Struck.{struck}
 
 -- the text of a reply, whether it is a refusal, and the session after the line
 pub record Reply : Type 0 where
@@ -73,9 +77,25 @@ on_wanted net dp name port = if is_number (on_datapath net port) dp then Ok port
 abbrev pub traced_port : Network → List ℕ → List ℕ → Result ObjId Refusal
 traced_port net datapath name = and_then (wanted_datapath net datapath) (λ dp. and_then (wanted_port net name) (on_wanted net dp name))
 
--- what the rows do with a packet that comes in by a port, where no connection was tracked before
+-- what the rows do with a packet that comes in by a port, from the state that earlier packets left
+abbrev pub walked : Session → ObjId → Values → Walked Hit State
+walked session port packet = machine session.network session.hops port packet session.state
+
+-- what is told of it
 abbrev pub traced : Session → ObjId → Values → List Event
-traced session port packet = map event_of (machine session.network session.hops port packet empty_state).told
+traced session port packet = map event_of (walked session port packet).told
+
+-- the session after it
+abbrev pub after_trace : Session → ObjId → Values → Session
+after_trace session port packet = with_state (walked session port packet).state session
+
+-- the session without connections
+abbrev pub flushed : Session → Session
+flushed session = with_state (with_conns [] session.state) session
+
+-- the session after edits that leave this network
+abbrev pub after_edits : Session → Network → Session
+after_edits session net = record session { network = net; state = struck session.network net session.state }
 
 -- the lines of a trace
 abbrev pub trace_lines : Session → Bool → ObjId → Values → List ℕ
@@ -85,14 +105,16 @@ trace_lines session minimal port packet = event_lines session.network minimal (t
 abbrev pub reply_to_query : Session → query.Query → Reply
 reply_to_query session (FlowList None) = accept (flows session.network None) session
 reply_to_query session (FlowList (Some name)) = answered session (wanted_datapath session.network name) (λ number. accept (flows session.network (Some number)) session)
-reply_to_query session Dump = accept (dump session.network) session
 reply_to_query session (Trace minimal dp micro) =
-    answered session (traced_port session.network dp micro.inport) (λ port. accept (trace_lines session minimal port micro.packet) session)
+    answered session (traced_port session.network dp micro.inport) (λ port. accept (trace_lines session minimal port micro.packet) (after_trace session port micro.packet))
+reply_to_query session CtList = accept (connection_lines session.network session.state.conns) session
+reply_to_query session CtFlush = accept [] (flushed session)
+reply_to_query session Dump = accept (dump session.network) session
 
 -- the reply to what a line says
 abbrev pub reply_to : Session → Line → Reply
 reply_to session Nothing = record { text = []; refused = false; after = session }
-reply_to session (Edits list) = answered session (edited session.network list) (λ net. accept [] (record session { network = net }))
+reply_to session (Edits list) = answered session (edited session.network list) (λ net. accept [] (after_edits session net))
 reply_to session (Query query) = reply_to_query session query
 
 -- the reply to a line

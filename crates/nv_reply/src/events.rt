@@ -121,8 +121,12 @@ fn put_hop_limit(records: &Records, port: ObjId, out: &mut Vec<u8>) -> Result<()
     Ok(())
 }
 
-// The name of the switch or the router of this number.
-fn put_datapath_name(records: &Records, number: ObjId, out: &mut Vec<u8>) -> Result<(), OutOfMemory>
+/// The name of the switch or the router of this number.
+pub(crate) fn put_datapath_name(
+    records: &Records,
+    number: ObjId,
+    out: &mut Vec<u8>,
+) -> Result<(), OutOfMemory>
     ensures { OnOk result (out.new.items ≡ out.old.items ++ datapath_name records.now number) }
 {
     if let Some(switch) = records.switches().get(number) {
@@ -133,8 +137,12 @@ fn put_datapath_name(records: &Records, number: ObjId, out: &mut Vec<u8>) -> Res
     Ok(())
 }
 
-// The name of the port of this number, of a switch or of a router.
-fn put_port_name(records: &Records, number: ObjId, out: &mut Vec<u8>) -> Result<(), OutOfMemory>
+/// The name of the port of this number, of a switch or of a router.
+pub(crate) fn put_port_name(
+    records: &Records,
+    number: ObjId,
+    out: &mut Vec<u8>,
+) -> Result<(), OutOfMemory>
     ensures { OnOk result (out.new.items ≡ out.old.items ++ port_name records.now number) }
 {
     if let Some(port) = records.ports().get(number) {

@@ -12,7 +12,7 @@ pub fn lines_leave_sound_networks()
         → IsSound (session_after (new_session hops) lines).network }
 {}
 
-/// Each network that lines leave is one of switches that track no connections, with hosts at their ports.
+/// Each network that lines leave is plain: no load balancer is attached to its switches, and hosts are at their ports.
 #[tactic(auto, using(crate::proofs::Reached::plain_after))]
 pub fn lines_leave_plain_networks()
     ensures { (hops : ℕ) (lines : List (List ℕ)) → IsPlain (session_after (new_session hops) lines).network }

@@ -2,12 +2,14 @@
 #![tactic(auto)]
 
 mod answer;
+mod connections;
 mod events;
 mod laws;
 mod listing;
 mod reply;
 mod session;
 mod stop;
+mod strike;
 
 pub use answer::Answer;
 pub use laws::{lines_leave_plain_networks, lines_leave_sound_networks, refusals_say_so};

@@ -6,11 +6,12 @@ ghost use Rattle.nb_model.specs.Readable.{IsReadable};
 ghost use Rattle.nb_model.specs.Plain.{IsBuilt};
 ghost use Rattle.nb_store.specs.Places.{on_datapath};
 ghost use Rattle.nv_reply.specs.declared.answer.Answer.TheVariants as answers;
-ghost use Rattle.nv_reply.specs.Reply.{accept, ok_line, trace_lines, traced_port, reply_to_query, reply_to, reply};
+ghost use Rattle.nv_reply.specs.Reply.{accept, after_trace, flushed, ok_line, trace_lines, traced_port, reply_to_query, reply_to, reply};
 ghost use Rattle.nv_reply.specs.Answer.{IsAnswered};
 ghost use Rattle.nv_base.specs.Object.{number_limit};
 
 use crate::answer::Answer;
+use crate::connections::put_connections;
 use crate::events::put_events;
 use crate::session::Session;
 use nb_cmds::{Line, Query, read_line};
@@ -76,8 +77,10 @@ fn run_query(
     match query {
         Query::FlowList(None) => Ok(Answer::Listing(None)),
         Query::FlowList(Some(name)) => list_datapath(session, name, out),
-        Query::Dump => dump(session, out),
         Query::Trace { minimal, dp, micro } => run_trace(alloc, session, minimal, dp, micro, out),
+        Query::CtList => list_connections(session, out),
+        Query::CtFlush => flush_connections(session, out),
+        Query::Dump => dump(session, out),
     }
 }
 
@@ -89,6 +92,21 @@ fn list_datapath(session: &Session, name: Name, out: &mut Vec<u8>) -> Result<Ans
         None => refuse(&Refusal::NoSuchObject(name), out),
         number => Ok(Answer::Listing(number)),
     }
+}
+
+fn list_connections(session: &Session, out: &mut Vec<u8>) -> Result<Answer, OutOfMemory>
+    ensures { IfOk result (λ answer. IsAnswered (reply_to_query session.now Query.CtList) out.old.items out.new.items answer) }
+{
+    put_connections(session.records(), session.conns(), out)?;
+    accept(out)
+}
+
+fn flush_connections(session: &mut Session, out: &mut Vec<u8>) -> Result<Answer, OutOfMemory>
+    ensures answer { IfOk result (λ answer. IsAnswered (reply_to_query session.old Query.CtFlush) out.old.items out.new.items answer) }
+    ensures after { session.new ≡ flushed session.old }
+{
+    session.flush_conns();
+    accept(out)
 }
 
 fn dump(session: &Session, out: &mut Vec<u8>) -> Result<Answer, OutOfMemory>
@@ -125,8 +143,8 @@ fn tell_trace(
     packet: &Packet,
     out: &mut Vec<u8>,
 ) -> Result<Answer, OutOfMemory>
-    ensures answer { IfOk result (λ answer. IsAnswered (accept (trace_lines session.old minimal port packet.now) session.old) out.old.items out.new.items answer) }
-    ensures same { OnOk result (session.new ≡ session.old) }
+    ensures answer { IfOk result (λ answer. IsAnswered (accept (trace_lines session.old minimal port packet.now) (after_trace session.old port packet.now)) out.old.items out.new.items answer) }
+    ensures after { OnOk result (session.new ≡ after_trace session.old port packet.now) }
 {
     let events = session.trace(alloc, port, packet)?;
     put_events(session.records(), minimal, &events, out)?;

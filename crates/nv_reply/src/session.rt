@@ -1,18 +1,14 @@
-ghost use Rattle.std.specs.Prelude.{◌≡◌, ◌+◌, ◌<◌, Ok, OnOk, OnErr, IfOk, IfErr, length, map};
+ghost use Rattle.std.specs.Prelude.{◌≡◌, ◌+◌, ◌<◌, Ok, OnOk, OnErr, IfOk, IfErr, length};
 ghost use Rattle.std.specs.List.{AllByRecursion};
 ghost use Rattle.nb_words.specs.Fault.{IsFaultOf};
 ghost use Rattle.nb_model.specs.Readable.{IsReadable};
 ghost use Rattle.nb_model.specs.Sound.{IsSound};
 ghost use Rattle.nb_model.specs.Transactions.{edited};
 ghost use Rattle.nb_model.specs.Plain.{IsBuilt, IsPlain};
-ghost use Rattle.ct_core.specs.State.{empty_state};
-ghost use Rattle.net_rows.specs.Build as build;
-ghost use Rattle.tr_walk.specs.Events.{event_of};
-ghost use Rattle.tr_walk.specs.Machine.{machine};
 ghost use Rattle.tr_walk.specs.Refined.{IsRefined};
-ghost use Rattle.tr_walk.specs.Runnable.{AreRunnable};
-ghost use Rattle.nv_reply.specs.Reply.{flows, traced};
+ghost use Rattle.nv_reply.specs.Reply.{after_trace, flows, flushed, traced};
 ghost use Rattle.nv_reply.specs.Session.{new_session};
+ghost use Rattle.nv_reply.specs.Struck.{struck};
 ghost use Rattle.nv_reply.specs.inner.KeptRows.{AreRowsOf};
 ghost use Rattle.nv_io.specs.Writing.{Wrote, PutFailed};
 ghost use Rattle.nv_reply.specs.Stops.{StopsWithin};
@@ -20,7 +16,9 @@ ghost use Rattle.nv_base.specs.Object.{number_limit};
 
 use crate::listing::put_datapaths;
 use crate::stop::Stop;
+use crate::strike::strike_ports;
 use ct_state::State;
+use ct_table::Conns;
 use nb_check::Tables;
 use nb_records::Edit;
 use nb_store::Records;
@@ -34,13 +32,15 @@ use std::alloc::Global;
 use std::marker::Model;
 use tr_walk::{Event, trace};
 
-/// What a run keeps from line to line: the network, its rows where they were made since it last changed, and how many hops a traced
-/// packet may take (not from OVN). A clause sees the network, which is sound, and the hops.
+/// What a run keeps from line to line: the network, its rows where they were made since it last changed, how many hops a traced packet
+/// may take, and what traced packets left for later ones (not from OVN). A clause sees the network, which is sound, the hops and the
+/// state.
 #[derive(Drop)]
 pub struct Session {
     tables: Tables,
     rows: Option<Rows>,
     hops: u8,
+    state: State,
 }
 
 impl Model for Session {
@@ -54,22 +54,23 @@ impl Model for Session {
 
     ghost coded = { Prim.hlevel (codes, acl.the_row.coded) };
 
-    ghost view = { λ s. record { network = s.tables; hops = s.hops } };
+    ghost view = { λ s. record { network = s.tables; hops = s.hops; state = s.state } };
 
     ghost invariant = { λ s. IsPlain s.tables × AreKept s.rows s.tables };
 }
 
 impl Session {
-    /// The session before the first line: the network without objects, where a traced packet may take so many hops (not
-    /// from OVN). It takes no memory.
+    /// The session before the first line: the network without objects, where a traced packet may take so many hops, and no
+    /// connection is tracked (not from OVN). It takes no memory.
     #[tactic(auto, using(nb_model::proofs::Plain::empty_plain))]
-    pub fn new(hops: u8) -> Self
+    pub fn new(alloc: Global, hops: u8) -> Self
         ensures { result ≡ new_session hops }
     {
         Session {
             tables: Tables::new(),
             rows: None,
             hops,
+            state: State::new(alloc),
         }
     }
 
@@ -81,26 +82,37 @@ impl Session {
         self.tables.records()
     }
 
+    /// The connections that are tracked.
+    pub fn conns(&self) -> &Conns
+        ensures { result.now ≡ self.now.state.conns }
+    {
+        self.state.conns()
+    }
+
     /// Does what all edits of a line ask for, or nothing where one is refused or memory runs out (not from OVN:
-    /// ovn-nbctl(8) runs the commands of one call as one transaction).
-    #[tactic(auto, using(crate::proofs::Reached::plain_edited))]
+    /// ovn-nbctl(8) runs the commands of one call as one transaction). What the state holds of objects that are gone is struck out.
+    #[tactic(auto, using(crate::proofs::Reached::plain_edited, crate::proofs::Struck::struck_after))]
     pub fn apply_all(&mut self, alloc: Global, edits: Items<Edit>) -> Result<(), LineFault>
         requires readable { AllByRecursion IsReadable edits }
         requires built { AllByRecursion IsBuilt edits }
         requires room { self.old.network.next + length edits < number_limit }
         ensures done { OnOk result (edited self.old.network edits ≡ Ok self.new.network) }
         ensures hops { self.new.hops ≡ self.old.hops }
+        ensures state { OnOk result (self.new.state ≡ struck self.old.network self.new.network self.old.state) }
         ensures refused { IfErr result (λ fault. IsFaultOf (edited self.old.network edits) fault) }
         ensures same { OnErr result (self.new ≡ self.old) }
     {
-        if self.tables.apply_all(alloc, edits)? {
+        let changes = self.tables.apply_all(alloc, edits)?;
+        if changes.any {
             self.rows = None;
         }
+        strike_ports(&mut self.state, changes.gone.as_slice());
         Ok(())
     }
 
-    /// What the rows do with a packet that comes in by a port (ovn-trace(8)). They are made where the network has
-    /// changed, and kept. Where memory runs out the answer is `OutOfMemory`.
+    /// What the rows do with a packet that comes in by a port (ovn-trace(8)), from the state that earlier packets left; what it
+    /// leaves is kept. The rows are made where the network has changed, and kept. Where memory runs out the answer is
+    /// `OutOfMemory`, and the session is as before.
     pub fn trace(
         &mut self,
         alloc: Global,
@@ -108,14 +120,23 @@ impl Session {
         packet: &Packet,
     ) -> Result<Vec<Event>, OutOfMemory>
         ensures events { IfOk result (λ events. events.items ≡ traced self.old port packet.now) }
+        ensures after { OnOk result (self.new ≡ after_trace self.old port packet.now) }
         ensures refinement { OnOk result (IsRefined self.old.network) }
-        ensures same { self.new ≡ self.old }
+        ensures same { OnErr result (self.new ≡ self.old) }
     {
         let rows = self.take_rows(alloc)?;
         let hops = u32::from(self.hops);
-        let events = trace_alone(alloc, &rows, self.tables.records(), port, packet, hops)?;
+        let records = self.tables.records();
+        let events = trace(alloc, &rows, records, &mut self.state, port, packet, hops)?;
         self.rows = Some(rows);
         Ok(events)
+    }
+
+    /// Takes all connections out (modelled on `dpctl/flush-conntrack` of ovs-appctl(8)).
+    pub fn flush_conns(&mut self)
+        ensures { self.new ≡ flushed self.old }
+    {
+        self.state.flush_conns();
     }
 
     /// Puts the listing of the flows of one datapath, or of all (ovn-sbctl(8), `lflow-list`). The rows are made where the
@@ -160,24 +181,4 @@ fn rows_of(alloc: Global, records: &Records) -> Result<Rows, OutOfMemory>
     ensures { IfOk result (λ rows. AreRowsOf rows records.now) }
 {
     full(alloc, records)
-}
-
-// What the rows do with a packet, where no connection was tracked before.
-fn trace_alone(
-    alloc: Global,
-    rows: &Rows,
-    records: &Records,
-    port: ObjId,
-    packet: &Packet,
-    hops: u32,
-) -> Result<Vec<Event>, OutOfMemory>
-    requires sound { IsSound records.now }
-    requires rows { rows.now ≡ build.rows records.now }
-    requires run { AreRunnable records.now }
-    ensures { IfOk result (λ events. events.items ≡ map event_of (machine records.now hops port packet.now empty_state).told) }
-{
-    let mut state = State::new(alloc);
-    let events = trace(alloc, rows, records, &mut state, port, packet, hops);
-    drop(state);
-    events
 }

@@ -14,11 +14,10 @@ use Rattle.net_meaning.specs.declared.event.PlainEvent.{PlainEvent}
 use Rattle.net_meaning.specs.declared.event.PlainEvent.TheVariants as plain
 use Rattle.pkt_micro.specs.declared.microflow.Micro.{Micro}
 use Rattle.tr_walk.specs.Events.{event_of, of_plain, plain_event, without_hits}
-use Rattle.ct_core.specs.State.{empty_state}
 use Rattle.tr_walk.specs.Machine.{machine}
 use Rattle.tr_stage.specs.declared.outcome.Hit.{Hit}
 use Rattle.nv_serve.specs.Output.{opened}
-use Rattle.nv_reply.specs.Reply.{accept, answered, trace_lines, reply, reply_to, session_after}
+use Rattle.nv_reply.specs.Reply.{accept, after_trace, answered, trace_lines, reply, reply_to, session_after}
 use Rattle.nv_reply.specs.Session.{Session}
 use Rattle.nv_serve.specs.Traced.{TellsMeaning, TracesAreMeant}
 use Rattle.nv_serve.proofs.Lengths.{before_longer}
@@ -39,17 +38,18 @@ without_hits_is (Note hit ∷ told) = without_hits_is told
 without_hits_is (Happens event ∷ told) = rw (of_plain_is event) (ap (λ more. event ∷ more) (without_hits_is told))
 
 tells : (session : Session) (line : List ℕ) (minimal : Bool) (dp : List ℕ) (micro : Micro) (arrival : Port) → read_line line ≡ Ok (Query (Trace minimal dp micro))
-    → TellsMeaning session minimal arrival micro.packet (reply_to session (Query (Trace minimal dp micro))).text → TellsMeaning session minimal arrival micro.packet (reply session line).text
+    → TellsMeaning session minimal arrival micro.packet (reply_to session (Query (Trace minimal dp micro))) → TellsMeaning session minimal arrival micro.packet (reply session line)
 unfolding reply
 tells session line minimal dp micro arrival is rest =
-    subst (λ text. TellsMeaning session minimal arrival micro.packet text) (sym (ap (λ read. (answered session read (reply_to session)).text) is)) rest
+    subst (λ answer. TellsMeaning session minimal arrival micro.packet answer) (sym (ap (λ read. answered session read (reply_to session)) is)) rest
 
 -- each trace that begins at a port of a switch is answered by what the network does with the packet
 pub traces_meant : (words : List Text) (lines : List (List ℕ)) → 1 + sum_by length lines < number_limit → TracesAreMeant words lines
 traces_meant words lines room before line later all minimal dp micro is arrival there port =
     let session = session_after (opened words) before in
-    let alike = each_refined (hops_in words) before (omega (arith, room, before_longer lines before line later all)) session.hops arrival micro.packet empty_state there (query_well_read line (Trace minimal dp micro) is).2 in
+    let alike = each_refined (hops_in words) before (omega (arith, room, before_longer lines before line later all)) session.hops arrival micro.packet session.state there (query_well_read line (Trace minimal dp micro) is).2 in
     tells session line minimal dp micro arrival is (record {
-      told = ap (λ found. (answered session found (λ port. accept (trace_lines session minimal port micro.packet) session)).text) port;
-      meant = without_hits_is (machine session.network session.hops arrival.id micro.packet empty_state).told ∙ alike.told;
+      told = ap (λ found. (answered session found (λ port. accept (trace_lines session minimal port micro.packet) (after_trace session port micro.packet))).text) port;
+      meant = without_hits_is (machine session.network session.hops arrival.id micro.packet session.state).told ∙ alike.told;
+      left = ap (λ found. (answered session found (λ port. accept (trace_lines session minimal port micro.packet) (after_trace session port micro.packet))).after.state) port ∙ alike.left;
     })

@@ -10,15 +10,16 @@ use Rattle.nb_cmds.specs.declared.query.Query.TheVariants.{Trace}
 use Rattle.net_meaning.specs.Switches.{meaning}
 use Rattle.net_meaning.specs.Walk.{events}
 use Rattle.tr_walk.specs.Events.{without_hits}
-use Rattle.ct_core.specs.State.{empty_state}
 use Rattle.nv_serve.specs.Output.{opened}
-use Rattle.nv_reply.specs.Reply.{traced, traced_port, trace_lines, ok_line, reply, session_after}
+use Rattle.nv_reply.specs.Reply.{Reply, traced, traced_port, trace_lines, ok_line, reply, session_after}
 use Rattle.nv_reply.specs.Session.{Session}
 
--- The text is the lines of the events of the rows, and `ok`; and these events are, hits left out, what the network does with the packet.
-pub record TellsMeaning (session : Session) (minimal : Bool) (arrival : Port) (packet : Values) (text : List ℕ) : Type 0 where
-  pub told : text ≡ trace_lines session minimal arrival.id packet ++ ok_line
-  pub meant : without_hits (traced session arrival.id packet) ≡ events (meaning session.network session.hops arrival.id packet empty_state).told
+-- The text is the lines of the events of the rows, and `ok`; these events are, hits left out, what the network does with the packet,
+-- from the state that earlier packets left; and the state after the line is the one that the packet leaves.
+pub record TellsMeaning (session : Session) (minimal : Bool) (arrival : Port) (packet : Values) (answer : Reply) : Type 0 where
+  pub told : answer.text ≡ trace_lines session minimal arrival.id packet ++ ok_line
+  pub meant : without_hits (traced session arrival.id packet) ≡ events (meaning session.network session.hops arrival.id packet session.state).told
+  pub left : answer.after.state ≡ (meaning session.network session.hops arrival.id packet session.state).state
 
 -- each trace among these lines, of a packet that arrives at a port of a switch, is answered so, in the session that the lines before it left
 abbrev pub TracesAreMeant : List Text → List (List ℕ) → Type 0
@@ -27,4 +28,4 @@ TracesAreMeant words lines =
     → (minimal : Bool) (dp : List ℕ) (micro : Micro) → read_line line ≡ Ok (Query (Trace minimal dp micro))
     → (arrival : Port) → Contains (session_after (opened words) before).network.ports arrival
     → traced_port (session_after (opened words) before).network dp micro.inport ≡ Ok arrival.id
-    → TellsMeaning (session_after (opened words) before) minimal arrival micro.packet (reply (session_after (opened words) before) line).text
+    → TellsMeaning (session_after (opened words) before) minimal arrival micro.packet (reply (session_after (opened words) before) line)

@@ -16,7 +16,7 @@ pub(crate) fn explain_lines<S: Source, K: Sink>(
 ) -> Status {
     let mut script = Vec::new(alloc);
     let read = read_script(source, &mut script);
-    let mut session = Session::new(HOPS);
+    let mut session = Session::new(alloc, HOPS);
     let ran = explain_all(
         alloc,
         &mut session,

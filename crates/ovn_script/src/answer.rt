@@ -30,6 +30,8 @@ fn put_query(out: &mut Vec<u8>, query: &Query) -> Result<(), OutOfMemory> {
             out.push(b' ')?;
             put_packet(out, &micro.packet)?;
         }
+        Query::CtList => out.extend_from_slice(b"ct-list")?,
+        Query::CtFlush => out.extend_from_slice(b"ct-flush")?,
         Query::Dump => out.extend_from_slice(b"dump")?,
     }
     out.push(b'\n')?;

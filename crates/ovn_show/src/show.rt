@@ -16,7 +16,7 @@ pub(crate) fn show_network<S: Source, K: Sink>(
 ) -> Status {
     let mut script = Vec::new(alloc);
     let read = read_script(source, &mut script);
-    let mut session = Session::new(HOPS);
+    let mut session = Session::new(alloc, HOPS);
     let ran = run_all(alloc, &mut session, lines_to_run(&script, &read));
     let shown = put_shown(alloc, &session, &read, &ran, sink);
     // A call: at the end of the scope the drop of each field would be proved anew on each way out.

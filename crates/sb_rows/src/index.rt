@@ -24,7 +24,7 @@ pub(crate) struct Table {
     // The places of its first row, and of the first after it.
     low: usize,
     end: usize,
-    // What its buckets are told by, in the order in which its rows ask for them.
+    // What its buckets are told by, what its first rows ask last.
     shapes: Vec<Shape>,
     // The place of each row in its bucket, which has the upper 64 bits.
     spots: Vec<u128>,
@@ -93,6 +93,8 @@ fn table_of(alloc: Global, rows: &[Stored], low: usize, end: usize) -> Result<Ta
         spots.push(spot(asked.bucket, at))?;
     }
     spots.sort_unstable();
+    // What the first rows ask comes last: most often nothing, and then a row that others ask for was found before.
+    shapes.reverse();
     Ok(Table {
         low,
         end,

@@ -18,7 +18,7 @@ use Rattle.net_meaning.specs.Walk.{Target, Passed, Part, Parts, Told, Walked, On
 use Rattle.net_meaning.specs.Walk.Passed.{GoesOn, Drops, Makes}
 use Rattle.net_meaning.specs.Walk.Target.{OnePort, Ports}
 use Rattle.net_meaning.specs.Walk.Told.{Note, Happens}
-use Rattle.tr_walk.specs.Refined.{AreAlike}
+use Rattle.tr_walk.specs.Refined.{AreAlike, IsFresh}
 
 -- ---- what is told
 
@@ -66,6 +66,7 @@ module _ (net : Network) where
   -- a packet that came in by a port of a switch
   pub record IsInside (packet : Values) : Type 0 where
     pub formed : IsPacket packet
+    pub fresh : IsFresh packet
     pub by : IsPort (record { 0 = value packet Inport })
 
   -- what parts of switches make of a packet: it stays among the ports of switches, and no ARP request is made
@@ -85,13 +86,13 @@ module _ (net : Network) where
 
   -- so do the parts of two walks
   pub record SameParts {N M S : Type 0} (ps : Parts N S) (qs : Parts M S) : Type 0 where
-    pub arriving : (port : ObjId) (packet : Values) (state : S) → IsPort port → IsPacket packet → value packet Inport ≡ port.0 → SamePart (ps.arriving port packet state) (qs.arriving port packet state)
+    pub arriving : (port : ObjId) (packet : Values) (state : S) → IsPort port → IsPacket packet → IsFresh packet → value packet Inport ≡ port.0 → SamePart (ps.arriving port packet state) (qs.arriving port packet state)
     pub leaving : (port : ObjId) (packet : Values) (state : S) → IsPort port → IsInside packet → value packet Outport ≡ port.0 → SamePart (ps.leaving port packet state) (qs.leaving port packet state)
     pub late : (port : ObjId) (packet : Values) (state : S) → IsPort port → IsInside packet → value packet Outport ≡ port.0 → SamePart (ps.late port packet state) (qs.late port packet state)
 
   -- what is asked of packets: numbers of ports fit, and packets stay packets
   pub record ArePackets : Type 0 where
-    pub starts : (port : ObjId) (packet : Values) → IsPort port → IsPacket packet → IsPacket (start packet port.0) × (value (start packet port.0) Inport ≡ port.0)
+    pub starts : (port : ObjId) (packet : Values) → IsPort port → IsPacket packet → IsPacket (start packet port.0) × (IsFresh (start packet port.0) × (value (start packet port.0) Inport ≡ port.0))
     pub leaves : (port : ObjId) (packet : Values) → IsPort port → IsInside packet → IsInside (with_value packet Outport port.0) × (value (with_value packet Outport port.0) Outport ≡ port.0)
     pub hosts : (port : ObjId) → IsPort port → side_of net port ≡ Host
 
@@ -173,7 +174,7 @@ module _ (net : Network) where
       enters_alike : (arrival : ObjId) (packet : Values) (state : S) → IsPort arrival → IsPacket packet → AreAlike (enters net ps o arrival packet state) (enters net qs p arrival packet state)
       enters_alike arrival packet state at formed =
           let from = packets.starts arrival packet at formed in
-          then_alike _ _ (arrived net ps o arrival) (arrived net qs p arrival) (same_parts.arriving arrival (start packet arrival.0) state at from.0 from.1) (arrived_alike arrival at)
+          then_alike _ _ (arrived net ps o arrival) (arrived net qs p arrival) (same_parts.arriving arrival (start packet arrival.0) state at from.0 from.1.0 from.1.1) (arrived_alike arrival at)
 
     -- so packets go on alike, however many hops are left
     onward_alike : (hops : ℕ) → OnwardAlike (hops_left net ps hops) (hops_left net qs hops)

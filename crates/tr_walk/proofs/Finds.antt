@@ -1,9 +1,10 @@
--- On the rows of a sound network without connections actions read only fields that are there.
-use Rattle.std.proofs.Common.{◌≡◌, ℕ, ◌+◌, Bool, true, false, cond, List, [], ◌∷◌, ◌++◌, map, sym, ap, refl, ◌∙◌, inl, inr, subst}
-use Rattle.std.specs.Prelude.{◌==◌, Option, Some, None}
+-- On the rows of a sound plain network actions read only fields that are there.
+use Rattle.std.proofs.Common.{◌≡◌, ℕ, ◌+◌, Bool, true, false, cond, List, [], ◌∷◌, ◌++◌, map, ap, refl, ◌∙◌, inl, inr, subst}
+use Rattle.std.specs.Prelude.{◌==◌, ◌&&◌, Option, Some, None}
 use Rattle.std.specs.Bool.{IsTrue}
-use Rattle.std.specs.List.{AllByRecursion, Contains, flat_map}
-use Rattle.std.proofs.lemmas.Bool.{and_from, and_parts}
+use Rattle.std.specs.List.{AllByRecursion, Contains, flat_map, list_all}
+use Rattle.std.proofs.lemmas.Bool.{false≢true, and_from, and_parts}
+use Rattle.nv_base.specs.declared.field.Field.{Field}
 use Rattle.nv_base.specs.declared.field.Field.TheVariants.{EthSrc, EthDst, EthType, ArpOp, ArpSha, ArpTha, ArpSpa}
 use Rattle.nv_base.specs.declared.ip4.Ip4.{Ip4}
 use Rattle.pkt_core.specs.Packet.{Values, value, with_value}
@@ -11,6 +12,7 @@ use Rattle.pkt_core.specs.Prerequisite.{is_there}
 use Rattle.expr_core.specs.Lookup.{Lookup}
 use Rattle.expr_eval.specs.MatchMeaning.{holds}
 use Rattle.act_core.specs.declared.action.Action.{Action}
+use Rattle.act_core.specs.declared.action.Action.TheVariants as action
 use Rattle.act_core.specs.declared.step.Step.TheVariants as step
 use Rattle.nb_records.specs.declared.acl.Verdict.{Verdict}
 use Rattle.nb_records.specs.declared.acl.Verdict.TheVariants.{Allow, AllowRelated, AllowStateless, Drop, Reject}
@@ -19,33 +21,35 @@ use Rattle.nb_records.specs.declared.switch.Addr.{Addr}
 use Rattle.nb_records.specs.declared.switch.Addr.TheVariants as addr
 use Rattle.nb_records.specs.declared.switch.Guard.{Guard}
 use Rattle.nb_records.specs.declared.switch.Port.{Port}
-use Rattle.nb_records.specs.declared.switch.Switch.{Switch}
 use Rattle.nb_model.specs.Belongs.{is_router_kind}
 use Rattle.nb_model.specs.Names.{names}
 use Rattle.nb_model.specs.Network.{Network}
+use Rattle.nb_model.specs.Readable.{is_priority}
 use Rattle.nb_model.specs.Sound.{IsSound}
-use Rattle.nb_model.specs.Applies.{applies, balances, is_empty}
-use Rattle.net_meaning.specs.Stateless.{IsStateless}
-use Rattle.net_rows.specs.Acls.{ending, stage_of, switch_acl_rules}
+use Rattle.nb_model.specs.Applies.{balances, is_empty, tracks}
+use Rattle.nb_model.specs.Plain.{IsPlain}
+use Rattle.net_rows.specs.Acls.{acl_on_rules, ending, stage_of, switch_acl_rules, tracked_rules, untracking_rules}
 use Rattle.net_rows.specs.Build.{acl_on_input, has_unknown, port_l2_input, port_rules, port_sec_input, switch_rules}
 use Rattle.net_rows.specs.Lookup.{answers, arp_rules, arp_rules_of, lookup_rule, looked_up, port_l2_rules, requests, switch_l2_rules}
 use Rattle.net_rows.specs.PortSecurity.{closed_rules, disabled_rules, guard_rules, guarded_rules, open_rules, port_sec_rules}
 use Rattle.net_rows.specs.Unit.{rule}
+use Rattle.net_rows.specs.declared.inputs.AclOnInput.{AclOnInput}
 use Rattle.net_rows.specs.declared.inputs.PortL2Input.{PortL2Input}
 use Rattle.net_rows.specs.declared.inputs.PortSecInput.{PortSecInput}
 use Rattle.net_rows.specs.declared.rule.Rule.{Rule}
-use Rattle.net_rows.proofs.Elements.{Contains-from_filter, every_append}
+use Rattle.net_rows.proofs.Elements.{every_append}
 use Rattle.net_rows.proofs.Pairs.{every_member}
 use Rattle.net_rows.proofs.Units.{IsRow, rows-gives}
 use Rattle.sb_model.specs.Make.{all_of, goes_on, goes_out, drops, steps, turns_back}
 use Rattle.sb_model.specs.declared.row.Row.{Row}
 use Rattle.sb_model.specs.declared.stage.Stage.{Stage}
 use Rattle.sb_model.specs.declared.stage.Stage.TheVariants.{LsInArpRsp, LsInCheckPortSec, LsInL2Lkup, LsOutCheckPortSec}
-use Rattle.tr_stage.specs.Machine.{bound_for, number_of}
+use Rattle.tr_stage.specs.Machine.{Effect, bound_for, number_of}
+use Rattle.tr_stage.specs.Machine.Effect.{Changed, Done}
 use Rattle.ls_laws.proofs.Packets.{other_value}
-use Rattle.ls_laws.proofs.RuleStages.{acl_rule-gives, switch_rules-untracked, untracked_rule, untracked_rules}
-use Rattle.tr_walk.specs.Reads.{FindsWhatItReads, FindWhatTheyRead, actions_find, answer_finds, once_changed}
-use Rattle.tr_walk.proofs.Ends.{every_image, every_piece}
+use Rattle.ls_laws.proofs.RuleStages.{rules_where, rules_where_tracked, untracked_rule}
+use Rattle.ls_ct_laws.proofs.RuleRuns.{every_image, every_piece}
+use Rattle.tr_walk.specs.Reads.{FindsWhatItReads, FindWhatTheyRead, actions_find, answer_finds, left_by, once_changed, reads}
 use Rattle.sb_model.specs.Stage.{last_table}
 use Rattle.sb_model.specs.declared.stage.DatapathKind.TheVariants as datapath
 
@@ -66,10 +70,44 @@ module _ (known : Lookup) where
   any : (stage : Stage) (priority : ℕ) (matching : _) (actions : List Action) → ((packet : Values) → IsTrue (actions_find known stage actions packet)) → Finds known (rule stage priority matching actions)
   any stage priority matching actions find = record { there = λ packet takes. find packet }
 
-  of_switch : (balances unknown : Bool) → AllFind known (untracked_rules balances unknown)
+  -- actions that read no field
+  abbrev read_none : List Action → Bool
+  read_none [] = true
+  read_none (action.Step step ∷ others) = is_empty (reads step) && read_none others
+  read_none (_ ∷ others) = false
+
+  finds_none : (stage : Stage) (actions : List Action) (packet : Values) → read_none actions ≡ true → actions_find known stage actions packet ≡ true
+  finds_none stage [] packet none = refl
+  finds_none stage (action.Step step ∷ others) packet none =
+      let parts = and_parts (is_empty (reads step)) (read_none others) none in
+      and_from _ _ (of_step (reads step) parts.0) (of_others (left_by known stage step packet) (λ later. finds_none stage others later parts.1))
+    where
+      of_step : (fields : List Field) → is_empty fields ≡ true → list_all (is_there packet) fields ≡ true
+      of_step [] empty = refl
+      of_step (field ∷ fields) empty = absurd (false≢true empty)
+
+      of_others : (left : Effect) → ((later : Values) → actions_find known stage others later ≡ true) → once_changed left (actions_find known stage others) ≡ true
+      of_others (Changed later) find = find later
+      of_others (Done end) find = refl
+  finds_none stage (action.TcpReset block ∷ others) packet none = absurd (false≢true none)
+  finds_none stage (action.Icmp4 block ∷ others) packet none = absurd (false≢true none)
+  finds_none stage (action.Reject block ∷ others) packet none = absurd (false≢true none)
+  finds_none stage (action.Arp block ∷ others) packet none = absurd (false≢true none)
+
+  all_find : (rules : List Rule) → IsTrue (list_all (λ (says : Rule). read_none says.actions) rules) → AllFind known rules
+  all_find [] none = tt
+  all_find (says ∷ rules) none =
+      let parts = and_parts (read_none says.actions) (list_all (λ (r : Rule). read_none r.actions) rules) none in
+      (record { there = λ packet takes. finds_none says.stage says.actions packet parts.0 }, all_find rules parts.1)
+
+  of_switch : (tracking balances unknown : Bool) → AllFind known (rules_where tracking balances unknown)
   unfolding switch_acl_rules switch_l2_rules
-  of_switch balances true = (any _ _ _ _ (λ p. refl), (any _ _ _ _ (λ p. refl), (any _ _ _ _ (λ p. refl), (any _ _ _ _ (λ p. refl), (any _ _ _ _ (λ p. refl), (any _ _ _ _ (λ p. refl), (any _ _ _ _ (λ p. refl), (any _ _ _ _ (λ p. refl), (any _ _ _ _ (λ p. refl), (any _ _ _ _ (λ p. refl), (any _ _ _ _ (λ p. refl), (any _ _ _ _ (λ p. refl), (any _ _ _ _ (λ p. refl), (any _ _ _ _ (λ p. refl), (any _ _ _ _ (λ p. refl), (any _ _ _ _ (λ p. refl), (any _ _ _ _ (λ p. refl), (any _ _ _ _ (λ p. refl), tt))))))))))))))))))
-  of_switch balances false = (any _ _ _ _ (λ p. refl), (any _ _ _ _ (λ p. refl), (any _ _ _ _ (λ p. refl), (any _ _ _ _ (λ p. refl), (any _ _ _ _ (λ p. refl), (any _ _ _ _ (λ p. refl), (any _ _ _ _ (λ p. refl), (any _ _ _ _ (λ p. refl), (any _ _ _ _ (λ p. refl), (any _ _ _ _ (λ p. refl), (any _ _ _ _ (λ p. refl), (any _ _ _ _ (λ p. refl), (any _ _ _ _ (λ p. refl), (any _ _ _ _ (λ p. refl), (any _ _ _ _ (λ p. refl), (any _ _ _ _ (λ p. refl), (any _ _ _ _ (λ p. refl), tt)))))))))))))))))
+  of_switch true true true = all_find (rules_where true true true) refl
+  of_switch true true false = all_find (rules_where true true false) refl
+  of_switch true false true = all_find (rules_where true false true) refl
+  of_switch true false false = all_find (rules_where true false false) refl
+  of_switch false balances true = all_find (rules_where false balances true) refl
+  of_switch false balances false = all_find (rules_where false balances false) refl
 
   -- ---- those of ACLs
 
@@ -78,12 +116,38 @@ module _ (known : Lookup) where
   rejected stage None = refl
   rejected stage (Some packet) = refl
 
-  of_acl : (way : Way) (priority : ℕ) (matching : _) (verdict : Verdict) → Finds known (rule (stage_of way) priority matching (ending verdict))
-  of_acl way priority matching Allow = any _ _ _ _ (λ p. refl)
-  of_acl way priority matching AllowRelated = any _ _ _ _ (λ p. refl)
-  of_acl way priority matching AllowStateless = any _ _ _ _ (λ p. refl)
-  of_acl way priority matching Drop = any _ _ _ _ (λ p. refl)
-  of_acl way priority matching Reject = any _ _ _ _ (λ p. rejected (stage_of way) _)
+  module _ (priority : ℕ) (matching : _) where
+    of_untracked : (stage : Stage) (verdict : Verdict) → Finds known (rule stage priority matching (ending verdict))
+    of_untracked stage Allow = any _ _ _ _ (λ p. refl)
+    of_untracked stage AllowRelated = any _ _ _ _ (λ p. refl)
+    of_untracked stage AllowStateless = any _ _ _ _ (λ p. refl)
+    of_untracked stage Drop = any _ _ _ _ (λ p. refl)
+    of_untracked stage Reject = any _ _ _ _ (λ p. rejected stage _)
+
+    of_untracking : (way : Way) (verdict : Verdict) → AllFind known (untracking_rules way priority matching verdict)
+    of_untracking way Allow = tt
+    of_untracking way AllowRelated = tt
+    of_untracking way AllowStateless = (any _ _ _ _ (λ p. refl), tt)
+    of_untracking way Drop = tt
+    of_untracking way Reject = tt
+
+    of_tracked : (stage : Stage) (verdict : Verdict) → AllFind known (tracked_rules stage priority matching verdict)
+    of_tracked stage Allow = (any _ _ _ _ (λ p. refl), tt)
+    of_tracked stage AllowRelated = (any _ _ _ _ (λ p. refl), tt)
+    of_tracked stage AllowStateless = (any _ _ _ _ (λ p. refl), tt)
+    of_tracked stage Drop = (any _ _ _ _ (λ p. refl), (any _ _ _ _ (λ p. refl), tt))
+    of_tracked stage Reject = (any _ _ _ _ (λ p. rejected stage _), (any _ _ _ _ (λ p. rejected stage _), tt))
+
+  of_acl : (input : AclOnInput) → AllFind known (acl_on_rules input)
+  unfolding acl_on_rules
+  of_acl input = by (is_priority input.priority) input.tracks
+    where
+      by : (b t : Bool) → AllFind known (cond b (cond t (rules_where_tracked input) (untracked_rule input ∷ [])) [])
+      by false t = tt
+      by true true =
+          every_append (Finds known) (untracking_rules input.way (input.priority + 1000) input.matching input.verdict) (tracked_rules (stage_of input.way) (input.priority + 1000) input.matching input.verdict)
+          (of_untracking (input.priority + 1000) input.matching input.way input.verdict) (of_tracked (input.priority + 1000) input.matching (stage_of input.way) input.verdict)
+      by true false = (of_untracked (input.priority + 1000) input.matching (stage_of input.way) input.verdict, tt)
 
   -- ---- those of port security
 
@@ -182,22 +246,21 @@ module _ (known : Lookup) where
 
 -- ---- the rows
 
-module _ (net : Network) (sound : IsSound net) (stateless : IsStateless net) where
+module _ (net : Network) (sound : IsSound net) (plain : IsPlain net) where
   of_port_rules : (port : Port) → AllFind (names net) (port_rules net port)
   of_port_rules port =
       every_append (Finds (names net)) (port_sec_rules (port_sec_input port)) (port_l2_rules (port_l2_input net port)) (of_security (names net) (port_sec_input port)) (of_l2 (names net) (port_l2_input net port))
 
   of_row : (row : Row) → IsRow net row → FindsWhatItReads (names net) row
   of_row row (inl at) =
-      let all = subst (AllFind (names net)) (sym (switch_rules-untracked net at.switch stateless at.among)) (of_switch (names net) (balances net at.switch.id) (has_unknown net at.switch.id)) in
-      subst (FindsWhatItReads (names net)) at.is (every_member (Finds (names net)) (switch_rules net at.switch.id) at.says all at.in_rules).there
+      let dp = at.switch.id in
+      let all = of_switch (names net) (tracks net dp) (balances net dp) (has_unknown net dp) in
+      subst (FindsWhatItReads (names net)) at.is (every_member (Finds (names net)) (switch_rules net dp) at.says all at.in_rules).there
   of_row row (inr (inl at)) =
       subst (FindsWhatItReads (names net)) at.is (every_member (Finds (names net)) (port_rules net at.port) at.says (of_port_rules at.port) at.in_rules).there
   of_row row (inr (inr at)) =
-      let there = Contains-from_filter (λ (s : Switch). applies net s.id at.acl) net.switches at.switch at.applied in
       let input = acl_on_input net at.acl at.switch.id in
-      let is : at.says ≡ untracked_rule input = acl_rule-gives net at.switch stateless there at.acl at.says at.in_rules in
-      subst (FindsWhatItReads (names net)) at.is (subst (Finds (names net)) (sym is) (of_acl (names net) input.way (input.priority + 1000) input.matching input.verdict)).there
+      subst (FindsWhatItReads (names net)) at.is (every_member (Finds (names net)) (acl_on_rules input) at.says (of_acl (names net) input) at.in_rules).there
 
   pub find : FindWhatTheyRead net
   find row there = of_row row (rows-gives net row there)

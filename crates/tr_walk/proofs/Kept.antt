@@ -1,16 +1,17 @@
 -- What the switches of a network without routers make of packets: they stay among the ports of switches, and are packets.
-use Rattle.std.proofs.Common.{◌≡◌, ℕ, ◌<◌, ◌^◌, Bool, true, false, cond, nat_lt, List, [], ◌∷◌, map, sym, ap, refl, subst, ◌∙◌, arith, lit<, inl, inr, ◌⊎◌}
+use Rattle.std.proofs.Common.{◌≡◌, ℕ, ◌<◌, ◌^◌, Bool, true, false, cond, nat_lt, eqb, List, [], ◌∷◌, map, sym, ap, refl, subst, ◌∙◌, arith, lit<, inl, inr, ◌⊎◌}
 use Rattle.std.specs.Prelude.{Option, Some, None, not, ◌&&◌}
 use Rattle.std.specs.Bool.{IsTrue}
 use Rattle.std.specs.List.{AllByRecursion, Contains, filter, find, list_all, flat_map}
 use Rattle.std.proofs.lemmas.Bool.{false≢true, and_parts, eqb-true, ltb-true}
 use Rattle.nv_base.specs.declared.object.ObjId.{ObjId}
 use Rattle.nv_base.specs.declared.field.Field.{Field}
-use Rattle.nv_base.specs.declared.field.Field.TheVariants.{Inport, Outport, FlagsLoopback, ArpTpa, EthDst}
+use Rattle.nv_base.specs.declared.field.Field.TheVariants.{Inport, Outport, FlagsLoopback, ArpTpa, EthDst, CtState, CtMarkBlocked, Reg0}
 use Rattle.nv_base.specs.declared.field.Prerequisite.TheVariants.{Tcp}
-use Rattle.pkt_core.specs.Packet.{Values, IsPacket, value, with_value, headers}
-use Rattle.pkt_core.specs.Prerequisite.{meets}
-use Rattle.pkt_core.specs.Replies.{is_answerable, reset, icmp_error, arp_reply}
+use Rattle.nv_base.specs.Field.{is_header}
+use Rattle.pkt_core.specs.Packet.{Values, IsPacket, place, value, with_value, headers}
+use Rattle.pkt_core.specs.Prerequisite.{is_there, meets}
+use Rattle.pkt_core.specs.Replies.{is_answerable, reset, icmp_error, arp_reply, start}
 use Rattle.pkt_core.specs.declared.replies.IcmpReason.TheVariants.{PortUnreachable}
 use Rattle.nb_records.specs.declared.acl.Way.TheVariants.{From, To}
 use Rattle.nb_records.specs.declared.switch.Addr.{Addr}
@@ -32,16 +33,19 @@ use Rattle.net_meaning.specs.Address.{is_multicast}
 use Rattle.net_meaning.specs.Guards.{is_let_in, is_let_out}
 use Rattle.net_meaning.specs.Places.{side_of, side_of_switch_port, switch_port}
 use Rattle.net_meaning.specs.Places.Side.{Host}
-use Rattle.net_meaning.specs.Stateless.{IsStateless}
+use Rattle.nb_model.specs.Plain.{IsPlain}
 use Rattle.nb_model.specs.Ports.{is_open, takes_unknown}
-use Rattle.net_meaning.specs.Switches.{Did, after_acls, is_among_ips, mac_with, has_mac, is_answering, answering, port_for, numbers, open_ports, unknown_ports, to_unknown, to_port, sent_on, turned_back, is_request, answered_for, asked, rejected, decided, arriving_at, let_out, leaving_by}
+use Rattle.net_meaning.specs.Switches.{after_acls, is_among_ips, mac_with, has_mac, is_answering, answering, port_for, numbers, open_ports, unknown_ports, to_unknown, to_port, sent_on, turned_back, is_request, answered_for, asked, rejected, decided, arriving_at, let_out, leaving_by}
 use Rattle.net_meaning.specs.Walk.{Passed, carried, carrying}
 use Rattle.net_meaning.specs.Walk.Passed.{GoesOn, Drops, Makes}
 use Rattle.net_meaning.specs.Walk.Target.{OnePort, Ports}
 use Rattle.net_meaning.specs.declared.answer.Answer.TheVariants.{Reject}
 use Rattle.net_meaning.specs.declared.cause.Cause.TheVariants.{Acl, PortSec}
 use Rattle.net_rows.proofs.Elements.{one_of, one_of_none, one_first, one_later}
-use Rattle.net_rows.proofs.Sound.{each_passes, port_of_sound, ports_rise, PortsRise}
+use Rattle.pkt_core.proofs.Only.{only_value}
+use Rattle.net_rows.proofs.Pairs.{every_member}
+use Rattle.net_rows.proofs.Sound.{port_of_sound, ports_rise, PortsRise}
+use Rattle.tr_walk.specs.Refined.{IsFresh}
 use Rattle.tr_walk.proofs.Congruence.{IsPort, IsInside, IsKept, ArePackets}
 use Rattle.tr_walk.proofs.Formed.{Fit, Others, fits_values, other_values, started, started_inport, replied, replied_inport, reset_is, reset_inport, error_is, error_inport}
 use Rattle.ls_laws.proofs.Packets.{set_value, other_value, fits_with, fits_only}
@@ -61,6 +65,47 @@ carried_inport : (packet : Values) → IsPacket packet → value (carried packet
 carried_inport packet is =
     other_value (with_value (headers packet) Inport (value packet Inport)) FlagsLoopback Inport (value packet FlagsLoopback) refl
     ∙ set_value (headers packet) Inport (value packet Inport) (fits_only packet _ is).count
+
+-- a field that a packet has on its way alone is no header field
+no_header : (packet : Values) (field : Field) → is_header field ≡ false → value (headers packet) field ≡ 0
+no_header packet field is_not = only_value packet is_header field ∙ ap (λ b. cond b (value packet field) 0) is_not
+
+-- what stages note is not carried
+carried_none : (packet : Values) (field : Field) → is_header field ≡ false → eqb (place Inport) (place field) ≡ false → eqb (place FlagsLoopback) (place field) ≡ false → value (carried packet) field ≡ 0
+carried_none packet field is_not other also =
+    other_value (with_value (headers packet) Inport (value packet Inport)) FlagsLoopback field (value packet FlagsLoopback) also ∙ other_value (headers packet) Inport field (value packet Inport) other ∙ no_header packet field is_not
+
+carried_fresh : (packet : Values) → IsFresh (carried packet)
+carried_fresh packet = record {
+  register = carried_none packet Reg0 refl refl refl;
+  flags = carried_none packet CtState refl refl refl;
+  mark = carried_none packet CtMarkBlocked refl refl refl;
+}
+
+-- nor is it there in a packet that comes in
+started_none : (packet : Values) (port : ℕ) (field : Field) → is_header field ≡ false → eqb (place Inport) (place field) ≡ false → value (start packet port) field ≡ 0
+started_none packet port field is_not other =
+    let coming = with_value (headers packet) Inport port in
+    only_value coming (is_there coming) field ∙ by (is_there coming field) (other_value (headers packet) Inport field port other ∙ no_header packet field is_not)
+  where
+    by : (b : Bool) → value (with_value (headers packet) Inport port) field ≡ 0 → cond b (value (with_value (headers packet) Inport port) field) 0 ≡ 0
+    by true none = none
+    by false none = refl
+
+started_fresh : (packet : Values) (port : ℕ) → IsFresh (start packet port)
+started_fresh packet port = record {
+  register = started_none packet port Reg0 refl refl;
+  flags = started_none packet port CtState refl refl;
+  mark = started_none packet port CtMarkBlocked refl refl;
+}
+
+-- the port to go out by is no note
+bound_fresh : (packet : Values) (number : ℕ) → IsFresh packet → IsFresh (with_value packet Outport number)
+bound_fresh packet number fresh = record {
+  register = other_value packet Outport Reg0 number refl ∙ fresh.register;
+  flags = other_value packet Outport CtState number refl ∙ fresh.flags;
+  mark = other_value packet Outport CtMarkBlocked number refl ∙ fresh.mark;
+}
 
 turned_is : (packet : Values) → IsPacket packet → IsPacket (turned_back packet)
 turned_is packet is =
@@ -143,7 +188,7 @@ module _ (net : Network) where
       by false rest = rest
 
   inside : (packet : Values) → IsPacket packet → IsPort net (record { 0 = value packet Inport }) → IsInside net (carried packet)
-  inside packet is by = record { formed = carried_is packet is; by = subst (λ n. IsPort net (record { 0 = n })) (sym (carried_inport packet is)) by }
+  inside packet is by = record { formed = carried_is packet is; fresh = carried_fresh packet; by = subst (λ n. IsPort net (record { 0 = n })) (sym (carried_inport packet is)) by }
 
   -- ---- what arrives
 
@@ -234,27 +279,28 @@ number_below net sound port there = below net.ports (are_used net sound.numbered
         by (inl one) used rest = let used_port = subst (λ (q : Port). q.id.0 < net.next) one used in omega (arith, used_port, sound.numbered.room)
         by (inr later) used rest = rest later
 
-module _ (net : Network) (sound : IsSound net) (stateless : IsStateless net) where
+module _ (net : Network) (sound : IsSound net) (plain : IsPlain net) where
   -- numbers of ports fit
   number_fits : (number : ObjId) → IsPort net number → number.0 < 2 ^ 32
   number_fits number is = subst (λ (n : ObjId). n.0 < 2 ^ 32) is.is (let below = number_below net sound is.port is.among in omega (arith, below))
 
   host_side : (port : Port) → Contains net.ports port → side_of_switch_port net port port.kind ≡ Host
-  host_side port there = by port.kind (each_passes (λ (p : Port). not (is_to_router p)) net.ports port stateless.hosts there)
+  host_side port there = by port.kind (every_member (λ (p : Port). is_to_router p ≡ false) net.ports port plain.ports there)
     where
-      by : (k : PortKind) → IsTrue (not (is_router_kind k)) → side_of_switch_port net port k ≡ Host
+      by : (k : PortKind) → is_router_kind k ≡ false → side_of_switch_port net port k ≡ Host
       by kind.Host host = refl
-      by kind.Router host = absurd (false≢true host)
+      by kind.Router host = absurd (false≢true (sym host))
 
   pub at_its_number : (port : Port) → Contains net.ports port → switch_port net port.id ≡ Some port
   at_its_number port there = found_by_number net.ports port (ports_rise net sound) there
 
   pub are_packets : ArePackets net
   are_packets = record {
-    starts = λ port packet is formed. (started packet port.0 formed (number_fits port is), started_inport packet port.0 formed);
+    starts = λ port packet is formed. (started packet port.0 formed (number_fits port is), (started_fresh packet port.0, started_inport packet port.0 formed));
     leaves = λ port packet is inside. (
       record {
         formed = fits_with packet Outport port.0 inside.formed (number_fits port is);
+        fresh = bound_fresh packet port.0 inside.fresh;
         by = subst (λ n. IsPort net (record { 0 = n })) (sym (other_value packet Outport Inport port.0 refl)) inside.by;
       },
       set_value packet Outport port.0 inside.formed.count,

@@ -1,3 +1,4 @@
+pub mod AclParts
 pub mod Carried
 pub mod Congruence
 pub mod Ends
@@ -10,5 +11,4 @@ pub mod Pipelines
 pub mod PortNumbers
 pub mod Refinement
 pub mod Runs
-pub mod StageLaws
 pub mod Steps

@@ -1,78 +1,70 @@
--- The pipelines of a switch do its parts, where its stages do what the stage laws say, to packets of which no connection is asked for.
+-- The pipelines of a switch do its parts.
 use Rattle.std.proofs.Common.{◌≡◌, ℕ, suc, Bool, true, false, cond, List, [], ◌∷◌, eqb, sym, ap, refl, subst, ◌∙◌, arith, inl, inr, ◌⊎◌}
-use Rattle.std.specs.Prelude.{Option, Some, None, option_map, is_some, not, ◌&&◌}
+use Rattle.std.specs.Prelude.{Option, Some, None, is_some, not, ◌&&◌}
 use Rattle.std.specs.List.{Contains, find}
 use Rattle.std.proofs.lemmas.Bool.{eqb-true}
 use Rattle.nv_base.specs.declared.object.ObjId.{ObjId}
 use Rattle.nv_base.specs.declared.field.Field.TheVariants.{Inport, Outport, EthDst, ArpTpa}
-use Rattle.nv_base.specs.declared.field.Prerequisite.TheVariants.{Tcp}
-use Rattle.pkt_core.specs.Packet.{Values, IsPacket, value, with_value}
-use Rattle.pkt_core.specs.Prerequisite.{meets}
-use Rattle.pkt_core.specs.Replies.{is_answerable, reset, icmp_error, arp_reply}
-use Rattle.pkt_core.specs.declared.replies.IcmpReason.TheVariants.{PortUnreachable}
+use Rattle.nv_base.specs.Object.{flood_number, unknown_number}
+use Rattle.pkt_core.specs.Packet.{Values, IsPacket, value}
+use Rattle.pkt_core.specs.Replies.{arp_reply}
+use Rattle.ct_core.specs.State.{State}
+use Rattle.nb_records.specs.declared.acl.Way.{Way}
 use Rattle.nb_records.specs.declared.acl.Way.TheVariants.{From, To}
 use Rattle.nb_records.specs.declared.switch.Port.{Port}
 use Rattle.nb_records.specs.declared.switch.Switch.{Switch}
-use Rattle.nb_model.specs.Belongs.{is_among}
+use Rattle.nb_model.specs.Applies.{tracks}
+use Rattle.nb_model.specs.Belongs.{is_among, is_to_router}
 use Rattle.nb_model.specs.Network.{Network, same}
+use Rattle.nb_model.specs.Plain.{IsPlain}
 use Rattle.nb_model.specs.Sound.{IsSound, switch_ids}
 use Rattle.nb_model.proofs.Lists.{same_is, same_self}
 use Rattle.sb_model.specs.declared.stage.DatapathKind.TheVariants as kinds
 use Rattle.sb_model.specs.declared.stage.Pipeline.TheVariants.{Ingress, Egress}
 use Rattle.sb_model.specs.declared.stage.Stage.{Stage}
-use Rattle.sb_model.specs.declared.stage.Stage.TheVariants.{LsInCheckPortSec, LsInPreAcl, LsInPreStateful, LsInAclEval, LsInLb, LsInStateful, LsInArpRsp, LsInL2Lkup, LsInL2Unknown, LsOutPreAcl, LsOutPreStateful, LsOutAclEval, LsOutStateful, LsOutCheckPortSec}
-use Rattle.sb_model.specs.Stage.{all_stages, stage_at}
-use Rattle.net_meaning.specs.AclVerdict.{Decision, decision}
-use Rattle.net_meaning.specs.AclVerdict.Decision.{Allowed, Dropped, Rejected, Full}
+use Rattle.sb_model.specs.declared.stage.Stage.TheVariants.{LsInCheckPortSec, LsInPreAcl, LsInLb, LsInStateful, LsInArpRsp, LsInL2Lkup, LsInL2Unknown, LsOutPreAcl, LsOutCheckPortSec}
+use Rattle.sb_model.specs.Stage.{all_stages, last_table, stage_at}
 use Rattle.net_meaning.specs.Address.{is_multicast}
 use Rattle.net_meaning.specs.Guards.{is_let_in, is_let_out}
 use Rattle.net_meaning.specs.Places.{datapath_at}
-use Rattle.net_meaning.specs.Stateless.{IsStateless}
 use Rattle.net_meaning.specs.Switches as means
-use Rattle.net_meaning.specs.Switches.{mac_with, is_answering, answering, port_for, open_ports, unknown_ports, to_unknown, to_port, sent_on, turned_back, is_request, asked, rejection, let_out}
-use Rattle.net_meaning.specs.Walk.{Passed, carried, carrying}
-use Rattle.net_meaning.specs.Walk.Passed.{GoesOn, Drops, Makes}
+use Rattle.net_meaning.specs.Switches.{Did, after_acls, mac_with, is_answering, answering, port_for, open_ports, unknown_ports, to_unknown, to_port, sent_on, turned_back, is_request, asked, arriving_at, leaving_by, leaving_late, let_out}
+use Rattle.net_meaning.specs.Tracked.{ruled}
+use Rattle.net_meaning.specs.Walk.{Passed, carried}
+use Rattle.net_meaning.specs.Walk.Passed.{GoesOn, Drops}
 use Rattle.net_meaning.specs.Walk.Target.{OnePort, Ports}
-use Rattle.net_meaning.specs.declared.answer.Answer.TheVariants.{Reject}
-use Rattle.net_meaning.specs.declared.cause.Cause.TheVariants.{PortSec, Acl}
+use Rattle.net_meaning.specs.declared.cause.Cause.TheVariants.{PortSec}
 use Rattle.net_rows.proofs.Elements.{one_of, one_of_none, any_gives, Contains-from_map}
+use Rattle.net_rows.proofs.Pairs.{every_member}
 use Rattle.net_rows.proofs.Sound.{each_passes}
 use Rattle.tr_stage.specs.declared.outcome.Outcome.{Outcome}
-use Rattle.tr_stage.specs.declared.outcome.Outcome.TheVariants.{Leave, Deliver, Made, Drop}
-use Rattle.tr_stage.specs.Machine.{Flows, StageEnd, kind_of, step}
-use Rattle.tr_stage.specs.Machine.StageEnd.{On, Ends}
-use Rattle.tr_stage.proofs.PacketRuns.{PipelineRun, go_on, pipeline_begins, run_from, run_pipeline}
-use Rattle.ls_laws.specs.Steps.{flows_at, sent_back, decided, answered_for, found_at, sent_unknown, leaves_by, IsOn, IsPortOf, Does, Passes, ChecksIn, ChecksOut, DecidesIn, DecidesOut, Answers, LooksUp, FindsNone}
+use Rattle.tr_stage.specs.declared.outcome.Outcome.TheVariants.{Leave, Deliver, Drop}
+use Rattle.tr_stage.specs.Machine as packets
+use Rattle.tr_stage.specs.Machine.{Flows, kind_of}
+use Rattle.tr_pipe.specs.Machine.{PipelineRun, ended, go_on, run_from, run_pipeline, step}
+use Rattle.tr_pipe.specs.Machine.StageEnd.{On}
+use Rattle.tr_pipe.specs.Tracking.{Flight, coming}
+use Rattle.tr_pipe.proofs.Steps.{pipeline_begins}
+use Rattle.ls_laws.specs.Steps as laws
+use Rattle.ls_laws.specs.Steps.{flows_at, sent_back, answered_for, found_at, sent_unknown, leaves_by, IsOn, IsPortOf}
+use Rattle.ls_laws.proofs.AclEval.{decides_in, decides_out}
+use Rattle.ls_laws.proofs.ArpReplies.{answers_requests}
+use Rattle.ls_laws.proofs.LookUp.{looks_up, finds_none}
 use Rattle.ls_laws.proofs.Packets.{set_value}
+use Rattle.ls_laws.proofs.PassingStages.{passes-LsInPreAcl, passes-LsInPreStateful, passes-LsInLb, passes-LsInStateful, passes-LsOutPreAcl, passes-LsOutPreStateful, passes-LsOutStateful}
+use Rattle.ls_laws.proofs.PortSecurity.{checks_in, checks_out}
+use Rattle.ls_ct_laws.proofs.Noted.{AreAlike}
+use Rattle.ls_ct_laws.proofs.Onward.{same_asked, same_out}
+use Rattle.ls_ct_laws.proofs.PlainSteps.{plain_stage_of, plain_where_untracked}
+use Rattle.ls_ct_laws.proofs.RuleRuns.{asks_for_connections}
+use Rattle.ls_ct_laws.proofs.TrackedAcls.{rules_of}
+use Rattle.ls_ct_laws.proofs.Connections.{asks_of, looks_up_of, keeps_of}
 use Rattle.tr_walk.specs.Machine.{numbered, target_of, after_ingress, after_egress}
+use Rattle.tr_walk.specs.Refined.{IsFresh}
+use Rattle.tr_walk.proofs.AclParts.{Does, LawsElsewhere, LawsWhereTracked, after_step, acl_part, does_same}
 use Rattle.tr_walk.proofs.Carried.{carried_outport, carried_back, back_outport}
-use Rattle.tr_walk.proofs.Formed.{replied, replied_inport, reset_is, reset_inport, error_is, error_inport}
+use Rattle.tr_walk.proofs.Formed.{replied, replied_inport}
 use Rattle.tr_walk.proofs.Kept.{at_its_number, find_gives, mac_fits, number_below}
-use Rattle.sb_model.specs.Stage.{last_table}
-use Rattle.nv_base.specs.Object.{flood_number, unknown_number}
-
--- what the stages do
-pub record Laws : Type 0 where
-  pub checks_in : ChecksIn
-  pub in_pre_acl : Passes LsInPreAcl LsInPreStateful
-  pub in_pre_stateful : Passes LsInPreStateful LsInAclEval
-  pub decides_in : DecidesIn
-  pub in_lb : Passes LsInLb LsInStateful
-  pub in_stateful : Passes LsInStateful LsInArpRsp
-  pub answers : Answers
-  pub looks_up : LooksUp
-  pub finds_none : FindsNone
-  pub out_pre_acl : Passes LsOutPreAcl LsOutPreStateful
-  pub out_pre_stateful : Passes LsOutPreStateful LsOutAclEval
-  pub decides_out : DecidesOut
-  pub out_stateful : Passes LsOutStateful LsOutCheckPortSec
-  pub checks_out : ChecksOut
-
--- a step that is this
-taken : (flows : Flows) (budget : ℕ) (stage : Stage) (packet : Values) (end : StageEnd) → step flows stage packet ≡ end
-    → (run_from flows (suc budget) stage packet).outcome ≡ (go_on (run_from flows budget) end).outcome
-unfolding run_from
-taken flows budget stage packet end is = ap (λ e. (go_on (run_from flows budget) e).outcome) is
 
 -- each switch is one by its number
 pub numbered_switch : (switches : List Switch) (switch : Switch) → Contains switches switch → is_some (find (λ (s : Switch). same switch.id s.id) switches) ≡ true
@@ -98,7 +90,11 @@ switch_there net port sound there =
     let at = Contains-from_map (λ (s : Switch). s.id) net.switches number.0 number.1 in
     (at.0, at.1, at.2 ∙ sym (same_is port.switch number.0 number.2))
 
-module _ (laws : Laws) (net : Network) (sound : IsSound net) (stateless : IsStateless net) (port : Port) (there : Contains net.ports port) (packet : Values) (formed : IsPacket packet) where
+-- what is done, and the state that is left
+abbrev done : Passed → State → Did
+done passed left = record { passed = passed; state = left }
+
+module _ (net : Network) (sound : IsSound net) (plain : IsPlain net) (port : Port) (there : Contains net.ports port) where
   of : (switch : Switch) × Contains net.switches switch × (switch.id ≡ port.switch)
   of = switch_there net port sound there
 
@@ -108,13 +104,6 @@ module _ (laws : Laws) (net : Network) (sound : IsSound net) (stateless : IsStat
   abbrev flows : Flows
   flows = flows_at net dp
 
-  on : IsOn net of.0 packet
-  on = record { sound = sound; stateless = stateless; among = of.1; formed = formed }
-
-  -- it is said of the port's own switch
-  here : (stage : Stage) (end : ObjId → StageEnd) → Does net of.0 stage packet (end of.0.id) → step flows stage packet ≡ end dp
-  here stage end does = subst (λ (d : ObjId). step (flows_at net d) stage packet ≡ end d) of.2 does
-
   its_port : IsPortOf net of.0 port
   its_port = (there, sym of.2)
 
@@ -122,7 +111,10 @@ module _ (laws : Laws) (net : Network) (sound : IsSound net) (stateless : IsStat
   of_switch = subst (λ (d : ObjId). kind_of (flows_at net d) ≡ kinds.Switch) of.2 (rw (numbered_switch net.switches of.0 of.1) refl)
 
   pub at_dp : datapath_at net port.id ≡ dp
-  at_dp = rw (at_its_number net sound stateless port there) refl
+  at_dp = rw (at_its_number net sound plain port there) refl
+
+  of_host : is_to_router port ≡ false
+  of_host = every_member (λ (p : Port). is_to_router p ≡ false) net.ports port plain.ports there
 
   -- numbers of ports are no multicast group's
   to_one_port : (q : Port) → Contains net.ports q → target_of net dp q.id.0 ≡ OnePort q.id
@@ -135,166 +127,182 @@ module _ (laws : Laws) (net : Network) (sound : IsSound net) (stateless : IsStat
           by true is = absurd (apart (eqb-true q.id.0 group is))
           by false is = is
 
+  on : (packet : Values) → IsPacket packet → IsOn net of.0 packet
+  on packet formed = record { sound = sound; plain = plain; among = of.1; formed = formed }
+
+  -- what the law of a stage that asks for no connection says, said of the port's own switch
+  here : (flight : Flight) (stage : Stage) (end : ObjId → packets.StageEnd) → asks_for_connections stage ≡ false → laws.Does net of.0 stage flight.packet (end of.0.id) → step flows stage flight ≡ ended flight (end dp)
+  here flight stage end asks_none does =
+      subst (λ (d : ObjId). step (flows_at net d) stage flight ≡ ended flight (end d)) of.2 (plain_stage_of net sound plain of.0.id stage asks_none flight ∙ ap (ended flight) does)
+
+  -- ---- the stages of ACLs and of connections
+
+  module _ (switch : Switch) (among : Contains net.switches switch) where
+    on_it : (packet : Values) → IsPacket packet → IsOn net switch packet
+    on_it packet formed = record { sound = sound; plain = plain; among = among; formed = formed }
+
+    -- where the switch tracks
+    tracking_laws : tracks net switch.id ≡ true → (way : Way) → LawsWhereTracked net switch.id way
+    tracking_laws is way = record {
+      pre_acl_is = λ flight formed. asks_of way net switch flight (on_it flight.packet formed) is;
+      pre_stateful_is = λ flight formed. looks_up_of way net switch flight (on_it flight.packet formed) is;
+      acl_eval_is = λ flight formed noted. rules_of way net switch flight noted (on_it flight.packet formed) is;
+      stateful_is = λ flight formed. keeps_of way net switch flight (on_it flight.packet formed) is;
+    }
+
+    -- where it does not
+    elsewhere : tracks net switch.id ≡ false → (stage : Stage) (flight : Flight) (end : packets.StageEnd) → laws.Does net switch stage flight.packet end → step (flows_at net switch.id) stage flight ≡ ended flight end
+    elsewhere is stage flight end does = plain_where_untracked net sound plain switch.id stage is flight ∙ ap (ended flight) does
+
+    other_laws : tracks net switch.id ≡ false → (way : Way) → LawsElsewhere net switch.id way
+    other_laws is From = record {
+      pre_acl_is = λ flight formed. elsewhere is _ flight _ (passes-LsInPreAcl net switch flight.packet (on_it flight.packet formed) is);
+      pre_stateful_is = λ flight formed. elsewhere is _ flight _ (passes-LsInPreStateful net switch flight.packet (on_it flight.packet formed) is);
+      acl_eval_is = λ flight formed. elsewhere is _ flight _ (decides_in net switch flight.packet (on_it flight.packet formed) is);
+      stateful_is = λ flight formed. elsewhere is _ flight _ (passes-LsInStateful net switch flight.packet (on_it flight.packet formed) is);
+    }
+    other_laws is To = record {
+      pre_acl_is = λ flight formed. elsewhere is _ flight _ (passes-LsOutPreAcl net switch flight.packet (on_it flight.packet formed) is);
+      pre_stateful_is = λ flight formed. elsewhere is _ flight _ (passes-LsOutPreStateful net switch flight.packet (on_it flight.packet formed) is);
+      acl_eval_is = λ flight formed. elsewhere is _ flight _ (decides_out net switch flight.packet (on_it flight.packet formed) is);
+      stateful_is = λ flight formed. elsewhere is _ flight _ (passes-LsOutStateful net switch flight.packet (on_it flight.packet formed) is);
+    }
+
+  where_tracked : (way : Way) → tracks net dp ≡ true → LawsWhereTracked net dp way
+  where_tracked way is = subst (λ (d : ObjId). LawsWhereTracked net d way) of.2 (tracking_laws of.0 of.1 (subst (λ (d : ObjId). tracks net d ≡ true) (sym of.2) is) way)
+
+  where_not : (way : Way) → tracks net dp ≡ false → LawsElsewhere net dp way
+  where_not way is = subst (λ (d : ObjId). LawsElsewhere net d way) of.2 (other_laws of.0 of.1 (subst (λ (d : ObjId). tracks net d ≡ false) (sym of.2) is) way)
+
   -- ---- ingress
 
   -- what the walk sees of an outcome of ingress
-  abbrev sees : Option Outcome → Option Passed
-  sees outcome = option_map carrying (after_ingress net dp outcome)
+  abbrev seen : Option Outcome → Option Passed
+  seen = after_ingress net dp
 
-  begins_in : (run_pipeline flows Ingress 0 packet).outcome ≡ (run_from flows 128 LsInCheckPortSec packet).outcome
-  unfolding stage_at all_stages
-  begins_in = ap (λ (w : PipelineRun). w.outcome) (pipeline_begins flows Ingress 0 packet LsInCheckPortSec (ap (λ kind. stage_at kind Ingress 0) of_switch))
+  module _ (flight : Flight) (formed : IsPacket flight.packet) where
+    abbrev packet : Values
+    packet = flight.packet
 
-  -- a packet that leaves by a number
-  leaves_to : (number : ℕ) → sees (Some (Leave (with_value packet Outport number) 0)) ≡ Some (GoesOn (target_of net dp number) (carried packet))
-  leaves_to number = rw (set_value packet Outport number formed.count, carried_outport packet number) refl
+    abbrev does : PipelineRun → Passed → Type 0
+    does run passed = Does seen run (done passed flight.state)
 
-  -- what no port has
-  unknown_is : sees (run_from flows 120 LsInL2Unknown packet).outcome ≡ Some (carrying (to_unknown (unknown_ports net dp) packet))
-  unknown_is = ap sees (taken flows 119 LsInL2Unknown packet _ (here LsInL2Unknown (λ d. sent_unknown packet (unknown_ports net d)) (laws.finds_none net of.0 packet on))) ∙ by (unknown_ports net dp) refl
-    where
-      by : (ports : List ObjId) → unknown_ports net dp ≡ ports → sees (go_on (run_from flows 119) (sent_unknown packet ports)).outcome ≡ Some (carrying (to_unknown ports packet))
-      by [] is = refl
-      by (p ∷ ports) is = leaves_to unknown_number ∙ ap (λ all. Some (GoesOn (Ports all) (carried packet))) is
+    -- a packet that leaves by a number
+    leaves_to : (budget number : ℕ) → does (go_on (run_from flows budget) (ended flight (leaves_by packet number))) (GoesOn (target_of net dp number) packet)
+    leaves_to budget number = record { passes = rw (set_value packet Outport number formed.count, carried_outport packet number) refl; leaves = refl }
 
-  -- the lookup
-  lookup_is : sees (run_from flows 121 LsInL2Lkup packet).outcome ≡ Some (carrying (sent_on net dp packet))
-  lookup_is =
-      ap sees (taken flows 120 LsInL2Lkup packet _ (here LsInL2Lkup (λ d. cond (is_multicast (value packet EthDst)) (leaves_by packet flood_number) (found_at packet (port_for net d (value packet EthDst)))) (laws.looks_up net of.0 packet on)))
-      ∙ by (is_multicast (value packet EthDst)) (port_for net dp (value packet EthDst)) refl
-    where
-      by : (many : Bool) (found : Option Port) → port_for net dp (value packet EthDst) ≡ found
-          → sees (go_on (run_from flows 120) (cond many (leaves_by packet flood_number) (found_at packet found))).outcome
-          ≡ Some (carrying (cond many (GoesOn (Ports (open_ports net dp)) packet) (to_port found (unknown_ports net dp) packet)))
-      by true found is = leaves_to flood_number
-      by false None is = unknown_is
-      by false (Some q) is = leaves_to q.id.0 ∙ ap (λ target. Some (GoesOn target (carried packet))) (to_one_port q (find_gives _ net.ports q is).0)
+    -- what no port has
+    unknown_is : does (run_from flows 120 LsInL2Unknown flight) (to_unknown (unknown_ports net dp) packet)
+    unknown_is =
+        after_step seen flows 119 LsInL2Unknown flight _ (done (to_unknown (unknown_ports net dp) packet) flight.state)
+        (here flight LsInL2Unknown (λ d. sent_unknown packet (unknown_ports net d)) refl (finds_none net of.0 packet (on packet formed))) (by (unknown_ports net dp) refl)
+      where
+        by : (ports : List ObjId) → unknown_ports net dp ≡ ports → does (go_on (run_from flows 119) (ended flight (sent_unknown packet ports))) (to_unknown ports packet)
+        by [] is = record { passes = refl; leaves = refl }
+        by (p ∷ ports) is =
+            does_same seen (go_on (run_from flows 119) (ended flight (leaves_by packet unknown_number))) (done (GoesOn (target_of net dp unknown_number) packet) flight.state) (done (GoesOn (Ports (p ∷ ports)) packet) flight.state)
+            (ap (λ all. GoesOn (Ports all) (carried packet)) is) refl (leaves_to 119 unknown_number)
 
-  module _ (from : value packet Inport ≡ port.id.0) where
-    -- a packet that goes back by the port that it came in by
-    goes_back : (k : Values) → IsPacket k → value k Inport ≡ value packet Inport → sees (Some (Leave (sent_back k) 0)) ≡ Some (GoesOn (OnePort port.id) (carried (turned_back k)))
-    goes_back k is same_port =
-        rw (back_outport k is ∙ same_port ∙ from, carried_back k is) (ap (λ target. Some (GoesOn target (carried (turned_back k)))) (to_one_port port there))
+    -- the lookup
+    lookup_is : does (run_from flows 121 LsInL2Lkup flight) (sent_on net dp packet)
+    lookup_is =
+        after_step seen flows 120 LsInL2Lkup flight _ (done (sent_on net dp packet) flight.state)
+        (here flight LsInL2Lkup (λ d. cond (is_multicast (value packet EthDst)) (leaves_by packet flood_number) (found_at packet (port_for net d (value packet EthDst)))) refl (looks_up net of.0 packet (on packet formed)))
+        (by (is_multicast (value packet EthDst)) (port_for net dp (value packet EthDst)) refl)
+      where
+        by : (many : Bool) (found : Option Port) → port_for net dp (value packet EthDst) ≡ found
+            → does (go_on (run_from flows 120) (ended flight (cond many (leaves_by packet flood_number) (found_at packet found)))) (cond many (GoesOn (Ports (open_ports net dp)) packet) (to_port found (unknown_ports net dp) packet))
+        by true found is = leaves_to 120 flood_number
+        by false None is = unknown_is
+        by false (Some q) is =
+            does_same seen (go_on (run_from flows 120) (ended flight (leaves_by packet q.id.0))) (done (GoesOn (target_of net dp q.id.0) packet) flight.state) (done (GoesOn (OnePort q.id) packet) flight.state)
+            (ap (λ target. GoesOn target (carried packet)) (to_one_port q (find_gives _ net.ports q is).0)) refl (leaves_to 120 q.id.0)
 
     -- ARP replies
-    arp_is : sees (run_from flows 122 LsInArpRsp packet).outcome ≡ Some (carrying (asked net port packet))
-    arp_is =
-        ap sees (taken flows 121 LsInArpRsp packet _ (here LsInArpRsp (λ d. cond (is_request packet && not (is_answering d (value packet ArpTpa) port)) (answered_for packet (answering net d (value packet ArpTpa))) (On LsInL2Lkup packet)) (laws.answers net of.0 packet on port its_port from)))
-        ∙ by (is_request packet && not (is_answering dp (value packet ArpTpa) port)) (answering net dp (value packet ArpTpa)) refl
+    module _ (from : value packet Inport ≡ port.id.0) where
+      -- a packet that goes back by the port that it came in by
+      goes_back : (k : Values) → IsPacket k → value k Inport ≡ value packet Inport
+          → does (go_on (run_from flows 121) (ended flight (packets.StageEnd.Ends (Some (Leave (sent_back k) 0))))) (GoesOn (OnePort port.id) (turned_back k))
+      goes_back k is same_port = record {
+        passes = rw (back_outport k is ∙ same_port ∙ from, carried_back k is) (ap (λ target. Some (GoesOn target (carried (turned_back k)))) (to_one_port port there));
+        leaves = refl;
+      }
+
+      arp_is : does (run_from flows 122 LsInArpRsp flight) (asked net port packet)
+      arp_is =
+          after_step seen flows 121 LsInArpRsp flight _ (done (asked net port packet) flight.state)
+          (here flight LsInArpRsp (λ d. cond (is_request packet && not (is_answering d (value packet ArpTpa) port)) (answered_for packet (answering net d (value packet ArpTpa))) (packets.StageEnd.On LsInL2Lkup packet)) refl
+          (answers_requests net of.0 packet (on packet formed) port its_port from))
+          (by (is_request packet && not (is_answering dp (value packet ArpTpa) port)) (answering net dp (value packet ArpTpa)) refl)
+        where
+          by : (asks : Bool) (found : Option Port) → answering net dp (value packet ArpTpa) ≡ found
+              → does (go_on (run_from flows 121) (ended flight (cond asks (answered_for packet found) (packets.StageEnd.On LsInL2Lkup packet)))) (cond asks (means.answered_for net port packet found) (sent_on net dp packet))
+          by true None is = lookup_is
+          by true (Some q) is =
+              let mac = mac_with (value packet ArpTpa) q.addresses in
+              let fits = mac_fits net sound q (find_gives _ net.ports q is).0 (value packet ArpTpa) in
+              goes_back (arp_reply packet mac) (replied packet mac formed fits) (replied_inport packet mac)
+          by false found is = lookup_is
+
+  module _ (packet : Values) (state : State) (formed : IsPacket packet) (fresh : IsFresh packet) (from : value packet Inport ≡ port.id.0) where
+    -- the stages after those of connections, for a packet in which more is noted
+    rest_in : (flight : Flight) → IsPacket flight.packet → AreAlike flight.packet packet → Does seen (run_from flows 122 LsInArpRsp flight) (done (asked net port packet) flight.state)
+    rest_in flight is alike =
+        does_same seen (run_from flows 122 LsInArpRsp flight) (done (asked net port flight.packet) flight.state) (done (asked net port packet) flight.state) (same_asked flight.packet packet alike net port) refl
+        (arp_is flight is (alike.same Inport refl ∙ from))
+
+    through_lb : (flight : Flight) (did : Did) → IsPacket flight.packet → Does seen (run_from flows 123 LsInStateful flight) did → Does seen (run_from flows 124 LsInLb flight) did
+    through_lb flight did is rest =
+        after_step seen flows 123 LsInLb flight (On LsInStateful flight) did (here flight LsInLb (λ d. packets.StageEnd.On LsInStateful flight.packet) refl (passes-LsInLb net of.0 flight.packet (on flight.packet is))) rest
+
+    begins_in : run_pipeline flows Ingress 0 packet state ≡ run_from flows 128 LsInCheckPortSec (coming packet state)
+    unfolding stage_at all_stages
+    begins_in = pipeline_begins flows Ingress 0 packet state LsInCheckPortSec (ap (λ kind. stage_at kind Ingress 0) of_switch)
+
+    pub ingress_is : Does seen (run_pipeline flows Ingress 0 packet state) (arriving_at net port packet state)
+    ingress_is =
+        subst (λ run. Does seen run (arriving_at net port packet state)) (sym begins_in)
+        (after_step seen flows 127 LsInCheckPortSec (coming packet state) _ (arriving_at net port packet state)
+        (here (coming packet state) LsInCheckPortSec (λ d. cond (is_let_in port packet) (packets.StageEnd.On LsInPreAcl packet) (packets.StageEnd.Ends (Some (Drop PortSec)))) refl (checks_in net of.0 packet (on packet formed) port its_port from))
+        (by (is_let_in port packet)))
       where
-        by : (asks : Bool) (found : Option Port) → answering net dp (value packet ArpTpa) ≡ found
-            → sees (go_on (run_from flows 121) (cond asks (answered_for packet found) (On LsInL2Lkup packet))).outcome
-            ≡ Some (carrying (cond asks (means.answered_for net port packet found) (sent_on net dp packet)))
-        by true None is = lookup_is
-        by true (Some q) is =
-            let mac = mac_with (value packet ArpTpa) q.addresses in
-            let fits = mac_fits net sound q (find_gives _ net.ports q is).0 (value packet ArpTpa) in
-            goes_back (arp_reply packet mac) (replied packet mac formed fits) (replied_inport packet mac)
-        by false found is = lookup_is
-
-    -- the packet that answers a rejected one
-    rejection_is : IsPacket (rejection packet)
-    rejection_is = by (meets packet Tcp)
-      where
-        by : (tcp : Bool) → IsPacket (cond tcp (reset packet) (icmp_error packet PortUnreachable))
-        by true = reset_is packet formed
-        by false = error_is packet formed
-
-    rejection_inport : value (rejection packet) Inport ≡ value packet Inport
-    rejection_inport = by (meets packet Tcp)
-      where
-        by : (tcp : Bool) → value (cond tcp (reset packet) (icmp_error packet PortUnreachable)) Inport ≡ value packet Inport
-        by true = reset_inport packet
-        by false = error_inport packet
-
-    allowed_in : sees (run_from flows 124 LsInLb packet).outcome ≡ Some (carrying (asked net port packet))
-    allowed_in =
-        ap sees (taken flows 123 LsInLb packet _ (here LsInLb (λ d. On LsInStateful packet) (laws.in_lb net of.0 packet on)))
-        ∙ ap sees (taken flows 122 LsInStateful packet _ (here LsInStateful (λ d. On LsInArpRsp packet) (laws.in_stateful net of.0 packet on)))
-        ∙ arp_is
-
-    acl_in : sees (run_from flows 125 LsInAclEval packet).outcome ≡ Some (carrying (means.decided (decision net dp From packet) packet (asked net port packet)))
-    acl_in = ap sees (taken flows 124 LsInAclEval packet _ (here LsInAclEval (λ d. decided (decision net d From packet) LsInLb packet) (laws.decides_in net of.0 packet on))) ∙ by (decision net dp From packet)
-      where
-        answer : (may : Bool) → sees (go_on (run_from flows 124) (cond may (Ends (Some (Made (sent_back (rejection packet)) (last_table kinds.Switch) Reject))) (Ends (Some (Drop Acl))))).outcome
-            ≡ Some (carrying (cond may (Makes Reject (numbered (value packet Inport)) (turned_back (rejection packet))) (Drops Acl)))
-        answer true = rw (back_outport (rejection packet) rejection_is ∙ rejection_inport, carried_back (rejection packet) rejection_is) refl
-        answer false = refl
-
-        by : (what : Decision) → sees (go_on (run_from flows 124) (decided what LsInLb packet)).outcome ≡ Some (carrying (means.decided what packet (asked net port packet)))
-        by Allowed = allowed_in
-        by Dropped = refl
-        by Rejected = answer (is_answerable packet)
-        by Full = refl
-
-    let_in_is : sees (run_from flows 127 LsInPreAcl packet).outcome ≡ Some (carrying (means.decided (decision net dp From packet) packet (asked net port packet)))
-    let_in_is =
-        ap sees (taken flows 126 LsInPreAcl packet _ (here LsInPreAcl (λ d. On LsInPreStateful packet) (laws.in_pre_acl net of.0 packet on)))
-        ∙ ap sees (taken flows 125 LsInPreStateful packet _ (here LsInPreStateful (λ d. On LsInAclEval packet) (laws.in_pre_stateful net of.0 packet on)))
-        ∙ acl_in
-
-    pub ingress_at : sees (run_pipeline flows Ingress 0 packet).outcome ≡ Some (carrying (cond (is_let_in port packet) (means.decided (decision net dp From packet) packet (asked net port packet)) (Drops PortSec)))
-    ingress_at =
-        ap sees (begins_in ∙ taken flows 127 LsInCheckPortSec packet _ (here LsInCheckPortSec (λ d. cond (is_let_in port packet) (On LsInPreAcl packet) (Ends (Some (Drop PortSec)))) (laws.checks_in net of.0 packet on port its_port from)))
-        ∙ by (is_let_in port packet)
-      where
-        by : (b : Bool) → sees (go_on (run_from flows 127) (cond b (On LsInPreAcl packet) (Ends (Some (Drop PortSec))))).outcome
-            ≡ Some (carrying (cond b (means.decided (decision net dp From packet) packet (asked net port packet)) (Drops PortSec)))
-        by true = let_in_is
-        by false = refl
+        by : (b : Bool) → Does seen (go_on (run_from flows 127) (ended (coming packet state) (cond b (packets.StageEnd.On LsInPreAcl packet) (packets.StageEnd.Ends (Some (Drop PortSec))))))
+            (cond b (after_acls (ruled net From port packet state) packet (asked net port packet)) (done (Drops PortSec) state))
+        by true = acl_part net sound port From packet state formed fresh from (asked net port packet) 122 rest_in 124 through_lb of_host (where_tracked From) (where_not From)
+        by false = record { passes = refl; leaves = refl }
 
   -- ---- egress
 
-  module _ (to : value packet Outport ≡ port.id.0) where
-    -- what the walk sees of an outcome of egress
-    abbrev sees_out : Option Outcome → Option Passed
-    sees_out outcome = option_map carrying (after_egress outcome)
+  -- the last step
+  checked_out : (flight : Flight) → IsPacket flight.packet → value flight.packet Outport ≡ port.id.0 → (budget : ℕ) → Does after_egress (run_from flows (suc budget) LsOutCheckPortSec flight) (done (let_out port flight.packet) flight.state)
+  checked_out flight is to budget =
+      after_step after_egress flows budget LsOutCheckPortSec flight _ (done (let_out port flight.packet) flight.state)
+      (here flight LsOutCheckPortSec (λ d. cond (is_let_out port flight.packet) (packets.StageEnd.Ends (Some (Deliver flight.packet))) (packets.StageEnd.Ends (Some (Drop PortSec)))) refl (checks_out net of.0 flight.packet (on flight.packet is) port its_port to))
+      (by (is_let_out port flight.packet))
+    where
+      by : (b : Bool) → Does after_egress (go_on (run_from flows budget) (ended flight (cond b (packets.StageEnd.Ends (Some (Deliver flight.packet))) (packets.StageEnd.Ends (Some (Drop PortSec))))))
+          (done (cond b (GoesOn (OnePort port.id) flight.packet) (Drops PortSec)) flight.state)
+      by true = record { passes = ap (λ n. Some (GoesOn (OnePort (numbered n)) (carried flight.packet))) to; leaves = refl }
+      by false = record { passes = refl; leaves = refl }
 
-    begins_out : (run_pipeline flows Egress 0 packet).outcome ≡ (run_from flows 128 LsOutPreAcl packet).outcome
+  module _ (packet : Values) (state : State) (formed : IsPacket packet) (to : value packet Outport ≡ port.id.0) where
+    rest_out : (flight : Flight) → IsPacket flight.packet → AreAlike flight.packet packet → Does after_egress (run_from flows 124 LsOutCheckPortSec flight) (done (let_out port packet) flight.state)
+    rest_out flight is alike =
+        does_same after_egress (run_from flows 124 LsOutCheckPortSec flight) (done (let_out port flight.packet) flight.state) (done (let_out port packet) flight.state) (same_out flight.packet packet alike port) refl
+        (checked_out flight is (alike.same Outport refl ∙ to) 123)
+
+    begins_out : run_pipeline flows Egress 0 packet state ≡ run_from flows 128 LsOutPreAcl (coming packet state)
     unfolding stage_at all_stages
-    begins_out = ap (λ (w : PipelineRun). w.outcome) (pipeline_begins flows Egress 0 packet LsOutPreAcl (ap (λ kind. stage_at kind Egress 0) of_switch))
+    begins_out = pipeline_begins flows Egress 0 packet state LsOutPreAcl (ap (λ kind. stage_at kind Egress 0) of_switch)
 
-    begins_late : (run_pipeline flows Egress (last_table kinds.Switch) packet).outcome ≡ (run_from flows 128 LsOutCheckPortSec packet).outcome
+    begins_late : run_pipeline flows Egress (last_table kinds.Switch) packet state ≡ run_from flows 128 LsOutCheckPortSec (coming packet state)
     unfolding stage_at all_stages
-    begins_late = ap (λ (w : PipelineRun). w.outcome) (pipeline_begins flows Egress (last_table kinds.Switch) packet LsOutCheckPortSec (ap (λ kind. stage_at kind Egress (last_table kinds.Switch)) of_switch))
+    begins_late = pipeline_begins flows Egress (last_table kinds.Switch) packet state LsOutCheckPortSec (ap (λ kind. stage_at kind Egress (last_table kinds.Switch)) of_switch)
 
-    -- the last step
-    checked_out : (budget : ℕ) → sees_out (run_from flows (suc budget) LsOutCheckPortSec packet).outcome ≡ Some (carrying (let_out port packet))
-    checked_out budget =
-        ap sees_out (taken flows budget LsOutCheckPortSec packet _ (here LsOutCheckPortSec (λ d. cond (is_let_out port packet) (Ends (Some (Deliver packet))) (Ends (Some (Drop PortSec)))) (laws.checks_out net of.0 packet on port its_port to)))
-        ∙ by (is_let_out port packet)
-      where
-        by : (b : Bool) → sees_out (go_on (run_from flows budget) (cond b (Ends (Some (Deliver packet))) (Ends (Some (Drop PortSec))))).outcome ≡ Some (carrying (cond b (GoesOn (OnePort port.id) packet) (Drops PortSec)))
-        by true = ap (λ n. Some (GoesOn (OnePort (numbered n)) (carried packet))) to
-        by false = refl
+    pub egress_is : IsFresh packet → Does after_egress (run_pipeline flows Egress 0 packet state) (leaving_by net port packet state)
+    egress_is fresh =
+        subst (λ run. Does after_egress run (leaving_by net port packet state)) (sym begins_out)
+        (acl_part net sound port To packet state formed fresh to (let_out port packet) 124 rest_out 125 (λ flight did is rest. rest) of_host (where_tracked To) (where_not To))
 
-    acl_out : sees_out (run_from flows 126 LsOutAclEval packet).outcome ≡ Some (carrying (means.decided (decision net dp To packet) packet (let_out port packet)))
-    acl_out = ap sees_out (taken flows 125 LsOutAclEval packet _ (here LsOutAclEval (λ d. decided (decision net d To packet) LsOutStateful packet) (laws.decides_out net of.0 packet on))) ∙ by (decision net dp To packet)
-      where
-        rejection_is' : (tcp : Bool) → IsPacket (cond tcp (reset packet) (icmp_error packet PortUnreachable))
-        rejection_is' true = reset_is packet formed
-        rejection_is' false = error_is packet formed
-
-        rejection_inport' : (tcp : Bool) → value (cond tcp (reset packet) (icmp_error packet PortUnreachable)) Inport ≡ value packet Inport
-        rejection_inport' true = reset_inport packet
-        rejection_inport' false = error_inport packet
-
-        answer : (may : Bool) → sees_out (go_on (run_from flows 125) (cond may (Ends (Some (Made (sent_back (rejection packet)) (last_table kinds.Switch) Reject))) (Ends (Some (Drop Acl))))).outcome
-            ≡ Some (carrying (cond may (Makes Reject (numbered (value packet Inport)) (turned_back (rejection packet))) (Drops Acl)))
-        answer true = rw (back_outport (rejection packet) (rejection_is' (meets packet Tcp)) ∙ rejection_inport' (meets packet Tcp), carried_back (rejection packet) (rejection_is' (meets packet Tcp))) refl
-        answer false = refl
-
-        by : (what : Decision) → sees_out (go_on (run_from flows 125) (decided what LsOutStateful packet)).outcome ≡ Some (carrying (means.decided what packet (let_out port packet)))
-        by Allowed = ap sees_out (taken flows 124 LsOutStateful packet _ (here LsOutStateful (λ d. On LsOutCheckPortSec packet) (laws.out_stateful net of.0 packet on))) ∙ checked_out 123
-        by Dropped = refl
-        by Rejected = answer (is_answerable packet)
-        by Full = refl
-
-    pub egress_at : sees_out (run_pipeline flows Egress 0 packet).outcome ≡ Some (carrying (means.decided (decision net dp To packet) packet (let_out port packet)))
-    egress_at =
-        ap sees_out (begins_out ∙ taken flows 127 LsOutPreAcl packet _ (here LsOutPreAcl (λ d. On LsOutPreStateful packet) (laws.out_pre_acl net of.0 packet on)))
-        ∙ ap sees_out (taken flows 126 LsOutPreStateful packet _ (here LsOutPreStateful (λ d. On LsOutAclEval packet) (laws.out_pre_stateful net of.0 packet on)))
-        ∙ acl_out
-
-    pub late_at : sees_out (run_pipeline flows Egress (last_table kinds.Switch) packet).outcome ≡ Some (carrying (let_out port packet))
-    late_at = ap sees_out begins_late ∙ checked_out 127
+    pub late_is : Does after_egress (run_pipeline flows Egress (last_table kinds.Switch) packet state) (leaving_late port packet state)
+    late_is = subst (λ run. Does after_egress run (leaving_late port packet state)) (sym begins_late) (checked_out (coming packet state) formed to 127)

@@ -10,7 +10,7 @@ use Rattle.expr_eval.specs.MatchMeaning.{holds}
 use Rattle.act_core.specs.declared.action.Action.{Action}
 use Rattle.act_core.specs.declared.action.Action.TheVariants as action
 use Rattle.act_core.specs.declared.step.Step.{Step}
-use Rattle.act_core.specs.declared.step.Step.TheVariants.{Copy, Exchange, DecTtl, PutArp, GetArp}
+use Rattle.act_core.specs.declared.step.Step.TheVariants.{Copy, Exchange, DecTtl, CtCommit, PutArp, GetArp}
 use Rattle.nb_model.specs.Names.{names}
 use Rattle.nb_model.specs.Network.{Network}
 use Rattle.sb_model.specs.declared.row.Row.{Row}
@@ -28,6 +28,11 @@ reads PutArp = Inport ∷ ArpSpa ∷ ArpSha ∷ []
 reads GetArp = Outport ∷ Reg0 ∷ []
 reads _ = []
 
+-- what an action leaves to those after it: a commit leaves the packet as it was
+abbrev pub left_by : Lookup → Stage → Step → Values → Effect
+left_by net stage (CtCommit blocked) packet = Changed packet
+left_by net stage step packet = effect net stage step packet
+
 -- what is asked of the packet that an action leaves; after one that ends the step nothing is
 abbrev pub once_changed : Effect → (Values → Bool) → Bool
 once_changed (Changed packet) asked = asked packet
@@ -36,7 +41,7 @@ once_changed (Done ending) asked = true
 -- each field that an action of a block reads is there, in the packet as the actions before it leave it
 abbrev pub block_finds : Lookup → Stage → List Step → Values → Bool
 block_finds net stage [] packet = true
-block_finds net stage (step ∷ others) packet = list_all (is_there packet) (reads step) && once_changed (effect net stage step packet) (block_finds net stage others)
+block_finds net stage (step ∷ others) packet = list_all (is_there packet) (reads step) && once_changed (left_by net stage step packet) (block_finds net stage others)
 
 -- in the packet that answers, where one does
 abbrev pub answer_finds : Lookup → Stage → List Step → Option Values → Bool
@@ -46,7 +51,7 @@ answer_finds net stage block (Some packet) = block_finds net stage block packet
 -- the same of a row's actions; the block of `arp` is not run yet
 abbrev pub actions_find : Lookup → Stage → List Action → Values → Bool
 actions_find net stage [] packet = true
-actions_find net stage (action.Step step ∷ others) packet = list_all (is_there packet) (reads step) && once_changed (effect net stage step packet) (actions_find net stage others)
+actions_find net stage (action.Step step ∷ others) packet = list_all (is_there packet) (reads step) && once_changed (left_by net stage step packet) (actions_find net stage others)
 actions_find net stage (action.TcpReset block ∷ others) packet = answer_finds net stage block (reset_for packet)
 actions_find net stage (action.Icmp4 block ∷ others) packet = answer_finds net stage block (error_for packet)
 actions_find net stage (action.Reject block ∷ others) packet = answer_finds net stage block (answer_for packet)

@@ -2,7 +2,7 @@
 use Rattle.std.specs.Prelude.{◌≡◌, ℕ, List, Contains, Some, option_map}
 use Rattle.ct_core.specs.State.{State}
 use Rattle.nv_base.specs.declared.object.ObjId.{ObjId}
-use Rattle.nv_base.specs.declared.field.Field.TheVariants.{Inport, Outport}
+use Rattle.nv_base.specs.declared.field.Field.TheVariants.{Inport, Outport, CtState, CtMarkBlocked, Reg0}
 use Rattle.pkt_core.specs.Packet.{Values, IsPacket, value}
 use Rattle.nb_records.specs.declared.switch.Port.{Port}
 use Rattle.nb_model.specs.Network.{Network}
@@ -20,14 +20,20 @@ pub record DoesPart (part : Part Hit State) (did : Did) : Type 0 where
   pub passes : option_map carrying part.passed ≡ Some (carrying did.passed)
   pub leaves : part.state ≡ did.state
 
+-- no stage has noted anything in the packet: that it is to be tracked or kept, or what a look-up told
+pub record IsFresh (packet : Values) : Type 0 where
+  pub register : value packet Reg0 ≡ 0
+  pub flags : value packet CtState ≡ 0
+  pub mark : value packet CtMarkBlocked ≡ 0
+
 abbrev pub IsIngress : Network → Type 0
 IsIngress net =
-    (port : Port) (packet : Values) (state : State) → Contains net.ports port → IsPacket packet → value packet Inport ≡ port.id.0
+    (port : Port) (packet : Values) (state : State) → Contains net.ports port → IsPacket packet → IsFresh packet → value packet Inport ≡ port.id.0
     → DoesPart (ingress net port.id packet state) (arriving_at net port packet state)
 
 abbrev pub IsEgress : Network → Type 0
 IsEgress net =
-    (port : Port) (packet : Values) (state : State) → Contains net.ports port → IsPacket packet → value packet Outport ≡ port.id.0
+    (port : Port) (packet : Values) (state : State) → Contains net.ports port → IsPacket packet → IsFresh packet → value packet Outport ≡ port.id.0
     → DoesPart (egress net 0 port.id packet state) (leaving_by net port packet state)
 
 abbrev pub IsLate : Network → Type 0

@@ -1,7 +1,7 @@
 ghost use Rattle.std.specs.Prelude.{◌≡◌, List, map};
 ghost use Rattle.nb_model.specs.Network.{Network};
 ghost use Rattle.nb_model.specs.Sound.{IsSound};
-ghost use Rattle.net_meaning.specs.Stateless.{IsStateless};
+ghost use Rattle.nb_model.specs.Plain.{IsPlain};
 ghost use Rattle.net_meaning.specs.Walk.{Told, events};
 ghost use Rattle.tr_stage.specs.declared.outcome.Hit.{Hit};
 ghost use Rattle.tr_walk.specs.Events.{event_of, without_hits};
@@ -9,27 +9,26 @@ ghost use Rattle.tr_walk.specs.Reads.{FindWhatTheyRead};
 ghost use Rattle.tr_walk.specs.Refined.{IsIngress, IsEgress, IsLate, IsRefined};
 ghost use Rattle.tr_walk.specs.Runnable.{AreRunnable};
 
-/// The pipelines of a switch do what the switch does with a packet that arrives, leaves, or leaves late, in each sound network
-/// without connections.
+/// The pipelines of a switch do what the switch does with a packet that arrives, leaves, or leaves late, in each sound plain network.
 pub fn pipelines_do_their_parts()
-    ensures ingress { (net : Network) → IsSound net → IsStateless net → IsIngress net }
-    ensures egress { (net : Network) → IsSound net → IsStateless net → IsEgress net }
-    ensures late { (net : Network) → IsSound net → IsStateless net → IsLate net }
+    ensures ingress { (net : Network) → IsSound net → IsPlain net → IsIngress net }
+    ensures egress { (net : Network) → IsSound net → IsPlain net → IsEgress net }
+    ensures late { (net : Network) → IsSound net → IsPlain net → IsLate net }
 {}
 
-/// In each sound network without connections the rows do with each packet what the network does with it.
-pub fn stateless_networks_are_refined()
-    ensures { (net : Network) → IsSound net → IsStateless net → IsRefined net }
+/// In each sound plain network the rows do with each packet what the network does with it.
+pub fn plain_networks_are_refined()
+    ensures { (net : Network) → IsSound net → IsPlain net → IsRefined net }
 {}
 
-/// In the rows of each sound network without connections each packet comes to an end, on each of its switches.
-pub fn rows_of_stateless_networks_are_runnable()
-    ensures { (net : Network) → IsSound net → IsStateless net → AreRunnable net }
+/// In the rows of each sound plain network each packet comes to an end, on each of its switches.
+pub fn rows_of_plain_networks_are_runnable()
+    ensures { (net : Network) → IsSound net → IsPlain net → AreRunnable net }
 {}
 
-/// In the rows of each sound network without connections no action reads a field that the packet does not have.
+/// In the rows of each sound plain network no action reads a field that the packet does not have.
 pub fn rows_find_what_they_read()
-    ensures { (net : Network) → IsSound net → IsStateless net → FindWhatTheyRead net }
+    ensures { (net : Network) → IsSound net → IsPlain net → FindWhatTheyRead net }
 {}
 
 /// The events of a walk by rows, hits left out, are what happens in it.

@@ -8,7 +8,7 @@ ghost use Rattle.sb_model.specs.declared.stage.Pipeline.TheVariants as pipelines
 ghost use Rattle.nb_model.specs.Network.{same};
 ghost use Rattle.nb_model.specs.Sound.{IsSound};
 ghost use Rattle.net_meaning.specs.Places.{datapath_at};
-ghost use Rattle.net_meaning.specs.Stateless.{IsStateless};
+ghost use Rattle.nb_model.specs.Plain.{IsPlain};
 ghost use Rattle.net_meaning.specs.Walk.{carried, told_of};
 ghost use Rattle.net_meaning.specs.Walk.Target.{Ports};
 ghost use Rattle.net_rows.specs.Build as build;
@@ -54,7 +54,7 @@ pub fn trace(
     ensures events { IfOk result (λ events. events.items ≡ map event_of (machine records.now hops port packet.now state.old).told) }
     ensures state { OnOk result (state.new ≡ (machine records.now hops port packet.now state.old).state) }
     ensures same { OnErr result (state.new ≡ state.old) }
-    ensures refinement { IfOk result (λ events. IsStateless records.now → IsMeant records.now hops port packet.now (record { before = state.old; told = events.items; after = state.new })) }
+    ensures refinement { IfOk result (λ events. IsPlain records.now → IsMeant records.now hops port packet.now (record { before = state.old; told = events.items; after = state.new })) }
 {
     let mut events = Vec::with_capacity(alloc, FEW)?;
     let flows = Flows {

@@ -15,5 +15,5 @@ loop-at-preserved c =
 pub returns : goal.returns
 returns c = record {
   rise = IsNonDecreasingBy-from_sort (λ x. x) _ c.sort_unstable.ensures.sorted;
-  covered = λ i d from to. covered_more _ i _ _ c.loop-at.spots.items _ (λ s h. h) (λ x. Contains-permutation _ _ x c.sort_unstable.ensures.permutation) (c.loop-at.invariant i d from (omega (arith, to, c.loop-at-test.false)));
+  covered = λ i d from to. covered_more _ i _ _ c.loop-at.spots.items _ (λ s. Contains-permutation _ _ s c.reverse.ensures.permutation) (λ x. Contains-permutation _ _ x c.sort_unstable.ensures.permutation) (c.loop-at.invariant i d from (omega (arith, to, c.loop-at-test.false)));
 }

@@ -4,14 +4,14 @@ use Rattle.ct_core.specs.declared.look.Side.TheVariants.{Orig, Reply}
 use Rattle.ct_core.specs.Changes.{without_zone}
 use Rattle.ct_core.specs.Entry.{has, is_in}
 use Rattle.ct_table.specs.inner.Index.{IsIndexed, Places}
-use Rattle.ct_table.proofs.Indexed.{indexed_without, keys_left}
+use Rattle.ct_table.proofs.Indexed.{indexed_without, keys_left, not_there}
 use Rattle.ct_table.proofs.Removed.{left_by, without-none}
 use Rattle.ct_table.proofs.conns.Conns.drop_zone.Goals as goal
 
 pub returns-then-not-swap_remove : goal.returns-then-not-swap_remove
 returns-then-not-swap_remove c =
     let conns = c.self.inside.entries.items in
-    let none : list_any (is_in c.args.zone) conns ≡ false = sym (c.self.invariant.by_zone c.args.zone) ∙ sym c.swap_remove.ensures.found ∙ c.if-not-swap_remove.true in
+    let none : list_any (is_in c.args.zone) conns ≡ false = not_there _ _ (c.self.invariant.by_zone c.args.zone) (sym c.swap_remove.ensures.found ∙ c.if-not-swap_remove.true) in
     sym (without-none c.args.zone conns none) ∙ ap (without_zone c.args.zone) c.self.view_is
 
 pub renumber-requires-clause-keys : goal.renumber-requires-clause-keys

@@ -1,5 +1,5 @@
-use Rattle.std.proofs.Common.{◌≡◌, ◌∙◌, Bool, true, false, not, is_some, refl, sym, ap}
-use Rattle.std.specs.List.{position, list_any}
+use Rattle.std.proofs.Common.{◌≡◌, ◌∙◌, Bool, true, false, not, is_some, refl, ap}
+use Rattle.std.specs.List.{position}
 use Rattle.pkt_core.specs.Tuple.{swap}
 use Rattle.ct_core.specs.declared.look.Side.TheVariants.{Reply}
 use Rattle.ct_core.specs.Entry.{has}

@@ -1,4 +1,4 @@
-use Rattle.std.proofs.Common.{◌∙◌, sym, arith}
+use Rattle.std.proofs.Common.{◌∙◌, sym}
 use Rattle.ct_core.specs.Translation.{is_free}
 use Rattle.ct_core.proofs.Ports.{found, none_left, passed}
 use Rattle.ct_table.proofs.conns.Conns.least_free.Goals as goal

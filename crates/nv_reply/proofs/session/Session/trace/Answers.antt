@@ -1,16 +1,27 @@
-use Rattle.std.proofs.Common.{◌∙◌, ap}
-use Rattle.net_meaning.proofs.Stateless.{stateless}
+use Rattle.std.proofs.Common.{◌∙◌, ap, sym, subst}
 use Rattle.tr_walk.proofs.Ends.{runnable}
-use Rattle.nv_reply.proofs.Reached.{plain_refined}
+use Rattle.tr_walk.proofs.Refinement.{plain_is_refined}
+use Rattle.tr_walk.specs.Runnable.{AreRunnable}
+use Rattle.nv_reply.proofs.Tracing.{left_from, told_from}
 use Rattle.nv_reply.proofs.session.Session.trace.Goals as goal
 
 -- each packet comes to an end in the rows of the network
-pub trace_alone-requires-clause-run : goal.trace_alone-requires-clause-run
-trace_alone-requires-clause-run c =
-    let same_network = c.records.ensures.records ∙ ap (λ session. session.network) (c.self.view_is ∙ c.in_ok-rows.ensures.same) in
+pub trace-requires-clause-run : goal.trace-requires-clause-run
+trace-requires-clause-run c =
+    let same_network = c.records-records.ensures.records ∙ ap (λ session. session.network) (c.self.view_is ∙ c.in_ok-rows.ensures.same) in
     let net = c.args.self.now.network in
-    rw same_network (runnable net c.in_ok-rows.ensures.rows.sound (stateless net c.in_ok-rows.ensures.rows.plain))
+    subst AreRunnable (sym same_network) (runnable net c.in_ok-rows.ensures.rows.sound c.in_ok-rows.ensures.rows.plain)
 
 -- the rows do what the network does
 pub returns-clause-refinement : goal.returns-clause-refinement
-returns-clause-refinement c = plain_refined c.args.self.now.network c.in_ok-rows.ensures.rows.sound c.in_ok-rows.ensures.rows.plain
+returns-clause-refinement c = plain_is_refined c.args.self.now.network c.in_ok-rows.ensures.rows.sound c.in_ok-rows.ensures.rows.plain
+
+pub returns-clause-events : goal.returns-clause-events
+returns-clause-events c =
+    told_from _ c.args.self.now c.args.port c.args.packet.now c.records-records.result.now c.from-hops.result c.records-records.ensures.records c.from-hops.ensures
+    (c.self.view_is ∙ c.in_ok-rows.ensures.same) c.in_ok-events.events.items c.in_ok-events.ensures.events
+
+pub returns-clause-after : goal.returns-clause-after
+returns-clause-after c =
+    left_from _ c.args.self.now c.args.port c.args.packet.now c.records-records.result.now c.from-hops.result c.records-records.ensures.records c.from-hops.ensures
+    (c.self.view_is ∙ c.in_ok-rows.ensures.same) c.trace.new.state c.in_ok-events.ensures.state

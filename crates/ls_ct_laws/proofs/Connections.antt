@@ -1,0 +1,481 @@
+-- What the stages around the decision do with a packet, where a switch tracks connections: the first notes which packets are to be tracked, the
+-- second tracks them, and the last keeps the connections that are to be kept.
+use Rattle.std.proofs.Common.{◌≡◌, ℕ, ◌+◌, ◌<◌, Bool, true, false, cond, List, [], ◌∷◌, sym, ap, refl, ◌∙◌, subst, ◌⊎◌, inl, inr, arith}
+use Rattle.std.specs.Prelude.{◌&&◌, ◌||◌, not, if◌then◌else◌}
+use Rattle.std.specs.List.{Contains}
+use Rattle.std.proofs.Math.Bool.{or-false}
+use Rattle.std.proofs.lemmas.Bool.{false≢true, and_from, and_parts}
+use Rattle.nv_base.specs.declared.object.ObjId.{ObjId}
+use Rattle.nv_base.specs.declared.field.Field.TheVariants.{EthDst, Reg0}
+use Rattle.pkt_core.specs.Packet.{value}
+use Rattle.pkt_core.specs.Prerequisite.{is_ip4}
+use Rattle.expr_core.specs.Formula.{Formula}
+use Rattle.expr_core.specs.declared.predicate.Pred.TheVariants.{EthMcast, Ip4}
+use Rattle.expr_core.specs.declared.typed.TypedAtom.{TypedAtom}
+use Rattle.expr_eval.specs.MatchMeaning.{holds}
+use Rattle.act_core.specs.declared.action.Action.{Action}
+use Rattle.act_core.specs.declared.step.Step.TheVariants as action_step
+use Rattle.nb_records.specs.declared.acl.Acl.{Acl}
+use Rattle.nb_records.specs.declared.acl.Way.{Way}
+use Rattle.nb_records.specs.declared.acl.Way.TheVariants.{From, To}
+use Rattle.nb_records.specs.declared.switch.Switch.{Switch}
+use Rattle.nb_model.specs.Applies.{acls, applies, tracks}
+use Rattle.nb_model.specs.Belongs.{same_way}
+use Rattle.nb_model.specs.Names.{names}
+use Rattle.nb_model.specs.Network.{Network}
+use Rattle.nb_model.specs.Plain.{IsPlain}
+use Rattle.nb_model.specs.Readable.{is_priority}
+use Rattle.nb_model.specs.Sound.{IsSound}
+use Rattle.sb_model.specs.Make.{is_predicate, bit_is_set, steps, goes_on}
+use Rattle.sb_model.specs.Stage.{all_stages, next_stage, pipeline_of, stage_at, stage_place}
+use Rattle.sb_model.specs.declared.row.Row.{Row}
+use Rattle.sb_model.specs.declared.stage.Pipeline.TheVariants.{Ingress, Egress}
+use Rattle.sb_model.specs.declared.stage.Stage.{Stage}
+use Rattle.sb_model.specs.declared.stage.Stage.TheVariants.{LsInPreAcl, LsInStateful, LsInArpRsp, LsOutStateful, LsOutCheckPortSec}
+use Rattle.net_meaning.specs.Address.{is_multicast}
+use Rattle.net_meaning.specs.Tracked.{is_stateless, passes_untracked}
+use Rattle.net_rows.specs.Acls.{asks_to_track, first_stage_of, stage_of, switch_acl_rules, acl_on_rules}
+use Rattle.net_rows.specs.Build.{acl_on_input, has_unknown, rows, switch_rules}
+use Rattle.net_rows.specs.Lookup.{switch_l2_rules}
+use Rattle.net_rows.specs.Unit.{rule, row_of, unit_of, unit_of_datapath}
+use Rattle.net_rows.specs.declared.inputs.AclOnInput.{AclOnInput}
+use Rattle.net_rows.specs.declared.rule.Rule.{Rule}
+use Rattle.net_rows.proofs.Elements.{one_of, one_of_none, one_first, one_later, any_gives, any_from, Contains-filter, Contains-from_filter}
+use Rattle.net_rows.proofs.Sound.{each_passes}
+use Rattle.net_rows.proofs.Units.{rows-acl, rows-switch}
+use Rattle.tr_pipe.specs.Machine.{Effect, after, kept, run_actions, step}
+use Rattle.tr_pipe.specs.Machine.StageEnd.{On}
+use Rattle.tr_pipe.specs.Tracking.{Flight, committed, tracked, zone_of}
+use Rattle.ls_laws.specs.Steps.{flows_at}
+use Rattle.ls_laws.proofs.RuleStages.{rules_at, among_rules_at, from_rules_at, is_of_addresses, is_of_security, port_rule_stage}
+use Rattle.ls_laws.proofs.Tables.{IsSwitchRule, IsPortRule, IsAclRule, IsRule, filter_passes}
+use Rattle.ls_ct_laws.specs.Tracking.{Asks, Keeps, LooksUp, after_stateful, has_bit, is_to_track, keeps, pipeline_for, pre_stateful, stateful, with_bit}
+use Rattle.ls_ct_laws.proofs.Meets.{meets_above}
+use Rattle.ls_ct_laws.proofs.TrackedRules.{passing, tracked_switch_rules, switch_rules-tracked, acl_rule_stages, first_from, first_gives, first_rules, is_deciding, is_first, own_rules, own_stage, tracked_from, tracked_gives}
+
+-- ---- actions
+
+module _ (net : Network) (flight : Flight) where
+  first_passes : (w : Way) → run_actions (names net) (first_stage_of w) goes_on flight ≡ On (pre_stateful w) flight
+  unfolding next_stage stage_at all_stages
+  first_passes From = refl
+  first_passes To = refl
+
+  first_notes : (w : Way) → run_actions (names net) (first_stage_of w) (steps (asks_to_track ∷ action_step.Next ∷ [])) flight ≡ On (pre_stateful w) (with_bit 0 flight)
+  unfolding next_stage stage_at all_stages
+  first_notes From = refl
+  first_notes To = refl
+
+  second_passes : (w : Way) → run_actions (names net) (pre_stateful w) goes_on flight ≡ On (stage_of w) flight
+  unfolding next_stage stage_at all_stages
+  second_passes From = refl
+  second_passes To = refl
+
+  second_tracks : (w : Way) → run_actions (names net) (pre_stateful w) (steps (action_step.CtNext ∷ [])) flight ≡ On (stage_of w) (tracked (zone_of (pipeline_for w) flight.packet) flight)
+  unfolding next_stage stage_at all_stages pipeline_of
+  second_tracks From = refl
+  second_tracks To = refl
+
+  last_passes : (w : Way) → run_actions (names net) (stateful w) goes_on flight ≡ On (after_stateful w) flight
+  unfolding next_stage stage_at all_stages
+  last_passes From = refl
+  last_passes To = refl
+
+  last_keeps : (w : Way) → run_actions (names net) (stateful w) (steps (action_step.CtCommit false ∷ action_step.Next ∷ [])) flight ≡ keeps w flight
+  unfolding next_stage stage_at all_stages pipeline_of
+  last_keeps From = by (kept flight (committed (zone_of Ingress flight.packet) false flight.packet flight.state flight.look))
+    where
+      by : (e : Effect) → after e (run_actions (names net) LsInStateful (steps (action_step.Next ∷ []))) ≡ after e (λ later. On LsInArpRsp later)
+      by (Effect.Changed later) = refl
+      by (Effect.Done end) = refl
+  last_keeps To = by (kept flight (committed (zone_of Egress flight.packet) false flight.packet flight.state flight.look))
+    where
+      by : (e : Effect) → after e (run_actions (names net) LsOutStateful (steps (action_step.Next ∷ []))) ≡ after e (λ later. On LsOutCheckPortSec later)
+      by (Effect.Changed later) = refl
+      by (Effect.Done end) = refl
+
+-- ---- the rules of the stages
+
+-- the actions of the rules that note and that track
+abbrev notes : List Action
+notes = steps (asks_to_track ∷ action_step.Next ∷ [])
+
+abbrev tracks_it : List Action
+tracks_it = steps (action_step.CtNext ∷ [])
+
+abbrev keeps_it : List Action
+keeps_it = steps (action_step.CtCommit false ∷ action_step.Next ∷ [])
+
+first_are : (w : Way) (unknown : Bool) → rules_at (first_stage_of w) (tracked_switch_rules unknown)
+    ≡ passing (first_stage_of w) ∷ rule (first_stage_of w) 110 (is_predicate EthMcast) goes_on ∷ rule (first_stage_of w) 100 (is_predicate Ip4) notes ∷ []
+unfolding switch_acl_rules switch_l2_rules stage_place
+first_are From true = refl
+first_are From false = refl
+first_are To true = refl
+first_are To false = refl
+
+second_are : (w : Way) (unknown : Bool) → rules_at (pre_stateful w) (tracked_switch_rules unknown) ≡ passing (pre_stateful w) ∷ rule (pre_stateful w) 100 (bit_is_set Reg0 0) tracks_it ∷ []
+unfolding switch_acl_rules switch_l2_rules stage_place
+second_are From true = refl
+second_are From false = refl
+second_are To true = refl
+second_are To false = refl
+
+last_are : (w : Way) (unknown : Bool) → rules_at (stateful w) (tracked_switch_rules unknown) ≡ passing (stateful w) ∷ rule (stateful w) 100 (bit_is_set Reg0 1) keeps_it ∷ []
+unfolding switch_acl_rules switch_l2_rules stage_place
+last_are From true = refl
+last_are From false = refl
+last_are To true = refl
+last_are To false = refl
+
+-- no port has a rule in these stages
+abbrev of_ports : Stage → Bool
+of_ports stage = is_of_security stage || is_of_addresses stage
+
+-- nor has an ACL in the second and in the last
+abbrev of_acls : Stage → Bool
+of_acls stage = is_first stage || is_deciding stage
+
+first_not_ports : (w : Way) → of_ports (first_stage_of w) ≡ false
+first_not_ports From = refl
+first_not_ports To = refl
+
+second_not_ports : (w : Way) → of_ports (pre_stateful w) ≡ false
+second_not_ports From = refl
+second_not_ports To = refl
+
+second_not_acls : (w : Way) → of_acls (pre_stateful w) ≡ false
+second_not_acls From = refl
+second_not_acls To = refl
+
+last_not_ports : (w : Way) → of_ports (stateful w) ≡ false
+last_not_ports From = refl
+last_not_ports To = refl
+
+last_not_acls : (w : Way) → of_acls (stateful w) ≡ false
+last_not_acls From = refl
+last_not_acls To = refl
+
+-- ---- directions
+
+same_way-is : (v w : Way) → same_way v w ≡ true → v ≡ w
+same_way-is From From is = refl
+same_way-is From To is = absurd (false≢true is)
+same_way-is To From is = absurd (false≢true is)
+same_way-is To To is = refl
+
+same_way-self : (w : Way) → same_way w w ≡ true
+same_way-self From = refl
+same_way-self To = refl
+
+abbrev is_pre_acl : Stage → Bool
+is_pre_acl LsInPreAcl = true
+is_pre_acl _ = false
+
+first_tells : (v w : Way) → first_stage_of v ≡ first_stage_of w → v ≡ w
+first_tells From From is = refl
+first_tells From To is = absurd (false≢true (sym (ap is_pre_acl is)))
+first_tells To From is = absurd (false≢true (ap is_pre_acl is))
+first_tells To To is = refl
+
+first_is : (w : Way) → is_first (first_stage_of w) ≡ true
+first_is From = refl
+first_is To = refl
+
+own_not_first : (w : Way) → is_first (stage_of w) ≡ false
+own_not_first From = refl
+own_not_first To = refl
+
+module _ (net : Network) (switch : Switch) (flight : Flight) (plain : IsPlain net) (among : Contains net.switches switch) (tracking : tracks net switch.id ≡ true) where
+  abbrev dp : ObjId
+  dp = switch.id
+
+  abbrev row_at : Rule → Row
+  row_at says = row_of (unit_of_datapath dp) says
+
+  -- the rows of the switch in a stage, by its rules there
+  module _ (stage : Stage) (some : List Rule) (are : (unknown : Bool) → rules_at stage (tracked_switch_rules unknown) ≡ some) where
+    at_stage : rules_at stage (switch_rules net dp) ≡ some
+    at_stage = ap (rules_at stage) (switch_rules-tracked net dp plain tracking) ∙ are (has_unknown net dp)
+
+    row_there : (says : Rule) → Contains some says → Contains (rows net) (row_at says)
+    row_there says there = rows-switch net switch says among (from_rules_at stage (switch_rules net dp) some says at_stage there)
+
+    among_some : (x : Row) (of : IsSwitchRule net dp stage x) → Contains some of.says
+    among_some x of = subst (λ rs. Contains rs of.says) at_stage (among_rules_at stage (switch_rules net dp) of.says of.in_rules of.of_stage)
+
+  of_no_port : (stage : Stage) → of_ports stage ≡ false → (x : Row) → IsPortRule net dp stage x → ⊥
+  of_no_port stage no_port x of = false≢true (sym no_port ∙ sym (ap of_ports of.of_stage) ∙ port_rule_stage net of.port of.says of.in_rules)
+
+  of_no_acl : (stage : Stage) → of_acls stage ≡ false → (x : Row) → IsAclRule net dp stage x → ⊥
+  of_no_acl stage no_acl x of = false≢true (sym no_acl ∙ sym (ap of_acls of.of_stage) ∙ acl_rule_stages (acl_on_input net of.acl dp) of.says tracking of.in_rules)
+
+  -- ---- a stage with two rules: of the packets that the second takes, and of others
+
+  module _ (stage : Stage) (m : Formula TypedAtom) (actions : List Action) (are : (unknown : Bool) → rules_at stage (tracked_switch_rules unknown) ≡ passing stage ∷ rule stage 100 m actions ∷ [])
+      (no_port : of_ports stage ≡ false) (no_acl : of_acls stage ≡ false) where
+    abbrev low : Rule
+    low = passing stage
+
+    abbrev high : Rule
+    high = rule stage 100 m actions
+
+    abbrev takes : Formula TypedAtom → Bool
+    takes matching = holds (names net) flight.packet matching
+
+    one_of_two : (says : Rule) → Contains (low ∷ high ∷ []) says → (low ≡ says) ⊎ (high ≡ says)
+    one_of_two says there = by (one_of low (high ∷ []) says there)
+      where
+        last : (high ≡ says) ⊎ Contains [] says → (low ≡ says) ⊎ (high ≡ says)
+        last (inl is) = inr is
+        last (inr none) = absurd (one_of_none says none)
+
+        by : (low ≡ says) ⊎ Contains (high ∷ []) says → (low ≡ says) ⊎ (high ≡ says)
+        by (inl is) = inl is
+        by (inr later) = last (one_of high [] says later)
+
+    of_switch : (x : Row) → IsSwitchRule net dp stage x → (x ≡ row_at low) ⊎ (x ≡ row_at high)
+    of_switch x of = by (one_of_two of.says (among_some stage (low ∷ high ∷ []) are x of))
+      where
+        by : (low ≡ of.says) ⊎ (high ≡ of.says) → (x ≡ row_at low) ⊎ (x ≡ row_at high)
+        by (inl is) = inl (of.is ∙ sym (ap row_at is))
+        by (inr is) = inr (of.is ∙ sym (ap row_at is))
+
+    of_rule : (x : Row) → IsRule net dp stage x → (x ≡ row_at low) ⊎ (x ≡ row_at high)
+    of_rule x (inl of) = of_switch x of
+    of_rule x (inr (inl of)) = absurd (of_no_port stage no_port x of)
+    of_rule x (inr (inr of)) = absurd (of_no_acl stage no_acl x of)
+
+    two_rules : step (flows_at net dp) stage flight ≡ run_actions (names net) stage (cond (takes m) actions goes_on) flight
+    two_rules = by (takes m) refl
+      where
+        below : (x : Row) → (x ≡ row_at low) ⊎ (x ≡ row_at high) → (x.actions ≡ actions) ⊎ (x.priority < 100)
+        below x (inl is) = inr (subst (λ (r : Row). r.priority < 100) (sym is) (omega arith))
+        below x (inr is) = inl (ap (λ (r : Row). r.actions) is)
+
+        only : (x : Row) → takes m ≡ false → takes x.matching ≡ true → (x ≡ row_at low) ⊎ (x ≡ row_at high) → x.actions ≡ goes_on
+        only x none takes_x (inl is) = ap (λ (r : Row). r.actions) is
+        only x none takes_x (inr is) = absurd (false≢true (sym none ∙ sym (ap (λ (r : Row). takes r.matching) is) ∙ takes_x))
+
+        by : (b : Bool) → takes m ≡ b → step (flows_at net dp) stage flight ≡ run_actions (names net) stage (cond b actions goes_on) flight
+        by true it_takes =
+            meets_above net dp stage flight (row_at high) (row_there stage (low ∷ high ∷ []) are high (one_later low (high ∷ []) high (one_first high [] high refl))) refl refl it_takes
+            (λ x of takes_x. below x (of_rule x of))
+        by false none =
+            meets_above net dp stage flight (row_at low) (row_there stage (low ∷ high ∷ []) are low (one_first low (high ∷ []) low refl)) refl refl refl
+            (λ x of takes_x. inl (only x none takes_x (of_rule x of)))
+
+-- ---- the second stage and the last
+
+module _ (net : Network) (switch : Switch) (flight : Flight) (plain : IsPlain net) (among : Contains net.switches switch) (tracking : tracks net switch.id ≡ true) where
+  -- what is noted to be tracked is tracked
+  pub tracks_noted : (way : Way) → step (flows_at net switch.id) (pre_stateful way) flight ≡ On (stage_of way) (if has_bit 0 flight.packet then tracked (zone_of (pipeline_for way) flight.packet) flight else flight)
+  tracks_noted way =
+      two_rules net switch flight plain among tracking (pre_stateful way) (bit_is_set Reg0 0) tracks_it (second_are way) (second_not_ports way) (second_not_acls way)
+      ∙ by (has_bit 0 flight.packet)
+    where
+      by : (b : Bool) → run_actions (names net) (pre_stateful way) (cond b tracks_it goes_on) flight ≡ On (stage_of way) (cond b (tracked (zone_of (pipeline_for way) flight.packet) flight) flight)
+      by true = second_tracks net flight way
+      by false = second_passes net flight way
+
+  -- the connection of what is noted to be kept is kept
+  pub keeps_noted : (way : Way) → step (flows_at net switch.id) (stateful way) flight ≡ (if has_bit 1 flight.packet then keeps way flight else On (after_stateful way) flight)
+  keeps_noted way =
+      two_rules net switch flight plain among tracking (stateful way) (bit_is_set Reg0 1) keeps_it (last_are way) (last_not_ports way) (last_not_acls way)
+      ∙ by (has_bit 1 flight.packet)
+    where
+      by : (b : Bool) → run_actions (names net) (stateful way) (cond b keeps_it goes_on) flight ≡ cond b (keeps way flight) (On (after_stateful way) flight)
+      by true = last_keeps net flight way
+      by false = last_passes net flight way
+
+-- ---- the first stage
+
+module _ (net : Network) (switch : Switch) (flight : Flight) (sound : IsSound net) (plain : IsPlain net) (among : Contains net.switches switch) (tracking : tracks net switch.id ≡ true) (way : Way) where
+  abbrev at : Stage
+  at = first_stage_of way
+
+  abbrev switch_row : Rule → Row
+  switch_row says = row_of (unit_of_datapath switch.id) says
+
+  abbrev held : Formula TypedAtom → Bool
+  held matching = holds (names net) flight.packet matching
+
+  abbrev of_many : Rule
+  of_many = rule at 110 (is_predicate EthMcast) goes_on
+
+  abbrev of_ip4 : Rule
+  of_ip4 = rule at 100 (is_predicate Ip4) notes
+
+  abbrev three : List Rule
+  three = passing at ∷ of_many ∷ of_ip4 ∷ []
+
+  held_many : held (is_predicate EthMcast) ≡ is_multicast (value flight.packet EthDst)
+  held_many = or-false _
+
+  held_ip4 : held (is_predicate Ip4) ≡ is_ip4 flight.packet
+  held_ip4 = or-false _
+
+  -- ---- rows of ACLs there
+
+  -- what an ACL says there
+  abbrev untracking : Acl → Rule
+  untracking acl = rule at (acl.priority + 1000) acl.matching goes_on
+
+  abbrev untracking_row : Acl → Row
+  untracking_row acl = row_of (unit_of switch.id acl.id) (untracking acl)
+
+  record IsUntracking (x : Row) : Type 0 where
+    pub acl : Acl
+    pub applied : Contains (acls net switch.id way) acl
+    pub stateless : is_stateless acl.verdict ≡ true
+    pub is : x ≡ untracking_row acl
+
+  of_acl : (x : Row) → IsAclRule net switch.id at x → IsUntracking x
+  of_acl x of = by (tracked_gives input of.says tracking of.in_rules)
+    where
+      input : AclOnInput
+      input = acl_on_input net of.acl switch.id
+
+      by : Contains (first_rules input) of.says ⊎ Contains (own_rules input) of.says → IsUntracking x
+      by (inl there) =
+          let gives = first_gives of.acl.way (of.acl.priority + 1000) of.acl.matching of.acl.verdict of.says there in
+          let of_way : of.acl.way ≡ way = first_tells of.acl.way way (sym (ap (λ (r : Rule). r.stage) gives.1) ∙ of.of_stage) in
+          record {
+            acl = of.acl;
+            applied = Contains-filter (λ (a : Acl). applies net switch.id a && same_way a.way way) net.acls of.acl of.among (and_from (applies net switch.id of.acl) (same_way of.acl.way way) of.applied (ap (λ w. same_way w way) of_way ∙ same_way-self way));
+            stateless = gives.0;
+            is = of.is ∙ ap (row_of (unit_of switch.id of.acl.id)) (gives.1 ∙ ap (λ w. rule (first_stage_of w) (of.acl.priority + 1000) of.acl.matching goes_on) of_way);
+          }
+      by (inr there) = absurd (false≢true (sym (ap is_first (sym of.of_stage ∙ own_stage input of.says there) ∙ own_not_first of.acl.way) ∙ first_is way))
+
+  -- where one takes the packet, it passes untracked
+  untracked_by : (x : Row) → IsUntracking x → held x.matching ≡ true → passes_untracked net switch.id way flight.packet ≡ true
+  untracked_by x of takes =
+      any_from (λ (acl : Acl). is_stateless acl.verdict && holds (names net) flight.packet acl.matching) (acls net switch.id way) of.acl of.applied
+      (and_from (is_stateless of.acl.verdict) (held of.acl.matching) of.stateless (sym (ap (λ (r : Row). held r.matching) of.is) ∙ takes))
+
+  -- each such ACL has one
+  module _ (acl : Acl) (applied : Contains (acls net switch.id way) acl) (stateless : is_stateless acl.verdict ≡ true) where
+    listed : Contains net.acls acl
+    listed = Contains-from_filter (λ (a : Acl). applies net switch.id a && same_way a.way way) net.acls acl applied
+
+    parts : (applies net switch.id acl ≡ true) × (same_way acl.way way ≡ true)
+    parts = and_parts (applies net switch.id acl) (same_way acl.way way) (filter_passes (λ (a : Acl). applies net switch.id a && same_way a.way way) net.acls acl applied)
+
+    in_range : is_priority acl.priority ≡ true
+    in_range = each_passes (λ (a : Acl). is_priority a.priority) net.acls acl sound.readable.priorities listed
+
+    in_rules : Contains (acl_on_rules (acl_on_input net acl switch.id)) (untracking acl)
+    in_rules =
+        tracked_from (acl_on_input net acl switch.id) (untracking acl) tracking in_range
+        (inl (subst (λ w. Contains (first_rules (acl_on_input net acl switch.id)) (rule (first_stage_of w) (acl.priority + 1000) acl.matching goes_on)) (same_way-is acl.way way parts.1)
+        (first_from acl.way (acl.priority + 1000) acl.matching acl.verdict stateless)))
+
+    untracking_there : Contains (rows net) (untracking_row acl)
+    untracking_there = rows-acl net acl switch (untracking acl) listed (Contains-filter (λ (s : Switch). applies net s.id acl) net.switches switch among parts.0) in_rules
+
+  -- ---- all rows there
+
+  abbrev IsOneOf : Row → Type 0
+  IsOneOf x = (x ≡ switch_row (passing at)) ⊎ ((x ≡ switch_row of_many) ⊎ ((x ≡ switch_row of_ip4) ⊎ IsUntracking x))
+
+  of_three : (x : Row) (says : Rule) → x ≡ switch_row says → Contains three says → IsOneOf x
+  of_three x says is there = first (one_of (passing at) (of_many ∷ of_ip4 ∷ []) says there)
+    where
+      third : (of_ip4 ≡ says) ⊎ Contains [] says → IsOneOf x
+      third (inl same) = inr (inr (inl (is ∙ sym (ap switch_row same))))
+      third (inr none) = absurd (one_of_none says none)
+
+      second : (of_many ≡ says) ⊎ Contains (of_ip4 ∷ []) says → IsOneOf x
+      second (inl same) = inr (inl (is ∙ sym (ap switch_row same)))
+      second (inr later) = third (one_of of_ip4 [] says later)
+
+      first : (passing at ≡ says) ⊎ Contains (of_many ∷ of_ip4 ∷ []) says → IsOneOf x
+      first (inl same) = inl (is ∙ sym (ap switch_row same))
+      first (inr later) = second (one_of of_many (of_ip4 ∷ []) says later)
+
+  each_row : (x : Row) → IsRule net switch.id at x → IsOneOf x
+  each_row x (inl of) = of_three x of.says of.is (among_some net switch flight plain among tracking at three (first_are way) x of)
+  each_row x (inr (inl of)) = absurd (of_no_port net switch flight plain among tracking at (first_not_ports way) x of)
+  each_row x (inr (inr of)) = inr (inr (inr (of_acl x of)))
+
+  three_there : (says : Rule) → Contains three says → Contains (rows net) (switch_row says)
+  three_there says there = row_there net switch flight plain among tracking at three (first_are way) says there
+
+  -- but those of IPv4 packets, all rows say that the packet goes on
+  going : (x : Row) (priority : ℕ) → 100 < priority → IsOneOf x → (x.actions ≡ goes_on) ⊎ (x.priority < priority)
+  going x priority above (inl is) = inl (ap (λ (r : Row). r.actions) is)
+  going x priority above (inr (inl is)) = inl (ap (λ (r : Row). r.actions) is)
+  going x priority above (inr (inr (inl is))) = inr (subst (λ (r : Row). r.priority < priority) (sym is) above)
+  going x priority above (inr (inr (inr of))) = inl (ap (λ (r : Row). r.actions) of.is)
+
+  -- ---- what becomes of the packet
+
+  -- a packet for many goes on
+  many_go : is_multicast (value flight.packet EthDst) ≡ true → step (flows_at net switch.id) at flight ≡ On (pre_stateful way) flight
+  many_go many =
+      meets_above net switch.id at flight (switch_row of_many) (three_there of_many (one_later (passing at) (of_many ∷ of_ip4 ∷ []) of_many (one_first of_many (of_ip4 ∷ []) of_many refl))) refl refl (held_many ∙ many)
+      (λ x of takes. going x 110 (omega arith) (each_row x of))
+      ∙ first_passes net flight way
+
+  -- what a stateless ACL takes goes on
+  stateless_go : passes_untracked net switch.id way flight.packet ≡ true → step (flows_at net switch.id) at flight ≡ On (pre_stateful way) flight
+  stateless_go passes =
+      let found = any_gives (λ (acl : Acl). is_stateless acl.verdict && holds (names net) flight.packet acl.matching) (acls net switch.id way) passes in
+      let both = and_parts (is_stateless found.0.verdict) (held found.0.matching) found.2 in
+      meets_above net switch.id at flight (untracking_row found.0) (untracking_there found.0 found.1 both.0) refl refl both.1
+      (λ x of takes. going x (found.0.priority + 1000) (omega arith) (each_row x of))
+      ∙ first_passes net flight way
+
+  -- what is not of IPv4 goes on
+  others_go : is_ip4 flight.packet ≡ false → step (flows_at net switch.id) at flight ≡ On (pre_stateful way) flight
+  others_go other =
+      meets_above net switch.id at flight (switch_row (passing at)) (three_there (passing at) (one_first (passing at) (of_many ∷ of_ip4 ∷ []) (passing at) refl)) refl refl refl (λ x of takes. inl (same x takes (each_row x of)))
+      ∙ first_passes net flight way
+    where
+      same : (x : Row) → held x.matching ≡ true → IsOneOf x → x.actions ≡ goes_on
+      same x takes (inl is) = ap (λ (r : Row). r.actions) is
+      same x takes (inr (inl is)) = ap (λ (r : Row). r.actions) is
+      same x takes (inr (inr (inl is))) = absurd (false≢true (sym (held_ip4 ∙ other) ∙ sym (ap (λ (r : Row). held r.matching) is) ∙ takes))
+      same x takes (inr (inr (inr of))) = ap (λ (r : Row). r.actions) of.is
+
+  -- and what is left is noted
+  rest_noted : is_ip4 flight.packet ≡ true → is_multicast (value flight.packet EthDst) ≡ false → passes_untracked net switch.id way flight.packet ≡ false
+      → step (flows_at net switch.id) at flight ≡ On (pre_stateful way) (with_bit 0 flight)
+  rest_noted ip4 one not_passed =
+      meets_above net switch.id at flight (switch_row of_ip4)
+      (three_there of_ip4 (one_later (passing at) (of_many ∷ of_ip4 ∷ []) of_ip4 (one_later of_many (of_ip4 ∷ []) of_ip4 (one_first of_ip4 [] of_ip4 refl)))) refl refl (held_ip4 ∙ ip4)
+      (λ x of takes. same x takes (each_row x of))
+      ∙ first_notes net flight way
+    where
+      same : (x : Row) → held x.matching ≡ true → IsOneOf x → (x.actions ≡ notes) ⊎ (x.priority < 100)
+      same x takes (inl is) = inr (subst (λ (r : Row). r.priority < 100) (sym is) (omega arith))
+      same x takes (inr (inl is)) = absurd (false≢true (sym (held_many ∙ one) ∙ sym (ap (λ (r : Row). held r.matching) is) ∙ takes))
+      same x takes (inr (inr (inl is))) = inl (ap (λ (r : Row). r.actions) is)
+      same x takes (inr (inr (inr of))) = absurd (false≢true (sym not_passed ∙ untracked_by x of takes))
+
+  -- so the packets that are to be tracked are noted
+  pub notes_wanted : step (flows_at net switch.id) at flight ≡ On (pre_stateful way) (if is_to_track net switch.id way flight.packet then with_bit 0 flight else flight)
+  notes_wanted = by (is_ip4 flight.packet) (is_multicast (value flight.packet EthDst)) (passes_untracked net switch.id way flight.packet) refl refl refl
+    where
+      by : (ip4 many passed : Bool) → is_ip4 flight.packet ≡ ip4 → is_multicast (value flight.packet EthDst) ≡ many → passes_untracked net switch.id way flight.packet ≡ passed
+          → step (flows_at net switch.id) at flight ≡ On (pre_stateful way) (cond (ip4 && not many && not passed) (with_bit 0 flight) flight)
+      by true true passed i m p = many_go m
+      by false true passed i m p = others_go i
+      by false false passed i m p = others_go i
+      by true false true i m p = stateless_go p
+      by true false false i m p = rest_noted i m p
+
+-- ---- the laws
+
+pub asks_of : (way : Way) → Asks way
+asks_of From net switch flight on tracking = notes_wanted net switch flight on.sound on.plain on.among tracking From
+asks_of To net switch flight on tracking = notes_wanted net switch flight on.sound on.plain on.among tracking To
+
+pub looks_up_of : (way : Way) → LooksUp way
+looks_up_of From net switch flight on tracking = tracks_noted net switch flight on.plain on.among tracking From
+looks_up_of To net switch flight on tracking = tracks_noted net switch flight on.plain on.among tracking To
+
+pub keeps_of : (way : Way) → Keeps way
+keeps_of From net switch flight on tracking = keeps_noted net switch flight on.plain on.among tracking From
+keeps_of To net switch flight on tracking = keeps_noted net switch flight on.plain on.among tracking To

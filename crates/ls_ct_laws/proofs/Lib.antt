@@ -1,0 +1,11 @@
+pub mod Alike
+pub mod Connections
+pub mod Flags
+pub mod Independent
+pub mod Meets
+pub mod Noted
+pub mod Onward
+pub mod PlainSteps
+pub mod RuleRuns
+pub mod TrackedAcls
+pub mod TrackedRules

@@ -1,0 +1,151 @@
+-- Which rules a switch that tracks connections has in a stage, and those of ACLs that apply to it. No load balancer is attached.
+use Rattle.std.proofs.Common.{◌≡◌, ℕ, ◌+◌, Bool, true, false, cond, List, [], ◌∷◌, ◌++◌, ap, refl, ◌∙◌, ◌⊎◌, inl, inr}
+use Rattle.std.specs.Prelude.{◌&&◌, ◌||◌, not}
+use Rattle.std.specs.List.{AllByRecursion, Contains, list_any}
+use Rattle.std.proofs.lemmas.Bool.{false≢true}
+use Rattle.std.proofs.lemmas.List.Elements.{Contains-append_cases, Contains-append_left, Contains-append_right}
+use Rattle.nv_base.specs.declared.object.ObjId.{ObjId}
+use Rattle.expr_core.specs.Formula.{Formula}
+use Rattle.expr_core.specs.declared.typed.TypedAtom.{TypedAtom}
+use Rattle.nb_records.specs.declared.acl.Verdict.{Verdict}
+use Rattle.nb_records.specs.declared.acl.Verdict.TheVariants.{Allow, AllowRelated, AllowStateless, Drop, Reject}
+use Rattle.nb_records.specs.declared.acl.Way.{Way}
+use Rattle.nb_records.specs.declared.acl.Way.TheVariants.{From, To}
+use Rattle.nb_records.specs.declared.switch.Switch.{Switch}
+use Rattle.nb_model.specs.Applies.{balances, is_empty, tracks}
+use Rattle.nb_model.specs.Network.{Network, same}
+use Rattle.nb_model.specs.Plain.{IsPlain}
+use Rattle.nb_model.specs.Readable.{is_priority}
+use Rattle.sb_model.specs.Make.{takes_each, goes_on}
+use Rattle.sb_model.specs.declared.stage.Stage.{Stage}
+use Rattle.sb_model.specs.declared.stage.Stage.TheVariants.{LsInPreAcl, LsInAclEval, LsOutPreAcl, LsOutAclEval}
+use Rattle.net_meaning.specs.Tracked.{is_stateless}
+use Rattle.net_rows.specs.Acls.{switch_acl_rules, first_stage_of, stage_of, acl_rules_at, acl_on_rules, tracked_rules, untracking_rules}
+use Rattle.net_rows.specs.Build.{has_unknown, switch_rules}
+use Rattle.net_rows.specs.LoadBalancers.{switch_lb_rules}
+use Rattle.net_rows.specs.Lookup.{switch_l2_rules}
+use Rattle.net_rows.specs.PortSecurity.{switch_sec_rules}
+use Rattle.net_rows.specs.Unit.{rule}
+use Rattle.net_rows.specs.declared.inputs.AclOnInput.{AclOnInput}
+use Rattle.net_rows.specs.declared.rule.Rule.{Rule}
+use Rattle.net_rows.proofs.Elements.{one_first, one_of_none}
+use Rattle.ls_laws.proofs.RuleStages.{each_of, the_only}
+
+-- ---- the rules of a switch
+
+-- the rule that passes each packet on
+abbrev pub passing : Stage → Rule
+passing stage = rule stage 0 takes_each goes_on
+
+-- those of a switch that tracks
+abbrev pub tracked_switch_rules : Bool → List Rule
+tracked_switch_rules unknown =
+    switch_sec_rules ++ (switch_acl_rules (record { tracks = true; balances = false }) ++ (switch_lb_rules ++ switch_l2_rules (record { unknown = unknown })))
+
+-- where no load balancer is attached, no switch balances
+no_balancer : (switch : ObjId) (list : List Switch) → AllByRecursion (λ (s : Switch). s.lbs ≡ []) list → list_any (λ (own : Switch). same own.id switch && not (is_empty own.lbs)) list ≡ false
+no_balancer switch [] all = refl
+no_balancer switch (own ∷ list) all = rw (all.0, no_balancer switch list all.1) (never (same own.id switch))
+  where
+    never : (b : Bool) → ((b && false) || false) ≡ false
+    never true = refl
+    never false = refl
+
+pub balances_none : (net : Network) → IsPlain net → (switch : ObjId) → balances net switch ≡ false
+balances_none net plain switch = no_balancer switch net.switches plain.switches
+
+pub switch_rules-tracked : (net : Network) (switch : ObjId) → IsPlain net → tracks net switch ≡ true → switch_rules net switch ≡ tracked_switch_rules (has_unknown net switch)
+switch_rules-tracked net switch plain tracking =
+    ap (λ (t : Bool). switch_sec_rules ++ (switch_acl_rules (record { tracks = t; balances = balances net switch }) ++ (switch_lb_rules ++ switch_l2_rules (record { unknown = has_unknown net switch })))) tracking
+    ∙ ap (λ (t : Bool). switch_sec_rules ++ (switch_acl_rules (record { tracks = true; balances = t }) ++ (switch_lb_rules ++ switch_l2_rules (record { unknown = has_unknown net switch })))) (balances_none net plain switch)
+
+-- ---- the rules of ACLs
+
+-- on a switch that tracks an ACL has rules in the first stage of its direction and in its own
+abbrev pub is_first : Stage → Bool
+is_first LsInPreAcl = true
+is_first LsOutPreAcl = true
+is_first _ = false
+
+abbrev pub is_deciding : Stage → Bool
+is_deciding LsInAclEval = true
+is_deciding LsOutAclEval = true
+is_deciding _ = false
+
+-- those of the first stage, and those of its own
+abbrev pub first_rules : AclOnInput → List Rule
+first_rules input = untracking_rules input.way (input.priority + 1000) input.matching input.verdict
+
+abbrev pub own_rules : AclOnInput → List Rule
+own_rules input = tracked_rules (stage_of input.way) (input.priority + 1000) input.matching input.verdict
+
+pub tracked_gives : (input : AclOnInput) (says : Rule) → input.tracks ≡ true → Contains (acl_on_rules input) says → Contains (first_rules input) says ⊎ Contains (own_rules input) says
+unfolding acl_on_rules
+tracked_gives input says tracking there = by (is_priority input.priority) input.tracks tracking there
+  where
+    by : (b t : Bool) → t ≡ true → Contains (cond b (cond t (first_rules input ++ own_rules input) (acl_rules_at (input.priority + 1000) (record input { tracks = false }))) []) says
+        → Contains (first_rules input) says ⊎ Contains (own_rules input) says
+    by false t e at = absurd (one_of_none says at)
+    by true false e at = absurd (false≢true e)
+    by true true e at = Contains-append_cases (first_rules input) (own_rules input) says at
+
+-- each of these is a rule
+pub tracked_from : (input : AclOnInput) (says : Rule) → input.tracks ≡ true → is_priority input.priority ≡ true → Contains (first_rules input) says ⊎ Contains (own_rules input) says → Contains (acl_on_rules input) says
+unfolding acl_on_rules
+tracked_from input says tracking fits there = rw (fits, tracking) (by there)
+  where
+    by : Contains (first_rules input) says ⊎ Contains (own_rules input) says → Contains (first_rules input ++ own_rules input) says
+    by (inl at) = Contains-append_left (first_rules input) (own_rules input) says at
+    by (inr at) = Contains-append_right (first_rules input) (own_rules input) says at
+
+-- what an ACL says in the first stage: where it is stateless, that the packet goes on
+pub first_gives : (way : Way) (priority : ℕ) (matching : Formula TypedAtom) (verdict : Verdict) (says : Rule) → Contains (untracking_rules way priority matching verdict) says
+    → (is_stateless verdict ≡ true) × (says ≡ rule (first_stage_of way) priority matching goes_on)
+first_gives way priority matching AllowStateless says there = (refl, the_only (rule (first_stage_of way) priority matching goes_on) says there)
+first_gives way priority matching Allow says there = absurd (one_of_none says there)
+first_gives way priority matching AllowRelated says there = absurd (one_of_none says there)
+first_gives way priority matching Drop says there = absurd (one_of_none says there)
+first_gives way priority matching Reject says there = absurd (one_of_none says there)
+
+pub first_from : (way : Way) (priority : ℕ) (matching : Formula TypedAtom) (verdict : Verdict) → is_stateless verdict ≡ true
+    → Contains (untracking_rules way priority matching verdict) (rule (first_stage_of way) priority matching goes_on)
+first_from way priority matching AllowStateless is = one_first (rule (first_stage_of way) priority matching goes_on) [] (rule (first_stage_of way) priority matching goes_on) refl
+first_from way priority matching Allow is = absurd (false≢true is)
+first_from way priority matching AllowRelated is = absurd (false≢true is)
+first_from way priority matching Drop is = absurd (false≢true is)
+first_from way priority matching Reject is = absurd (false≢true is)
+
+-- what it says elsewhere is of its own stage
+of_own_stage : (stage : Stage) (priority : ℕ) (matching : Formula TypedAtom) (verdict : Verdict) → AllByRecursion (λ (r : Rule). r.stage ≡ stage) (tracked_rules stage priority matching verdict)
+of_own_stage stage priority matching Allow = (refl, tt)
+of_own_stage stage priority matching AllowRelated = (refl, tt)
+of_own_stage stage priority matching AllowStateless = (refl, tt)
+of_own_stage stage priority matching Drop = (refl, (refl, tt))
+of_own_stage stage priority matching Reject = (refl, (refl, tt))
+
+pub own_stage : (input : AclOnInput) (says : Rule) → Contains (own_rules input) says → says.stage ≡ stage_of input.way
+own_stage input says there =
+    each_of (λ (r : Rule). r.stage ≡ stage_of input.way) (own_rules input) says (of_own_stage (stage_of input.way) (input.priority + 1000) input.matching input.verdict) there
+
+first_is : (way : Way) → is_first (first_stage_of way) ≡ true
+first_is From = refl
+first_is To = refl
+
+deciding_is : (way : Way) → is_deciding (stage_of way) ≡ true
+deciding_is From = refl
+deciding_is To = refl
+
+-- the stages of all its rules
+pub acl_rule_stages : (input : AclOnInput) (says : Rule) → input.tracks ≡ true → Contains (acl_on_rules input) says → (is_first says.stage || is_deciding says.stage) ≡ true
+acl_rule_stages input says tracking there = by (tracked_gives input says tracking there)
+  where
+    either : (b : Bool) → (b || true) ≡ true
+    either true = refl
+    either false = refl
+
+    by : Contains (first_rules input) says ⊎ Contains (own_rules input) says → (is_first says.stage || is_deciding says.stage) ≡ true
+    by (inl at) =
+        let is = (first_gives input.way (input.priority + 1000) input.matching input.verdict says at).1 in
+        ap (λ (s : Rule). is_first s.stage || is_deciding s.stage) is ∙ ap (λ c. c || is_deciding (first_stage_of input.way)) (first_is input.way)
+    by (inr at) =
+        ap (λ s. is_first s || is_deciding s) (own_stage input says at) ∙ ap (λ c. is_first (stage_of input.way) || c) (deciding_is input.way) ∙ either (is_first (stage_of input.way))

@@ -1,0 +1,143 @@
+-- What a packet's step through the stages of ACLs and of connections does on a switch that tracks connections, said of the network's
+-- objects and of the connections: the stage laws, each of both directions.
+use Rattle.std.specs.Prelude.{◌≡◌, ℕ, Bool, true, false, not, ◌&&◌, ◌==◌, if◌then◌else◌, Option, Some}
+use Rattle.std.specs.Option.{option_map_or}
+use Rattle.nv_base.specs.declared.object.ObjId.{ObjId}
+use Rattle.nv_base.specs.declared.field.Field.TheVariants.{EthDst, CtState, CtMarkBlocked, Reg0}
+use Rattle.pkt_core.specs.Packet.{Values, value}
+use Rattle.pkt_core.specs.Prerequisite.{is_ip4}
+use Rattle.ct_core.specs.declared.look.Look.{Look}
+use Rattle.ct_core.specs.declared.look.Look.TheVariants.{Invalid, Found}
+use Rattle.ct_core.specs.declared.look.Side.TheVariants.{Orig}
+use Rattle.ct_core.specs.Changes.{marked}
+use Rattle.ct_core.specs.Look.{flags_of, is_marked}
+use Rattle.ct_core.specs.State.{with_conns}
+use Rattle.expr_core.specs.Width.{bits_of}
+use Rattle.expr_core.specs.declared.part.Bits.TheVariants.{Bit}
+use Rattle.nb_records.specs.declared.acl.Acl.{Acl}
+use Rattle.nb_records.specs.declared.acl.Way.{Way}
+use Rattle.nb_records.specs.declared.acl.Way.TheVariants.{From, To}
+use Rattle.nb_records.specs.declared.switch.Switch.{Switch}
+use Rattle.nb_model.specs.Applies.{tracks}
+use Rattle.nb_model.specs.Network.{Network}
+use Rattle.sb_model.specs.declared.stage.Pipeline.{Pipeline}
+use Rattle.sb_model.specs.declared.stage.Pipeline.TheVariants.{Ingress, Egress}
+use Rattle.sb_model.specs.declared.stage.Stage.{Stage}
+use Rattle.sb_model.specs.declared.stage.Stage.TheVariants.{LsInPreAcl, LsInPreStateful, LsInAclEval, LsInLb, LsInStateful, LsInArpRsp, LsOutPreAcl, LsOutPreStateful, LsOutAclEval, LsOutStateful, LsOutCheckPortSec}
+use Rattle.net_meaning.specs.AclVerdict.{Decision, deciding, decided_by}
+use Rattle.net_meaning.specs.AclVerdict.Decision.{Allowed}
+use Rattle.net_meaning.specs.Address.{is_multicast}
+use Rattle.net_meaning.specs.Tracked.{is_to_keep, passes_untracked}
+use Rattle.net_meaning.specs.declared.cause.Cause.TheVariants.{Acl as acl_cause}
+use Rattle.tr_stage.specs.Part.{with_part}
+use Rattle.tr_stage.specs.declared.outcome.Outcome.TheVariants.{Drop}
+use Rattle.tr_pipe.specs.Machine.{StageEnd, after, ended, kept, step}
+use Rattle.tr_pipe.specs.Machine.StageEnd.{On, Ends}
+use Rattle.tr_pipe.specs.Tracking.{Flight, bit, committed, tracked, with_packet, zone_of}
+use Rattle.ls_laws.specs.Steps.{IsOn, decided, flows_at}
+
+-- ---- the stages of a direction
+
+abbrev pub pipeline_for : Way → Pipeline
+pipeline_for From = Ingress
+pipeline_for To = Egress
+
+-- where it is asked which packets are to be tracked, and where these are looked up
+abbrev pub pre_acl : Way → Stage
+pre_acl From = LsInPreAcl
+pre_acl To = LsOutPreAcl
+
+abbrev pub pre_stateful : Way → Stage
+pre_stateful From = LsInPreStateful
+pre_stateful To = LsOutPreStateful
+
+-- where ACLs decide, and the stage after it
+abbrev pub acl_eval : Way → Stage
+acl_eval From = LsInAclEval
+acl_eval To = LsOutAclEval
+
+abbrev pub after_acls : Way → Stage
+after_acls From = LsInLb
+after_acls To = LsOutStateful
+
+-- where connections are recorded, and the stage after it
+abbrev pub stateful : Way → Stage
+stateful From = LsInStateful
+stateful To = LsOutStateful
+
+abbrev pub after_stateful : Way → Stage
+after_stateful From = LsInArpRsp
+after_stateful To = LsOutCheckPortSec
+
+-- the step of a packet through a stage of a switch that tracks is this
+abbrev pub Steps : Network → Switch → Stage → Flight → StageEnd → Type 0
+Steps net switch stage flight end = IsOn net switch flight.packet → tracks net switch.id ≡ true → step (flows_at net switch.id) stage flight ≡ end
+
+-- ---- which packets are tracked
+
+-- a bit of the first register is 1: of bit 0, that the packet is to be tracked; of bit 1, that its connection is to be kept
+abbrev pub has_bit : ℕ → Values → Bool
+has_bit n packet = bits_of (Bit n) (value packet Reg0) == 1
+
+abbrev pub with_bit : ℕ → Flight → Flight
+with_bit n flight = with_packet flight (with_part flight.packet Reg0 (Bit n) 1)
+
+-- a packet of IPv4 for one receiver is to be tracked, unless an `allow-stateless` ACL takes it
+abbrev pub is_to_track : Network → ObjId → Way → Values → Bool
+is_to_track net switch way packet = is_ip4 packet && not (is_multicast (value packet EthDst)) && not (passes_untracked net switch way packet)
+
+abbrev pub Asks : Way → Type 0
+Asks way =
+    (net : Network) (switch : Switch) (flight : Flight)
+    → Steps net switch (pre_acl way) flight (On (pre_stateful way) (if is_to_track net switch.id way flight.packet then with_bit 0 flight else flight))
+
+-- it is looked up in the zone of its port
+abbrev pub LooksUp : Way → Type 0
+LooksUp way =
+    (net : Network) (switch : Switch) (flight : Flight)
+    → Steps net switch (pre_stateful way) flight (On (acl_eval way) (if has_bit 0 flight.packet then tracked (zone_of (pipeline_for way) flight.packet) flight else flight))
+
+-- ---- what ACLs do with it
+
+-- the look-up, if there was one, is noted in the packet
+pub record IsNoted (found : Option Look) (packet : Values) : Type 0 where
+  pub flags : value packet CtState ≡ option_map_or flags_of found 0
+  pub mark : value packet CtMarkBlocked ≡ option_map_or (λ look. bit (is_marked look)) found 0
+
+-- a packet that an ACL allows goes on, to be kept unless the ACL is stateless; another ends here
+abbrev pub goes : Bool → Decision → Stage → Flight → StageEnd
+goes true Allowed next flight = On next (with_bit 1 flight)
+goes keep what next flight = ended flight (decided what next flight.packet)
+
+-- with this mark of the entry at a place
+abbrev pub marking : ℕ → Bool → Flight → Flight
+marking place blocked flight = record flight { state = with_conns (marked place blocked flight.state.conns) flight.state }
+
+-- one in the original direction of a connection, which is blocked where the packet is refused
+abbrev pub goes_again : Bool → Decision → ℕ → Stage → Flight → StageEnd
+goes_again keep Allowed place next flight = goes keep Allowed next flight
+goes_again keep what place next flight = goes keep what next (marking place true flight)
+
+-- What follows where this ACL decides, by what the look-up told: it decides on what is not tracked, new, or in the original direction; a
+-- reply, or an ICMP error, goes on unless its connection is blocked.
+abbrev pub ruled_on : Option Acl → Stage → Flight → Option Look → StageEnd
+ruled_on acl next flight (Some Invalid) = Ends (Some (Drop acl_cause)) flight.state
+ruled_on acl next flight (Some (Found place Orig false blocked)) = goes_again (is_to_keep acl) (decided_by acl) place next flight
+ruled_on acl next flight (Some (Found place side related blocked)) = if blocked then Ends (Some (Drop acl_cause)) flight.state else On next flight
+ruled_on acl next flight found = goes (is_to_keep acl) (decided_by acl) next flight
+
+abbrev pub Rules : Way → Type 0
+Rules way =
+    (net : Network) (switch : Switch) (flight : Flight) → IsNoted flight.look flight.packet
+    → Steps net switch (acl_eval way) flight (ruled_on (deciding net switch.id way flight.packet) (after_acls way) flight flight.look)
+
+-- ---- what is kept
+
+-- a packet that is to be kept is recorded, or its connection is no longer blocked, and it goes on; where there is no room it is dropped
+abbrev pub keeps : Way → Flight → StageEnd
+keeps way flight = after (kept flight (committed (zone_of (pipeline_for way) flight.packet) false flight.packet flight.state flight.look)) (On (after_stateful way))
+
+abbrev pub Keeps : Way → Type 0
+Keeps way =
+    (net : Network) (switch : Switch) (flight : Flight)
+    → Steps net switch (stateful way) flight (if has_bit 1 flight.packet then keeps way flight else On (after_stateful way) flight)

@@ -1,0 +1,27 @@
+-- What a trace tells and leaves, by the parts of the session that it is run with.
+use Rattle.std.proofs.Common.{◌≡◌, ℕ, List, map, ap, ◌∙◌}
+use Rattle.nv_base.specs.declared.object.ObjId.{ObjId}
+use Rattle.pkt_core.specs.Packet.{Values}
+use Rattle.ct_core.specs.State.{State}
+use Rattle.nb_model.specs.Network.{Network}
+use Rattle.tr_walk.specs.Events.{event_of}
+use Rattle.tr_walk.specs.Machine.{machine}
+use Rattle.tr_walk.specs.declared.event.Event.{Event}
+use Rattle.nv_reply.specs.Reply.{after_trace, traced}
+use Rattle.nv_reply.specs.Session.{Session, with_state}
+
+module _ (session now : Session) (port : ObjId) (packet : Values) (net : Network) (hops : ℕ) (net_is : net ≡ session.network) (hops_is : hops ≡ session.hops) (same : session ≡ now) where
+  pub told_from : (told : List Event) → told ≡ map event_of (machine net hops port packet session.state).told → told ≡ traced now port packet
+  told_from told is =
+      is
+      ∙ ap (λ (n : Network). map event_of (machine n hops port packet session.state).told) net_is
+      ∙ ap (λ (h : ℕ). map event_of (machine session.network h port packet session.state).told) hops_is
+      ∙ ap (λ (s : Session). traced s port packet) same
+
+  pub left_from : (state : State) → state ≡ (machine net hops port packet session.state).state → with_state state session ≡ after_trace now port packet
+  left_from state is =
+      ap (λ (left : State). with_state left session)
+      (is
+      ∙ ap (λ (n : Network). (machine n hops port packet session.state).state) net_is
+      ∙ ap (λ (h : ℕ). (machine session.network h port packet session.state).state) hops_is)
+      ∙ ap (λ (s : Session). after_trace s port packet) same

@@ -1,5 +1,0 @@
-use Rattle.tr_walk.proofs.Ends.{runnable}
-use Rattle.tr_walk.proofs.laws.rows_of_stateless_networks_are_runnable.Goals as goal
-
-pub returns : goal.returns
-returns c = runnable

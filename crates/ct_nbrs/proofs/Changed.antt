@@ -1,12 +1,12 @@
 -- The neighbours that a map of pairs holds, after each change of it.
-use Rattle.std.proofs.Common.{◌≡◌, ℕ, ◌==◌, Bool, true, false, not, ◌||◌, cond, if◌then◌else◌, nat_lt, List, [], ◌∷◌, length, map, filter, Option, None, Some, is_some, refl, sym, ap, ◌∙◌}
-use Rattle.std.specs.List.{AllZip, find, list_any}
+use Rattle.std.proofs.Common.{◌≡◌, ℕ, ◌==◌, Bool, true, false, not, ◌||◌, cond, if◌then◌else◌, nat_lt, List, [], ◌∷◌, length, filter, Option, Some, is_some, refl, sym, ap, ◌∙◌}
+use Rattle.std.specs.List.{AllZip}
 use Rattle.std.specs.Map.{lookup}
 use Rattle.std.specs.Option.{option_map}
 use Rattle.indexmap.specs.IndexMap.{insert_entry}
 use Rattle.nv_base.specs.declared.object.ObjId.{ObjId}
 use Rattle.ct_core.specs.declared.neighbour.Neighbour.{Neighbour}
-use Rattle.ct_core.specs.Neighbours.{is_known, is_of, learnt, neighbour_limit, neighbour_of, noted, without_port}
+use Rattle.ct_core.specs.Neighbours.{is_known, learnt, neighbour_limit, neighbour_of, noted, without_port}
 use Rattle.ct_nbrs.specs.declared.pair.Pair.{Pair}
 use Rattle.ct_nbrs.specs.Held.{neighbour_in, neighbours_of}
 use Rattle.ct_nbrs.specs.inner.Pair.{pair_exact, pairs_equal}

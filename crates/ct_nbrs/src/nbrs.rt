@@ -1,6 +1,7 @@
-ghost use Rattle.std.specs.Prelude.{◌≡◌, ◌↔◌, [], not, ◌==◌, ◌||◌, nat_lt, length, slice_get, IfOk, OnOk, OnErr, IsTrue};
+ghost use Rattle.std.specs.Prelude.{◌≡◌, ◌↔◌, [], not, ◌==◌, ◌||◌, nat_lt, length, take, slice_get, IfOk, OnOk, OnErr, IsTrue};
 ghost use Rattle.std.specs.Option.{option_map};
 ghost use Rattle.ct_core.specs.Neighbours.{AreNeighbours, is_known, learnt, neighbour_limit, neighbour_of, without_port};
+ghost use Rattle.ct_nbrs.specs.Back.{put_back};
 
 use crate::pair::Pair;
 use ct_core::Neighbour;
@@ -117,6 +118,30 @@ impl Neighbours {
                 ensures { (result ≡ not (pair.now.port.0 == port.0)) × (mac.new ≡ mac.old) }
             { pair.port != port },
         );
+    }
+
+    /// Leaves the first neighbours, so many, and takes those after them out. It takes no memory, and costs by the number of those
+    /// that go.
+    pub fn cut_back(&mut self, len: usize)
+        ensures { self.new ≡ take len self.old }
+    {
+        self.macs.truncate(len);
+    }
+
+    /// Puts a neighbour back as it was, in the place of what its port knows of the address; where it knows nothing, nothing changes.
+    /// It takes no memory.
+    pub fn put_back(&mut self, old: Neighbour)
+        ensures { self.new ≡ put_back old self.old }
+    {
+        let Neighbour { port, addr, mac } = old;
+        let pair = Pair { port, addr };
+        if self.knows(&pair) {
+            old.fits();
+            match self.macs.insert(pair, mac) {
+                Ok(_) => {}
+                Err(_) => unreachable!(),
+            }
+        }
     }
 
     /// Takes all out.

@@ -1,17 +1,19 @@
-ghost use Rattle.std.specs.Prelude.{◌≡◌, ◌↔◌, ◌≤◌, true, length, take, Some, Err, IfOk, OnOk, OnErr};
+ghost use Rattle.std.specs.Prelude.{◌≡◌, ◌↔◌, ◌≤◌, ◌++◌, true, length, take, Some, Err, IfOk, OnOk, OnErr};
 ghost use Rattle.std.specs.List.{AllByRecursion};
 ghost use Rattle.pkt_core.specs.Prerequisite.{is_ip4};
 ghost use Rattle.ct_core.specs.Changes.{connection_limit, marked, recorded};
 ghost use Rattle.ct_core.specs.Look.{look};
+ghost use Rattle.ct_core.specs.Neighbours.{learnt, mac_of};
 ghost use Rattle.ct_core.specs.State.{with_conns};
-ghost use Rattle.ct_state.specs.Work.{unmarked};
-ghost use Rattle.ct_state.specs.inner.Noted.{IsWithin, noted};
+ghost use Rattle.ct_state.specs.Work.{unlearnt, unmarked, with_nbrs};
+ghost use Rattle.ct_state.specs.inner.Noted.{IsWithin, known_as, noted};
 ghost use Rattle.ct_table.specs.declared.conns.CtFault.TheVariants.{Full};
 
 use crate::State;
-use ct_core::{Entry, Look, Zone};
+use ct_core::{Entry, Look, Neighbour, Zone};
+use ct_nbrs::Neighbours;
 use ct_table::{Conns, CtFault};
-use nv_base::OutOfMemory;
+use nv_base::{Ip4, Mac, ObjId, OutOfMemory};
 use pkt_core::Packet;
 use std::alloc::Global;
 use std::marker::Model;
@@ -29,10 +31,13 @@ pub(crate) struct OldMark {
 #[derive(Drop)]
 pub struct Work {
     state: State,
-    // How many connections there were before the walk, and of those that were marked since the old marks, in the order in which they
-    // were marked. What was recorded since goes where the list is cut back.
+    // How many connections and neighbours there were before the walk; of the connections that were marked since the old marks, and the
+    // neighbours that were learnt anew as they were, in the order in which it happened. What came since goes where the lists are cut
+    // back.
     began: usize,
+    known: usize,
     marks: Vec<OldMark>,
+    olds: Vec<Neighbour>,
 }
 
 impl Model for Work {
@@ -44,9 +49,9 @@ impl Model for Work {
 
     ghost Value = { value.Work };
 
-    ghost view = { λ w. record { state = w.state; back = before w.began w.marks.items w.state } };
+    ghost view = { λ w. record { state = w.state; back = before w.began w.known w.marks.items w.olds.items w.state } };
 
-    ghost invariant = { λ w. (w.began ≤ length w.state.conns) × AllByRecursion (IsWithin w.began) w.marks.items };
+    ghost invariant = { λ w. (w.began ≤ length w.state.conns) × AllByRecursion (IsWithin w.began) w.marks.items × (w.known ≤ length w.state.nbrs) };
 }
 
 impl Work {
@@ -58,10 +63,13 @@ impl Work {
         ensures err { OnErr result (state.new ≡ state.old) }
     {
         let began = state.conns.len();
+        let known = state.nbrs.len();
         Ok(Work {
             state: mem::replace(state, State::new(alloc)),
             began,
+            known,
             marks: Vec::new(alloc),
+            olds: Vec::new(alloc),
         })
     }
 
@@ -72,10 +80,12 @@ impl Work {
         let Work {
             state: now,
             marks,
+            olds,
             ..
         } = self;
         drop(mem::replace(state, now));
         drop(marks);
+        drop(olds);
     }
 
     /// Puts the state as it was before the walk in its place again. It takes no memory.
@@ -85,9 +95,12 @@ impl Work {
         let Work {
             state: mut now,
             began,
+            known,
             marks,
+            olds,
         } = self;
         take_back(&mut now.conns, began, marks);
+        forget(&mut now.nbrs, known, olds);
         drop(mem::replace(state, now));
     }
 
@@ -133,6 +146,26 @@ impl Work {
         self.state.conns.mark(place, blocked);
         Ok(())
     }
+
+    /// Notes what a router's port learns of a neighbour (ovn-sb(5), `put_arp`), in the place of what it knew of the address, else last.
+    /// Where 65,536 neighbours are known, none of another address or port is learnt. After `OutOfMemory` the state is as before.
+    pub fn learn(&mut self, neighbour: Neighbour) -> Result<(), OutOfMemory>
+        ensures ok { OnOk result (self.new.state ≡ with_nbrs (learnt neighbour self.old.state.nbrs) self.old.state) }
+        ensures err { OnErr result (self.new.state ≡ self.old.state) }
+        ensures back { self.new.back ≡ self.old.back }
+    {
+        let old = self.state.nbrs.find(neighbour.port, neighbour.addr);
+        note_old(&mut self.olds, &neighbour, old)?;
+        self.state.nbrs.learn(neighbour)?;
+        Ok(())
+    }
+
+    /// The MAC that a router's port knows of an address (ovn-sb(5), `get_arp`), zero where it knows none.
+    pub fn mac_of(&self, port: ObjId, addr: Ip4) -> Mac
+        ensures { result ≡ mac_of self.now.state.nbrs port addr }
+    {
+        self.state.nbrs.find(port, addr).unwrap_or(Mac(0))
+    }
 }
 
 // Notes an old mark, if it is one of the first entries, so many. After `OutOfMemory` it is not noted.
@@ -155,5 +188,34 @@ fn take_back(conns: &mut Conns, began: usize, mut marks: Vec<OldMark>)
     conns.cut_back(began);
     while let Some(old) = marks.pop() {
         conns.mark(old.place, old.blocked);
+    }
+}
+
+// Notes a neighbour with the MAC that its port knows, if it knows one. After `OutOfMemory` it is not noted.
+fn note_old(
+    olds: &mut Vec<Neighbour>,
+    neighbour: &Neighbour,
+    mac: Option<Mac>,
+) -> Result<(), OutOfMemory>
+    ensures ok { OnOk result (olds.new.items ≡ olds.old.items ++ known_as neighbour.now mac) }
+    ensures err { OnErr result (olds.new.items ≡ olds.old.items) }
+{
+    if let Some(mac) = mac {
+        olds.push(Neighbour {
+            port: neighbour.port,
+            addr: neighbour.addr,
+            mac,
+        })?;
+    }
+    Ok(())
+}
+
+// Leaves the first neighbours, so many, as they were, from the last that was learnt anew to the first.
+fn forget(nbrs: &mut Neighbours, known: usize, mut olds: Vec<Neighbour>)
+    ensures { nbrs.new ≡ unlearnt olds.items (take known nbrs.old) }
+{
+    nbrs.cut_back(known);
+    while let Some(old) = olds.pop() {
+        nbrs.put_back(old);
     }
 }

@@ -1,5 +1,6 @@
 pub mod Applied
 pub mod Changed
+pub mod Collected
 pub mod Counted
 pub mod Ends
 pub mod Following

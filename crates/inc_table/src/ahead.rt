@@ -28,9 +28,12 @@ impl<'a, K: Ord, V> Model for Ahead<'a, K, V> {
 }
 
 impl<'a, K: Ord + Kept + Drop, V: Drop> Ahead<'a, K, V> {
+    ghost use Rattle.nv_map.specs.Map.{KeysRise};
+
     /// All of these entries.
     pub(crate) fn new(entries: &'a Owned<K, V>) -> Self
-        ensures { result ≡ entries.now }
+        ensures entries { result ≡ entries.now }
+        ensures rise { KeysRise K.cmp entries.now }
     {
         let mut rest = entries.iter();
         let entry = rest.next();

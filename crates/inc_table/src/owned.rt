@@ -42,6 +42,17 @@ impl<K: Ord + Kept + Drop, V: Drop> Owned<K, V> {
         }
     }
 
+    /// These entries. Their keys rise, so that the tree is built at once, and the place of no key is looked up.
+    pub(crate) fn from_rising(alloc: Global, entries: Vec<(K, V)>) -> Result<Self, OutOfMemory>
+        requires { KeysRise K.cmp entries.items }
+        ensures { IfOk result (λ owned. owned ≡ entries.items) }
+    {
+        Ok(Owned {
+            alloc,
+            entries: entries.into_iter().collect(alloc)?,
+        })
+    }
+
     /// How many entries there are.
     pub fn len(&self) -> usize
         ensures { result ≡ length self.now }
@@ -144,11 +155,11 @@ impl<K: Ord + Kept + Drop, V: Kept + Drop> Owned<K, V> {
     pub fn copy(&self, alloc: Global) -> Result<Self, OutOfMemory>
         ensures { IfOk result (λ copied. copied ≡ self.now) }
     {
-        let mut copied = Owned::new(alloc);
+        let mut copied = Vec::with_capacity(alloc, self.len())?;
         for (key, value) in self.iter() {
-            copied.put(key.copy(alloc)?, value.copy(alloc)?)?;
+            copied.push((key.copy(alloc)?, value.copy(alloc)?))?;
         }
-        Ok(copied)
+        Owned::from_rising(alloc, copied)
     }
 
     /// The delta that puts all of these: it leads from no entries to these.

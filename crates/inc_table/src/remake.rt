@@ -112,7 +112,8 @@ where
     ensures made { IfOk result (λ report. report.made ≡ length inputs.now) }
     ensures counted { IfOk result (λ report. M.made maker.new ≡ more_made report.made (M.made maker.old)) }
 {
-    let mut made = Owned::new(alloc);
+    let count = inputs.len();
+    let mut made = Vec::with_capacity(alloc, count)?;
     let mut changed = Delta::new(alloc);
     let mut inputs_ahead = Ahead::new(inputs);
     let mut outs_ahead = Ahead::new(table);
@@ -121,9 +122,9 @@ where
         let old = outs_ahead.take(key);
         make_next(alloc, maker, key, input, old, &mut made, &mut changed)?;
     }
-    *table = made;
+    *table = Owned::from_rising(alloc, made)?;
     Ok(Report {
-        made: inputs.len() as u64,
+        made: count as u64,
         fell_back: true,
         changed,
     })
@@ -136,25 +137,24 @@ fn make_next<M: Maker>(
     key: &M::Key,
     input: Option<&M::Input>,
     old: Option<&M::Out>,
-    made: &mut Owned<M::Key, M::Out>,
+    made: &mut Vec<(M::Key, M::Out)>,
     changed: &mut Delta<M::Key, M::Out>,
 ) -> Result<(), OutOfMemory>
 where
     M::Key: Drop,
     M::Input: Drop,
     M::Out: Drop,
-    requires made { IsAbove M.Key.cmp key.now made.old }
-    requires changed { IsAbove M.Key.cmp key.now changed.old }
-    ensures made { OnOk result (made.new ≡ made.old ++ entry_list key.now (option_map (M.out_of key.now) (option_copied input.entry))) }
+    requires { IsAbove M.Key.cmp key.now changed.old }
+    ensures made { OnOk result (made.new.items ≡ made.old.items ++ entry_list key.now (option_map (M.out_of key.now) (option_copied input.entry))) }
     ensures told { OnOk result (changed.new ≡ changed.old ++ told_at key.now (change_between M.Out.eq (option_copied old.entry) (option_map (M.out_of key.now) (option_copied input.entry)))) }
     ensures counted { OnOk result (M.made maker.new ≡ made_one (option_copied input.entry) (M.made maker.old)) }
 {
     let out = make_from(alloc, maker, key, input)?;
     tell(alloc, key, old, &out, changed)?;
-    match out {
-        None => Ok(()),
-        Some(out) => made.put(key.copy(alloc)?, out),
+    if let Some(out) = out {
+        made.push((key.copy(alloc)?, out))?;
     }
+    Ok(())
 }
 
 // Makes the output of a key, where it has an input.

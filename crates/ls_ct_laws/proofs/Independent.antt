@@ -223,16 +223,6 @@ module _ (net : Network) (sound : IsSound net) (a b : Values) (alike : AreAlike 
   pub same_deciding : (switch : ObjId) (way : Way) → deciding net switch way a ≡ deciding net switch way b
   same_deciding switch way = ap (fold higher None) (same_holding (acls net switch way) (typed_acls switch way))
 
-  pub same_decision : (switch : ObjId) (way : Way) → decision net switch way a ≡ decision net switch way b
-  same_decision switch way = ap decided_by (same_deciding switch way)
-
   -- both pass untracked, or neither does
   pub same_untracked : (switch : ObjId) (way : Way) → passes_untracked net switch way a ≡ passes_untracked net switch way b
   same_untracked switch way = same_stateless (acls net switch way) (typed_acls switch way)
-
-  -- and both are tracked at a port, or neither is
-  pub same_tracked : (way : Way) (port : Port) → is_tracked net way port a ≡ is_tracked net way port b
-  same_tracked way port =
-      ap (λ c. tracks net port.switch && c && not (is_multicast (value a EthDst)) && not (is_to_router port) && not (passes_untracked net port.switch way a)) (same_ip4 a b alike)
-      ∙ ap (λ c. tracks net port.switch && is_ip4 b && not c && not (is_to_router port) && not (passes_untracked net port.switch way a)) (same_multicast a b alike)
-      ∙ ap (λ c. tracks net port.switch && is_ip4 b && not (is_multicast (value b EthDst)) && not (is_to_router port) && not c) (same_untracked port.switch way)

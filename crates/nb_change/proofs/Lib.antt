@@ -14,6 +14,7 @@ pub mod Goes
 pub mod ListedNumbers
 pub mod NatsFor
 pub mod OneByOne
+pub mod OneEach
 pub mod Removed
 pub mod RouterRemovals
 pub mod RoutesFor

@@ -9,6 +9,7 @@ mod balancers;
 mod edits;
 mod groups;
 mod one_by_one;
+mod one_each;
 mod ports;
 mod router_removals;
 mod routers;

@@ -54,7 +54,7 @@ pub(crate) fn remove_nats_for(
 }
 
 // Removes an object if it is to go.
-fn remove_if(work: &mut Work, goes: bool, place: Place) -> Result<(), OutOfMemory>
+pub(crate) fn remove_if(work: &mut Work, goes: bool, place: Place) -> Result<(), OutOfMemory>
     ensures ok { OnOk result (work.new.records ≡ (if goes then removed place work.old.records else work.old.records)) }
     ensures back { back_steps work.new.steps.items work.new.records ≡ back_steps work.old.steps.items work.old.records }
 {
@@ -94,7 +94,7 @@ fn is_nat_for(nat: &Nat, kind: Option<NatKind>, at: &Option<Prefix>) -> bool
     is_asked_kind(kind, nat.kind) && is_asked_place(at, nat)
 }
 
-fn is_asked_kind(asked: Option<NatKind>, own: NatKind) -> bool
+pub(crate) fn is_asked_kind(asked: Option<NatKind>, own: NatKind) -> bool
     ensures { result ≡ is_asked same_nat_kind asked own }
 {
     match asked {

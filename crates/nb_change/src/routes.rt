@@ -1,14 +1,20 @@
 //! Edits of what belongs to routers: routes, NAT rules and static bindings.
-ghost use Rattle.std.specs.Prelude.{◌≡◌, OnOk};
+ghost use Rattle.std.specs.Prelude.{◌≡◌, ◌&&◌, OnOk, IsTrue};
 ghost use Rattle.nb_records.specs.declared.edit.Edit.TheVariants as edit;
-ghost use Rattle.nb_model.specs.Effect.{effect};
+ghost use Rattle.nb_model.specs.Belongs.{same_route, same_nat};
+ghost use Rattle.nb_model.specs.Effect.{effect, without};
+ghost use Rattle.nb_model.specs.Network.{same};
+ghost use Rattle.nb_model.specs.Readable.{are_apart};
 ghost use Rattle.nb_model.specs.Sound.{IsSound};
+ghost use Rattle.nv_table.specs.Table.{NumbersRise};
 ghost use Rattle.nb_store.specs.Undo.{back_steps};
+ghost use Rattle.nb_change.specs.inner.Routers.{is_route_for, is_nat_for};
 
 use crate::one_by_one::{remove_nats_for, remove_routes_for};
+use crate::one_each::{remove_nats_at, remove_routes_at};
 use nb_records::{Binding, Nat, NatKind, Route, RouteBy};
 use nb_store::{Place, Work};
-use nv_base::{Ip4, Mac, Name, OutOfMemory, Prefix};
+use nv_base::{Ip4, Mac, Name, ObjId, OutOfMemory, Prefix};
 use std::alloc::Global;
 
 /// `lr-route-add`
@@ -133,7 +139,7 @@ pub(crate) fn lr_route_del(
     ensures back { back_steps work.new.steps.items work.new.records ≡ back_steps work.old.steps.items work.old.records }
 {
     match work.records.router_id(router) {
-        Some(number) => remove_routes_for(work, number, &prefix, by),
+        Some(number) => remove_routes(work, number, prefix, by),
         None => Ok(()),
     }
 }
@@ -151,7 +157,43 @@ pub(crate) fn lr_nat_del(
     ensures back { back_steps work.new.steps.items work.new.records ≡ back_steps work.old.steps.items work.old.records }
 {
     match work.records.router_id(router) {
-        Some(number) => remove_nats_for(work, number, kind, &at),
+        Some(number) => remove_nats(work, number, kind, at),
         None => Ok(()),
+    }
+}
+
+// Removes the routes of a router for a prefix and of a policy, where they are given.
+fn remove_routes(
+    work: &mut Work,
+    router: ObjId,
+    prefix: Option<Prefix>,
+    by: Option<RouteBy>,
+) -> Result<(), OutOfMemory>
+    requires rise { NumbersRise (λ x. x.id) work.old.records.routes }
+    requires apart { IsTrue (are_apart same_route work.old.records.routes) }
+    ensures ok { OnOk result (work.new.records ≡ record work.old.records { routes = without (λ route. same router route.router && is_route_for prefix by route) work.old.records.routes }) }
+    ensures back { back_steps work.new.steps.items work.new.records ≡ back_steps work.old.steps.items work.old.records }
+{
+    match prefix {
+        Some(prefix) => remove_routes_at(work, router, prefix, by),
+        None => remove_routes_for(work, router, &None, by),
+    }
+}
+
+// Removes the NAT rules of a router of a kind and at a prefix, where they are given.
+fn remove_nats(
+    work: &mut Work,
+    router: ObjId,
+    kind: Option<NatKind>,
+    at: Option<Prefix>,
+) -> Result<(), OutOfMemory>
+    requires rise { NumbersRise (λ x. x.id) work.old.records.nats }
+    requires apart { IsTrue (are_apart same_nat work.old.records.nats) }
+    ensures ok { OnOk result (work.new.records ≡ record work.old.records { nats = without (λ nat. same router nat.router && is_nat_for kind at nat) work.old.records.nats }) }
+    ensures back { back_steps work.new.steps.items work.new.records ≡ back_steps work.old.steps.items work.old.records }
+{
+    match at {
+        Some(at) => remove_nats_at(work, router, kind, at),
+        None => remove_nats_for(work, router, kind, &None),
     }
 }

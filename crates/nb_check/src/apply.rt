@@ -11,16 +11,17 @@ ghost use Rattle.nb_store.specs.Undo.{back, changes_nothing};
 ghost use Rattle.nb_words.specs.Fault.{IsFaultOf};
 ghost use Rattle.nb_limits.specs.Ceilings.{AreCeilings};
 ghost use Rattle.nb_check.specs.inner.Going.{Since, going};
-ghost use Rattle.nb_check.specs.inner.Undone.{back_all};
+ghost use Rattle.nb_check.specs.inner.Undone.{AreTouched, back_all};
 ghost use Rattle.nb_limits.specs.Limitless.{IsSoundButLimits};
 ghost use Rattle.nv_base.specs.Object.{number_limit};
 
 use crate::gone::Gone;
 use nb_limits::{Ceilings, first_over, may_rise};
 use nb_records::{Edit, Kind};
-use nb_store::{Records, Undo};
+use nb_store::{Place, Records, Undo};
 use nb_valid::tested;
 use nb_words::LineFault;
+use nv_base::{Items, OutOfMemory};
 use std::alloc::Global;
 
 /// Does what an edit asks for, where no test refuses it, and answers what undoes it (ovn-nbctl(8)). A refused edit changes nothing,
@@ -114,6 +115,33 @@ pub(crate) fn apply_each(
     Ok(())
 }
 
+/// Does what the edits of a line ask for, as `apply_each`, and answers the places that they changed.
+pub(crate) fn apply_and_tell(
+    alloc: Global,
+    records: &mut Records,
+    known: &mut Ceilings,
+    edits: Vec<Edit>,
+    undos: &mut Vec<Undo>,
+    gone: &mut Gone,
+) -> Result<Items<Place>, LineFault>
+    requires sound { IsSound records.old }
+    requires known { AreCeilings records.old known.old }
+    requires readable { AllByRecursion IsReadable edits.items }
+    requires room { records.old.next + length edits.items < number_limit }
+    requires first { gone.old.first ≡ records.old.next }
+    requires none { gone.old.numbers ≡ [] }
+    ensures done { OnOk result (edited records.old edits.items ≡ Ok records.new) }
+    ensures refused { IfErr result (λ fault. IsFaultOf (edited records.old edits.items) fault) }
+    ensures back { back_all undos.new.items records.new ≡ back_all undos.old.items records.old }
+    ensures sound { IsSound records.new }
+    ensures known { OnOk result (AreCeilings records.new known.new) }
+    ensures gone { OnOk result (Since records.old records.new gone.new.numbers) }
+    ensures touched { IfOk result (λ places. AreTouched undos.new.items places) }
+{
+    apply_each(alloc, records, known, edits, undos, gone)?;
+    Ok(touched(alloc, undos)?)
+}
+
 // Does what one edit more asks for, and notes what undoes it and which ports it removes. Where it is refused or memory runs out, nothing changes.
 fn apply_next(
     alloc: Global,
@@ -145,6 +173,19 @@ fn apply_next(
             Err(LineFault::Memory)
         }
     }
+}
+
+/// The places that edits changed, in their order, each once (not from OVN).
+pub(crate) fn touched(alloc: Global, undos: &[Undo]) -> Result<Items<Place>, OutOfMemory>
+    ensures { IfOk result (λ places. AreTouched undos.now places) }
+{
+    let mut places = Vec::new(alloc);
+    for undo in undos {
+        undo.put_places(&mut places)?;
+    }
+    places.sort_unstable();
+    places.dedup();
+    Ok(Items::from_items(places))
 }
 
 /// Whether none of these edits changed anything.

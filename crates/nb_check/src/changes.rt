@@ -1,3 +1,4 @@
+use nb_store::Place;
 use nv_base::{Items, ObjId};
 
 /// What the edits of a line changed.
@@ -7,4 +8,6 @@ pub struct Changes {
     pub any: bool,
     /// The numbers of the ports of switches that were there before the line, and are no more there after it.
     pub gone: Items<ObjId>,
+    /// The places of the records that may have changed, come or gone, in the order of places, each once.
+    pub touched: Items<Place>,
 }

@@ -6,7 +6,8 @@ use Rattle.nb_model.specs.Network.{Network}
 use Rattle.nv_table.specs.Table.{NumbersRise, record_of, with_record, without_number, with_exchanged}
 use Rattle.nv_table.proofs.Undone.{none_left, taken_back, stays_by, put_back, exchanged_back, found_number}
 use Rattle.nb_store.specs.Undo.{restored, removed}
-use Rattle.nb_store.specs.inner.Held.{place_of, held, RisesAt}
+use Rattle.nb_store.specs.Touched.{place_of}
+use Rattle.nb_store.specs.inner.Held.{held, RisesAt}
 use Rattle.nb_store.specs.declared.step.Object.{Object}
 use Rattle.nb_store.specs.declared.step.Object.TheVariants as object
 use Rattle.nb_store.specs.declared.step.Place.{Place}

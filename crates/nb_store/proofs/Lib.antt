@@ -5,6 +5,8 @@ pub mod Listed
 pub mod Owned
 pub mod Peering
 pub mod Pieces
+pub mod PlaceOrder
 pub mod PlacedRecords
 pub mod Reached
 pub mod Steps
+pub mod Touched

@@ -4,6 +4,7 @@
 
 mod belongs;
 mod env;
+mod laws;
 mod likes;
 mod named;
 mod numbers;
@@ -15,6 +16,7 @@ mod stores;
 mod undo;
 mod work;
 
+pub use laws::undoing_leaves_the_rest;
 pub use likes::is_same_way;
 pub use numbers::{add_number, is_among};
 pub use records::Records;

@@ -2,7 +2,8 @@
 ghost use Rattle.std.specs.Prelude.{◌≡◌, ◌+◌, ◌<◌, ◌^◌};
 ghost use Rattle.nb_model.specs.Network.{empty_network, next_number};
 ghost use Rattle.nb_store.specs.Undo.{restored, removed, undone, back, back_steps};
-ghost use Rattle.nb_store.specs.inner.Held.{place_of, held, RisesAt};
+ghost use Rattle.nb_store.specs.Touched.{place_of};
+ghost use Rattle.nb_store.specs.inner.Held.{held, RisesAt};
 
 use crate::step::{Object, Place, Step};
 use crate::undo::Undo;

@@ -1,6 +1,6 @@
 //! What undoes a change of the tables.
 ghost use Rattle.std.specs.Prelude.{◌≡◌};
-ghost use Rattle.nb_store.specs.inner.Held.{place_of};
+ghost use Rattle.nb_store.specs.Touched.{place_of, touched_by};
 
 use nb_records::{Acl, AddrSet, Binding, Group, Lb, Nat, Port, Route, Router, RouterPort, Switch};
 use nv_base::ObjId;
@@ -22,8 +22,8 @@ pub(crate) enum Object {
     Binding(Loose<Binding>),
 }
 
-/// The number of an object, by its kind.
-#[derive(Clone, Copy)]
+/// The number of an object, by its kind. Places are in the order of their kinds, and of one kind in that of their numbers.
+#[derive(Clone, Copy, PartialEq, Eq, PartialOrd, Ord)]
 pub enum Place {
     /// Of a switch.
     Switch(ObjId),
@@ -77,6 +77,19 @@ impl Object {
             Object::Set(loose) => Place::Set(loose.record().id),
             Object::Group(loose) => Place::Group(loose.record().id),
             Object::Binding(loose) => Place::Binding(loose.record().id),
+        }
+    }
+}
+
+impl Step {
+    /// The place that it changes, if it is that of an object.
+    pub(crate) fn touched(&self) -> Option<Place>
+        ensures { result ≡ touched_by self.now }
+    {
+        match self {
+            Step::Restore(object) => Some(object.place()),
+            Step::Remove(place) => Some(*place),
+            Step::Next(_) => None,
         }
     }
 }

@@ -1,7 +1,9 @@
-ghost use Rattle.std.specs.Prelude.{◌≡◌};
+ghost use Rattle.std.specs.Prelude.{◌≡◌, ◌++◌, OnOk};
+ghost use Rattle.nb_store.specs.Touched.{touched};
 ghost use Rattle.nb_store.specs.Undo.{changes_nothing};
 
-use crate::step::Step;
+use crate::step::{Place, Step};
+use nv_base::OutOfMemory;
 
 /// What undoes an edit, with all the room that it takes.
 #[derive(Drop)]
@@ -15,5 +17,18 @@ impl Undo {
         ensures { result ≡ changes_nothing self.now }
     {
         self.steps.is_empty()
+    }
+
+    /// Puts the places of the objects that the edit changed after those that are there, once for each change (not from OVN). After
+    /// `OutOfMemory` some may be there.
+    pub fn put_places(&self, places: &mut Vec<Place>) -> Result<(), OutOfMemory>
+        ensures { OnOk result (places.new.items ≡ places.old.items ++ touched self.now) }
+    {
+        for step in &self.steps {
+            if let Some(place) = step.touched() {
+                places.push(place)?;
+            }
+        }
+        Ok(())
     }
 }

@@ -17,10 +17,11 @@ use Rattle.net_meaning.specs.declared.cause.Cause.TheVariants as cause
 use Rattle.net_meaning.specs.declared.event.PlainEvent.{PlainEvent}
 use Rattle.net_meaning.specs.declared.event.PlainEvent.TheVariants.{Output, Drop, Reject, HopLimit}
 
--- where a packet goes: out by one port, or a copy of it by each of several
+-- where a packet goes: out by one port, or a copy of it by each of several, or late by one port
 pub data Target : Type 0 where
   OnePort : ObjId → Target
   Ports : List ObjId → Target
+  Late : ObjId → Target
 
 -- what becomes of a packet in a part: it goes on, it is dropped, or a packet that is made goes by a port in its place
 pub data Passed : Type 0 where
@@ -128,10 +129,15 @@ module _ {N S : Type 0} (net : Network) (parts : Parts N S) (onward : Option (On
   abbrev pub is_same_port : ObjId → ObjId → Values → Bool
   is_same_port arrival port packet = same port arrival && (value packet FlagsLoopback == 0)
 
+  -- a packet goes by one port, unless it would go back by its own
+  abbrev pub sent_by : ObjId → ObjId → Values → S → (ObjId → Values → S → ObjId → Walked N S) → Walked N S
+  sent_by arrival port packet state leaving =
+      if is_same_port arrival port packet then ends (Drop (datapath_at net arrival) cause.SamePort ∷ []) state else leaving arrival packet state port
+
   -- A packet goes to where it is sent. None goes back by its own port, and no copy of a flood does.
   abbrev pub sent : ObjId → Target → Values → S → Walked N S
-  sent arrival (OnePort port) packet state =
-      if is_same_port arrival port packet then ends (Drop (datapath_at net arrival) cause.SamePort ∷ []) state else leaves arrival packet state port
+  sent arrival (OnePort port) packet state = sent_by arrival port packet state leaves
+  sent arrival (Late port) packet state = sent_by arrival port packet state leaves_late
   sent arrival (Ports ports) packet state = copies arrival packet state (filter (λ port. not (same port arrival)) ports)
 
   -- what follows the part of arriving at a port

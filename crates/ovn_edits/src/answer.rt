@@ -1,11 +1,13 @@
 use crate::choice::put_deciding;
 use crate::counts::put_counts;
 use crate::edits::readable_edits;
+use crate::touched::put_touched;
 use nb_check::Tables;
 use nb_dump::put_dump;
 use nb_show::put_network;
+use nb_store::Place;
 use nb_words::{Command, LineFault, Word, read_commands};
-use nv_base::OutOfMemory;
+use nv_base::{Items, OutOfMemory};
 use std::alloc::Global;
 
 // What a line asks for that is no edit.
@@ -16,6 +18,8 @@ enum Query<'c> {
     Show,
     // How much there is of each kind.
     Count,
+    // Which records the last line of edits that was accepted may have changed.
+    Touched,
     // Which ACLs of a switch decide on a packet from one MAC to another.
     Deciding {
         switch: &'c Word,
@@ -33,6 +37,7 @@ fn query_of(commands: &[Command]) -> Option<Query> {
         [word] if is_word(word, b"dump") => Some(Query::Dump),
         [word] if is_word(word, b"show") => Some(Query::Show),
         [word] if is_word(word, b"count") => Some(Query::Count),
+        [word] if is_word(word, b"touched") => Some(Query::Touched),
         [word, switch, source, destination] if is_word(word, b"deciding") => {
             Some(Query::Deciding {
                 switch,
@@ -52,6 +57,7 @@ fn is_word(word: &Word, text: &[u8]) -> bool {
 fn put_query(
     alloc: Global,
     tables: &Tables,
+    touched: &[Place],
     out: &mut Vec<u8>,
     query: Query,
 ) -> Result<(), LineFault> {
@@ -59,6 +65,7 @@ fn put_query(
         Query::Dump => Ok(put_dump(out, tables.records())?),
         Query::Show => Ok(put_network(alloc, out, tables.records())?),
         Query::Count => Ok(put_counts(alloc, tables, out)?),
+        Query::Touched => Ok(put_touched(out, touched)?),
         Query::Deciding {
             switch,
             source,
@@ -67,10 +74,11 @@ fn put_query(
     }
 }
 
-// Does what the line asks for, and appends its answer but for a refusal.
+// Does what the line asks for, notes which records it touched, and appends its answer but for a refusal.
 fn run_line(
     alloc: Global,
     tables: &mut Tables,
+    touched: &mut Items<Place>,
     out: &mut Vec<u8>,
     line: &[u8],
 ) -> Result<(), LineFault> {
@@ -80,14 +88,14 @@ fn run_line(
         return Ok(());
     }
     if let Some(query) = query_of(commands) {
-        put_query(alloc, tables, out, query)?;
+        put_query(alloc, tables, touched.as_slice(), out, query)?;
     } else {
         let edits = readable_edits(alloc, commands)?;
         if !tables.records().has_room(edits.as_slice().len()) {
             // No numbers are left.
             return Err(LineFault::Memory);
         }
-        tables.apply_all(alloc, edits)?;
+        *touched = tables.apply_all(alloc, edits)?.touched;
     }
     Ok(put_ok(out)?)
 }
@@ -98,14 +106,15 @@ fn put_ok(out: &mut Vec<u8>) -> Result<(), OutOfMemory> {
     Ok(())
 }
 
-/// Does what the line asks for, and appends its answer: `ok`, after the lines of a query, or its refusal.
+/// Does what the line asks for, notes which records it touched, and appends its answer: `ok`, after the lines of a query, or its refusal.
 pub(crate) fn put_answer(
     alloc: Global,
     tables: &mut Tables,
+    touched: &mut Items<Place>,
     out: &mut Vec<u8>,
     line: &[u8],
 ) -> Result<(), OutOfMemory> {
-    match run_line(alloc, tables, out, line) {
+    match run_line(alloc, tables, touched, out, line) {
         Ok(()) => Ok(()),
         Err(LineFault::Refused(refusal)) => refusal.put_line(out),
         Err(LineFault::Memory) => Err(OutOfMemory),

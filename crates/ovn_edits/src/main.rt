@@ -1,17 +1,19 @@
 //! `ovn_edits`: reads a script of editing commands on standard input, does what each line asks for, and answers each by `ok` or by its
 //! refusal; `dump` alone in a line is answered by the network, as the script that makes it, `show` by the network as ovn-nbctl(8) shows
 //! it, `count` by how much there is of each kind, and `deciding` before a switch and two MACs by the ACL that decides in each direction
-//! on a packet from the first to the second.
+//! on a packet from the first to the second; `touched` by the kinds and numbers of the records that the last accepted line of edits may have
+//! changed.
 #![tactic(auto)]
 
 mod answer;
 mod choice;
 mod counts;
 mod edits;
+mod touched;
 
 use answer::put_answer;
 use nb_check::Tables;
-use nv_base::OutOfMemory;
+use nv_base::{Items, OutOfMemory};
 use std::alloc::Global;
 use std::io::{self, ErrorKind, Read, Write};
 
@@ -35,8 +37,9 @@ fn put_answers(
     output: &mut Vec<u8>,
     script: &[u8],
 ) -> Result<(), OutOfMemory> {
+    let mut touched = Items::new(alloc);
     for line in script.split(|byte| *byte == b'\n') {
-        put_answer(alloc, tables, output, line)?;
+        put_answer(alloc, tables, &mut touched, output, line)?;
     }
     Ok(())
 }

@@ -8,7 +8,7 @@ use Rattle.act_core.specs.WellFormed.{is_action, is_well_formed}
 use Rattle.act_core.specs.declared.action.Action.{Action}
 use Rattle.act_core.specs.declared.action.Action.TheVariants as action
 use Rattle.act_core.specs.declared.step.Step.{Step}
-use Rattle.act_core.specs.declared.step.Step.TheVariants.{CtCommit}
+use Rattle.act_core.specs.declared.step.Step.TheVariants.{CtCommit, PutArp, GetArp}
 use Rattle.sb_model.specs.declared.stage.Stage.{Stage}
 use Rattle.tr_stage.specs.Runnable as runs
 use Rattle.tr_pipe.specs.Machine.{StageEnd, Effect, after, effect, run_actions}
@@ -40,7 +40,9 @@ module _ (net : Lookup) (stage : Stage) (whole : StageEnd) where
       → IsLeft (action.Step step ∷ others) flight → whole ≡ end
   ends_here step others flight end does left = left.0 ∙ ap (λ (e : Effect). after e (run_actions net stage others)) does
 
--- a change that is no commit changes any packet
-pub other_change : (net : Lookup) (step : Step) → ((blocked : Bool) → step ≡ CtCommit blocked → ⊥) → is_change net step ≡ true → runs.is_change net step ≡ true
-other_change net (CtCommit blocked) other is = absurd (other blocked refl)
-other_change net _ other is = is
+-- a change that is neither a commit nor of neighbours changes any packet
+pub other_change : (net : Lookup) (step : Step) → ((blocked : Bool) → step ≡ CtCommit blocked → ⊥) → (step ≡ PutArp → ⊥) → (step ≡ GetArp → ⊥) → is_change net step ≡ true → runs.is_change net step ≡ true
+other_change net (CtCommit blocked) no_commit no_put no_get is = absurd (no_commit blocked refl)
+other_change net PutArp no_commit no_put no_get is = absurd (no_put refl)
+other_change net GetArp no_commit no_put no_get is = absurd (no_get refl)
+other_change net _ no_commit no_put no_get is = is

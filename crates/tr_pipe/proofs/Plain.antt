@@ -7,7 +7,7 @@ use Rattle.expr_core.specs.Lookup.{Lookup}
 use Rattle.act_core.specs.declared.action.Action.{Action}
 use Rattle.act_core.specs.declared.action.Action.TheVariants as action
 use Rattle.act_core.specs.declared.step.Step.{Step}
-use Rattle.act_core.specs.declared.step.Step.TheVariants.{CtNext, CtCommit}
+use Rattle.act_core.specs.declared.step.Step.TheVariants.{CtNext, CtCommit, PutArp, GetArp}
 use Rattle.sb_model.specs.Stage.{stage_at}
 use Rattle.sb_model.specs.declared.row.Row.{Row}
 use Rattle.sb_model.specs.declared.stage.Pipeline.{Pipeline}
@@ -36,6 +36,10 @@ module _ (net : Lookup) (stage : Stage) where
   plain_effect CtNext flight (inr is) = absurd (false≢true is)
   plain_effect (CtCommit blocked) flight (inl is) = absurd (false≢true is)
   plain_effect (CtCommit blocked) flight (inr is) = absurd (false≢true is)
+  plain_effect PutArp flight (inl is) = absurd (false≢true is)
+  plain_effect PutArp flight (inr is) = absurd (false≢true is)
+  plain_effect GetArp flight (inl is) = absurd (false≢true is)
+  plain_effect GetArp flight (inr is) = absurd (false≢true is)
   plain_effect _ flight is = refl
 
   pub plain_actions : (actions : List Action) (flight : Flight) → steps.are_run net stage actions ≡ true → run_actions net stage actions flight ≡ ended flight (packets.run_actions net stage actions flight.packet)
@@ -61,6 +65,8 @@ module _ (net : Lookup) (stage : Stage) where
   -- what is run on packets is run with connections
   still_change : (step : Step) → runs.is_change net step ≡ true → is_change net step ≡ true
   still_change (CtCommit blocked) is = refl
+  still_change PutArp is = refl
+  still_change GetArp is = refl
   still_change _ is = is
 
   still_last : (last : Action) → runs.may_be_last net stage last ≡ true → may_be_last net stage last ≡ true

@@ -12,7 +12,7 @@ use Rattle.act_core.specs.WellFormed.{is_well_formed}
 use Rattle.act_core.specs.declared.action.Action.{Action}
 use Rattle.act_core.specs.declared.action.Action.TheVariants as action
 use Rattle.act_core.specs.declared.step.Step.{Step}
-use Rattle.act_core.specs.declared.step.Step.TheVariants.{CtNext, CtCommit}
+use Rattle.act_core.specs.declared.step.Step.TheVariants.{CtNext, CtCommit, PutArp, GetArp}
 use Rattle.sb_model.specs.declared.stage.Pipeline.{Pipeline}
 use Rattle.sb_model.specs.declared.stage.Stage.{Stage}
 use Rattle.sb_model.specs.declared.row.Row.{Row}
@@ -28,6 +28,7 @@ use Rattle.tr_stage.proofs.Runs.{changes, actions_lead, same_kinds, at_is_of_kin
 use Rattle.tr_pipe.specs.Machine.{StageEnd, after, acted, done, effect, ended, go_on, kept, on_to, run_actions, run_from, run_pipeline, step}
 use Rattle.tr_pipe.specs.Machine.StageEnd.{On, Ends}
 use Rattle.tr_pipe.specs.Runnable.{is_change, may_be_last, are_run, IsRunnable}
+use Rattle.tr_pipe.specs.Learning.{resolved, with_sender}
 use Rattle.tr_pipe.specs.Tracking.{Flight, coming, committed, tracked, with_packet, zone_of}
 use Rattle.tr_pipe.proofs.Plain.{plain_actions}
 use Rattle.tr_pipe.proofs.Steps.{pipeline_begins}
@@ -52,6 +53,8 @@ module _ (net : Lookup) (stage : Stage) where
       by : (left : Option State) → LeadsOn stage (after (kept flight left) others)
       by (Some state) = rest (record flight { state = state })
       by None = tt
+  change_leads PutArp flight others is rest = rest (record flight { state = with_sender flight.packet flight.state })
+  change_leads GetArp flight others is rest = rest (with_packet flight (resolved flight.state.nbrs flight.packet))
   change_leads CtNext flight others is rest = absurd (false≢true is)
   change_leads step flight others is rest =
       let change = changes net stage step flight.packet is in

@@ -1,3 +1,4 @@
+pub mod Learning
 pub mod Machine
 pub mod Runnable
 pub mod Tracking

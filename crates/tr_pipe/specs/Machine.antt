@@ -1,5 +1,5 @@
--- The run of a packet through one pipeline of a datapath, a step for each stage, with the connections that it is tracked in (ovn-sb(5),
--- 'Logical_Flow TABLE'; ovn-architecture(7)).
+-- The run of a packet through one pipeline of a datapath, a step for each stage, with the connections that it is tracked in and the
+-- neighbours that are known (ovn-sb(5), 'Logical_Flow TABLE'; ovn-architecture(7)).
 use Rattle.std.specs.Prelude.{ℕ, zero, suc, List, [], ◌∷◌, ◌++◌, Option, Some, None}
 use Rattle.pkt_core.specs.Packet.{Values}
 use Rattle.ct_core.specs.State.{State}
@@ -7,7 +7,7 @@ use Rattle.expr_core.specs.Lookup.{Lookup}
 use Rattle.act_core.specs.declared.action.Action.{Action}
 use Rattle.act_core.specs.declared.action.Action.TheVariants as action
 use Rattle.act_core.specs.declared.step.Step.{Step}
-use Rattle.act_core.specs.declared.step.Step.TheVariants.{CtNext, CtCommit}
+use Rattle.act_core.specs.declared.step.Step.TheVariants.{CtNext, CtCommit, PutArp, GetArp}
 use Rattle.sb_model.specs.declared.stage.Stage.{Stage}
 use Rattle.sb_model.specs.declared.stage.Pipeline.{Pipeline}
 use Rattle.sb_model.specs.declared.row.Row.{Row}
@@ -18,6 +18,7 @@ use Rattle.tr_stage.specs.declared.outcome.Outcome.{Outcome}
 use Rattle.tr_stage.specs.declared.outcome.Outcome.TheVariants.{Drop}
 use Rattle.tr_stage.specs.Machine as packets
 use Rattle.tr_stage.specs.Machine.{Flows, acting, hit_at, kind_of, step_budget}
+use Rattle.tr_pipe.specs.Learning.{resolved, with_sender}
 use Rattle.tr_pipe.specs.Tracking.{Flight, coming, committed, tracked, with_packet, zone_of}
 
 -- How a packet's step through a stage ends: it goes on at a stage, or it comes to the end of the pipeline, which leaves a state.
@@ -35,7 +36,7 @@ pub data Effect : Type 0 where
   Changed : Flight → Effect
   Done : StageEnd → Effect
 
--- what asks for no connection does to the packet what it does to any, and leaves the state
+-- what asks for no connection and no neighbour does to the packet what it does to any, and leaves the state
 abbrev pub ended : Flight → packets.StageEnd → StageEnd
 ended flight (packets.StageEnd.On stage packet) = On stage (with_packet flight packet)
 ended flight (packets.StageEnd.Ends outcome) = Ends outcome flight.state
@@ -53,6 +54,8 @@ kept flight None = Done (Ends (Some (Drop CtFull)) flight.state)
 abbrev pub effect : Lookup → Stage → Step → Flight → Effect
 effect net stage CtNext flight = Done (on_to (next_stage stage) (tracked (zone_of (pipeline_of stage) flight.packet) flight))
 effect net stage (CtCommit blocked) flight = kept flight (committed (zone_of (pipeline_of stage) flight.packet) blocked flight.packet flight.state flight.look)
+effect net stage PutArp flight = Changed (record flight { state = with_sender flight.packet flight.state })
+effect net stage GetArp flight = Changed (with_packet flight (resolved flight.state.nbrs flight.packet))
 effect net stage step flight = done flight (packets.effect net stage step flight.packet)
 
 -- after an action: the others follow, or none does

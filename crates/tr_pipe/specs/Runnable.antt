@@ -5,16 +5,18 @@ use Rattle.act_core.specs.WellFormed.{is_well_formed}
 use Rattle.act_core.specs.declared.action.Action.{Action}
 use Rattle.act_core.specs.declared.action.Action.TheVariants as action
 use Rattle.act_core.specs.declared.step.Step.{Step}
-use Rattle.act_core.specs.declared.step.Step.TheVariants.{CtNext, CtCommit}
+use Rattle.act_core.specs.declared.step.Step.TheVariants.{CtNext, CtCommit, PutArp, GetArp}
 use Rattle.sb_model.specs.declared.stage.Stage.{Stage}
 use Rattle.sb_model.specs.Stage.{stage_table, is_same_kind, is_last}
 use Rattle.tr_stage.specs.Machine.{Flows, kind_of}
 use Rattle.tr_stage.specs.Runnable as packets
 use Rattle.tr_stage.specs.Runnable.{TakesEach}
 
--- what others may follow: an assignment, an exchange, or a commit
+-- what others may follow: a change of the packet alone, a commit, or what is learnt of neighbours or asked of them
 abbrev pub is_change : Lookup → Step → Bool
 is_change net (CtCommit blocked) = true
+is_change net PutArp = true
+is_change net GetArp = true
 is_change net step = packets.is_change net step
 
 -- what may be a row's last action: one that asks for no connection, or a look-up where there is a next stage

@@ -5,6 +5,7 @@ ghost use Rattle.tr_pipe.specs.Machine.{effect, run_actions};
 ghost use Rattle.tr_pipe.specs.Runnable.{is_change, may_be_last, are_run};
 ghost use Rattle.tr_pipe.specs.inner.Moving.{effect_of, in_flight, with_flight};
 
+use crate::learn::{get_arp, put_arp};
 use crate::moving::Moving;
 use crate::track::{commit, track};
 use act_core::{Action, Step};
@@ -58,6 +59,14 @@ fn do_step<E: Env>(
 {
     match step {
         Step::CtCommit { blocked } => commit(stage, *blocked, moving, work),
+        Step::PutArp => {
+            put_arp(&moving.packet, work)?;
+            Ok(None)
+        }
+        Step::GetArp => {
+            get_arp(&mut moving.packet, work);
+            Ok(None)
+        }
         _ => {
             change(env, step, &mut moving.packet);
             Ok(None)

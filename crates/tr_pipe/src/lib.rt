@@ -1,7 +1,9 @@
-//! The stage machine: what the rows of one pipeline do with a packet and the connections that it is tracked in.
+//! The stage machine: what the rows of one pipeline do with a packet, the connections that it is tracked in, and the neighbours that are
+//! known.
 #![tactic(auto)]
 
 mod act;
+mod learn;
 mod machine;
 mod moving;
 mod track;

@@ -16,7 +16,7 @@ use pkt_core::Packet;
 use sb_model::{DatapathKind, Pipeline, Row, Stage};
 use sb_rows::Rows;
 use std::ops::ControlFlow;
-use tr_stage::{Answer, Ending, Hit, Outcome};
+use tr_stage::{Ending, Hit, Outcome};
 
 // How many steps a packet may take in one pipeline.
 const STEP_BUDGET: usize = 128;
@@ -104,7 +104,8 @@ fn after(ending: Ending, packet: &Packet) -> ControlFlow<Outcome, Stage>
     match ending {
         Ending::On(stage) => ControlFlow::Continue(stage),
         Ending::Sent(pipeline) => ControlFlow::Break(sent(pipeline, packet)),
-        Ending::Made(table) => ControlFlow::Break(Outcome::Made(*packet, table, Answer::Reject)),
+        Ending::Left(table) => ControlFlow::Break(Outcome::Leave(*packet, table)),
+        Ending::Made(table, answer) => ControlFlow::Break(Outcome::Made(*packet, table, answer)),
         Ending::Dropped(cause) => ControlFlow::Break(Outcome::Drop(cause)),
     }
 }

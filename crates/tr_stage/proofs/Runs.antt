@@ -10,16 +10,19 @@ use Rattle.act_core.specs.WellFormed.{is_well_formed}
 use Rattle.act_core.specs.declared.action.Action.{Action}
 use Rattle.act_core.specs.declared.action.Action.TheVariants as action
 use Rattle.act_core.specs.declared.step.Step.{Step}
-use Rattle.act_core.specs.declared.step.Step.TheVariants.{Next, Jump, Output, Drop, Set, Copy, SetOutport, Exchange}
+use Rattle.act_core.specs.declared.step.Step.TheVariants.{Next, Jump, Output, Drop, Set, Copy, SetOutport, Exchange, DecTtl}
 use Rattle.sb_model.specs.declared.stage.DatapathKind.{DatapathKind}
 use Rattle.sb_model.specs.declared.stage.DatapathKind.TheVariants.{Switch, Router}
 use Rattle.sb_model.specs.declared.stage.Pipeline.{Pipeline}
+use Rattle.sb_model.specs.declared.stage.Pipeline.TheVariants.{Ingress, Egress}
 use Rattle.sb_model.specs.declared.stage.Stage.{Stage}
 use Rattle.sb_model.specs.declared.row.Row.{Row}
-use Rattle.sb_model.specs.Stage.{stage_table, all_stages, stage_at, next_stage, is_same_kind, is_at}
+use Rattle.sb_model.specs.Stage.{stage_table, all_stages, stage_at, next_stage, is_same_kind, is_same_pipeline, is_at, pipeline_of}
+use Rattle.net_meaning.specs.declared.answer.Answer.{Answer}
+use Rattle.net_meaning.specs.declared.answer.Answer.TheVariants.{Reject, Arp}
 use Rattle.net_meaning.specs.declared.cause.Cause.{Cause}
 use Rattle.tr_stage.specs.declared.outcome.Outcome.TheVariants as outcomes
-use Rattle.tr_stage.specs.Machine.{Flows, StageEnd, Effect, cause_at, number_of, on_to, bound_for, effect, after, after_change, end_block, run_block, reset_for, error_for, answer_for, answered, run_actions, acting, step}
+use Rattle.tr_stage.specs.Machine.{Flows, StageEnd, Effect, cause_at, number_of, on_to, bound_for, effect, after, after_change, left_for, made_for, end_block, run_block, reset_for, error_for, answer_for, arp_for, answered, run_actions, acting, step}
 use Rattle.tr_stage.specs.Machine.StageEnd.{On, Ends}
 use Rattle.tr_stage.specs.Machine.Effect.{Changed}
 use Rattle.tr_stage.specs.Runnable.{is_change, may_end, may_end_block, is_block, may_answer}
@@ -47,6 +50,11 @@ module _ (net : Lookup) (stage : Stage) where
       by None is may = absurd (false≢true may)
   last_leads Output packet may = tt
   last_leads Drop packet may = drop_leads (cause_at stage) may
+  last_leads (Jump true table) packet may = by (pipeline_of stage) may
+    where
+      by : (pipeline : Pipeline) → is_same_pipeline pipeline Ingress ≡ true → LeadsOn stage (left_for pipeline table packet)
+      by Ingress is = tt
+      by Egress is = absurd (false≢true is)
   last_leads _ packet may = absurd (false≢true may)
 
   -- an assignment or an exchange changes the packet
@@ -59,26 +67,32 @@ module _ (net : Lookup) (stage : Stage) where
       by (Some number) is = (_, refl)
       by None is = absurd (false≢true is)
   changes (Exchange one other) packet is = (_, refl)
+  changes DecTtl packet is = (_, refl)
   changes _ packet is = absurd (false≢true is)
 
   -- a block's last action comes to an outcome
-  end_leads : (step : Step) (packet : Values) → may_end_block step ≡ true → LeadsOn stage (end_block step packet)
-  end_leads (Jump true table) packet may = tt
-  end_leads _ packet may = absurd (false≢true may)
+  end_leads : (answer : Answer) (step : Step) (packet : Values) → may_end_block stage step ≡ true → LeadsOn stage (end_block stage answer step packet)
+  end_leads answer (Jump true table) packet may = tt
+  end_leads answer Output packet may = by (pipeline_of stage) may
+    where
+      by : (pipeline : Pipeline) → is_same_pipeline pipeline Ingress ≡ true → LeadsOn stage (made_for pipeline answer packet)
+      by Ingress is = tt
+      by Egress is = absurd (false≢true is)
+  end_leads answer _ packet may = absurd (false≢true may)
 
   -- so does a block
-  block_leads : (block : List Step) (packet : Values) → is_block net block ≡ true → LeadsOn stage (run_block net stage block packet)
-  block_leads [] packet is = absurd (false≢true is)
-  block_leads (last ∷ []) packet is = end_leads last packet is
-  block_leads (step ∷ other ∷ others) packet is =
-      let parts = and_parts (is_change net step) (is_block net (other ∷ others)) is in
+  block_leads : (answer : Answer) (block : List Step) (packet : Values) → is_block net stage block ≡ true → LeadsOn stage (run_block net stage answer block packet)
+  block_leads answer [] packet is = absurd (false≢true is)
+  block_leads answer (last ∷ []) packet is = end_leads answer last packet is
+  block_leads answer (step ∷ other ∷ others) packet is =
+      let parts = and_parts (is_change net step) (is_block net stage (other ∷ others)) is in
       let change = changes step packet parts.0 in
-      subst (λ (e : Effect). LeadsOn stage (after_change e (run_block net stage (other ∷ others)))) (sym change.1) (block_leads (other ∷ others) change.0 parts.1)
+      subst (λ (e : Effect). LeadsOn stage (after_change e (run_block net stage answer (other ∷ others)))) (sym change.1) (block_leads answer (other ∷ others) change.0 parts.1)
 
   -- a packet is answered, or dropped
   answered_leads : (block : List Step) (reply : Option Values) → may_answer net stage block ≡ true → LeadsOn stage (answered net stage block reply)
-  answered_leads block (Some packet) may = block_leads block packet (and_parts (is_some (cause_at stage)) (is_block net block) may).1
-  answered_leads block None may = drop_leads (cause_at stage) (and_parts (is_some (cause_at stage)) (is_block net block) may).0
+  answered_leads block (Some packet) may = block_leads Reject block packet (and_parts (is_some (cause_at stage)) (is_block net stage block) may).1
+  answered_leads block None may = drop_leads (cause_at stage) (and_parts (is_some (cause_at stage)) (is_block net stage block) may).0
 
   -- so the actions that the machine runs lead on
   pub actions_lead : (actions : List Action) (packet : Values) → are_run net stage actions ≡ true → LeadsOn stage (run_actions net stage actions packet)
@@ -87,7 +101,7 @@ module _ (net : Lookup) (stage : Stage) where
   actions_lead (action.TcpReset block ∷ []) packet run = answered_leads block (reset_for packet) run
   actions_lead (action.Icmp4 block ∷ []) packet run = answered_leads block (error_for packet) run
   actions_lead (action.Reject block ∷ []) packet run = answered_leads block (answer_for packet) run
-  actions_lead (action.Arp block ∷ []) packet run = absurd (false≢true run)
+  actions_lead (action.Arp block ∷ []) packet run = block_leads Arp block (arp_for packet) run
   actions_lead (action.Step step ∷ other ∷ others) packet run =
       let parts = and_parts (is_change net step) (are_run net stage (other ∷ others)) run in
       let change = changes step packet parts.0 in

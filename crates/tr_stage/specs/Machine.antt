@@ -1,10 +1,10 @@
 -- What the rows of a stage do with a packet of which they ask for no connection (ovn-sb(5), 'Logical_Flow TABLE'; ovn-architecture(7)).
-use Rattle.std.specs.Prelude.{ℕ, true, ◌&&◌, List, [], ◌∷◌, Option, Some, None, option_map, if◌then◌else◌}
+use Rattle.std.specs.Prelude.{ℕ, ◌-◌, true, ◌&&◌, List, [], ◌∷◌, Option, Some, None, option_map, if◌then◌else◌}
 use Rattle.std.specs.Str.{bytes_eq}
 use Rattle.nv_base.specs.declared.object.ObjId.{ObjId}
-use Rattle.nv_base.specs.declared.field.Field.TheVariants.{Outport}
+use Rattle.nv_base.specs.declared.field.Field.TheVariants.{Outport, EthSrc, EthDst, EthType, IpTtl, ArpSha}
 use Rattle.nv_base.specs.declared.field.Prerequisite.TheVariants.{Tcp}
-use Rattle.pkt_core.specs.Packet.{Values, value, with_value, exchanged}
+use Rattle.pkt_core.specs.Packet.{Values, value, with_value, with_values, exchanged, workings}
 use Rattle.pkt_core.specs.Prerequisite.{meets}
 use Rattle.pkt_core.specs.Replies.{is_answerable, reset, icmp_error}
 use Rattle.pkt_core.specs.declared.replies.IcmpReason.TheVariants.{PortUnreachable}
@@ -12,9 +12,9 @@ use Rattle.expr_core.specs.Lookup.{Lookup}
 use Rattle.act_core.specs.declared.action.Action.{Action}
 use Rattle.act_core.specs.declared.action.Action.TheVariants as action
 use Rattle.act_core.specs.declared.step.Step.{Step}
-use Rattle.act_core.specs.declared.step.Step.TheVariants.{Next, Jump, Output, Drop, Set, Copy, SetOutport, Exchange}
+use Rattle.act_core.specs.declared.step.Step.TheVariants.{Next, Jump, Output, Drop, Set, Copy, SetOutport, Exchange, DecTtl}
 use Rattle.sb_model.specs.declared.stage.Stage.{Stage}
-use Rattle.sb_model.specs.declared.stage.Stage.TheVariants.{LsInCheckPortSec, LsInAclEval, LsInL2Unknown, LsOutAclEval, LsOutCheckPortSec}
+use Rattle.sb_model.specs.declared.stage.Stage.TheVariants.{LsInCheckPortSec, LsInAclEval, LsInL2Unknown, LsOutAclEval, LsOutCheckPortSec, LrInAdmission, LrInIpInput, LrInIpRouting, LrOutDelivery}
 use Rattle.sb_model.specs.declared.stage.DatapathKind.{DatapathKind}
 use Rattle.sb_model.specs.declared.stage.DatapathKind.TheVariants.{Switch, Router}
 use Rattle.sb_model.specs.declared.stage.Pipeline.{Pipeline}
@@ -22,9 +22,10 @@ use Rattle.sb_model.specs.declared.stage.Pipeline.TheVariants.{Ingress, Egress}
 use Rattle.sb_model.specs.declared.row.Row.{Row}
 use Rattle.sb_model.specs.Stage.{pipeline_of, next_stage}
 use Rattle.sb_rows.specs.Match.{select}
-use Rattle.net_meaning.specs.declared.answer.Answer.TheVariants.{Reject}
+use Rattle.net_meaning.specs.declared.answer.Answer.{Answer}
+use Rattle.net_meaning.specs.declared.answer.Answer.TheVariants.{Reject, Arp}
 use Rattle.net_meaning.specs.declared.cause.Cause.{Cause}
-use Rattle.net_meaning.specs.declared.cause.Cause.TheVariants.{PortSec, Acl, Unknown}
+use Rattle.net_meaning.specs.declared.cause.Cause.TheVariants.{PortSec, Acl, Unknown, Admission, IpInput, NoRoute, Delivery}
 use Rattle.tr_stage.specs.declared.outcome.Hit.{Hit}
 use Rattle.tr_stage.specs.declared.outcome.Outcome.{Outcome}
 use Rattle.tr_stage.specs.declared.outcome.Outcome.TheVariants as outcomes
@@ -48,6 +49,10 @@ cause_at LsInAclEval = Some Acl
 cause_at LsInL2Unknown = Some Unknown
 cause_at LsOutAclEval = Some Acl
 cause_at LsOutCheckPortSec = Some PortSec
+cause_at LrInAdmission = Some Admission
+cause_at LrInIpInput = Some IpInput
+cause_at LrInIpRouting = Some NoRoute
+cause_at LrOutDelivery = Some Delivery
 cause_at _ = None
 
 -- what `outport` becomes for a name: the number of the multicast group, each port or each port for unknown addresses, or of the port
@@ -73,6 +78,11 @@ abbrev pub on_to : Option Stage → Values → StageEnd
 on_to (Some stage) packet = On stage packet
 on_to None packet = Ends None
 
+-- a packet goes to a table of egress, from ingress
+abbrev pub left_for : Pipeline → ℕ → Values → StageEnd
+left_for Ingress table packet = Ends (Some (outcomes.Leave packet table))
+left_for Egress table packet = Ends None
+
 -- what an action does: it changes the packet, or it ends the step
 pub data Effect : Type 0 where
   Changed : Values → Effect
@@ -86,12 +96,14 @@ bound_for None packet = Done (Ends None)
 -- what an action of a row in a stage does to a packet (ovn-sb(5), actions)
 abbrev pub effect : Lookup → Stage → Step → Values → Effect
 effect net stage Next packet = Done (on_to (next_stage stage) packet)
+effect net stage (Jump true table) packet = Done (left_for (pipeline_of stage) table packet)
 effect net stage Output packet = Done (Ends (Some (sent (pipeline_of stage) packet)))
 effect net stage Drop packet = Done (Ends (option_map outcomes.Drop (cause_at stage)))
 effect net stage (Set field bits constant) packet = Changed (with_part packet field bits constant.value)
 effect net stage (Copy field bits from) packet = Changed (with_part packet field bits (value packet from))
 effect net stage (SetOutport name) packet = bound_for (number_of net name) packet
 effect net stage (Exchange one other) packet = Changed (exchanged packet one other)
+effect net stage DecTtl packet = Changed (with_value packet IpTtl (value packet IpTtl - 1))
 effect net stage _ packet = Done (Ends None)
 
 -- after an action: the others follow with the changed packet, or none does
@@ -104,16 +116,22 @@ abbrev pub after_change : Effect → (Values → StageEnd) → StageEnd
 after_change (Changed packet) others = others packet
 after_change (Done ending) others = Ends None
 
+-- a packet that is made goes out of the first table of egress, from ingress
+abbrev pub made_for : Pipeline → Answer → Values → StageEnd
+made_for Ingress answer packet = Ends (Some (outcomes.Made packet 0 answer))
+made_for Egress answer packet = Ends None
+
 -- a block's last action: the packet that is made goes out of a table of egress
-abbrev pub end_block : Step → Values → StageEnd
-end_block (Jump true table) packet = Ends (Some (outcomes.Made packet table Reject))
-end_block _ packet = Ends None
+abbrev pub end_block : Stage → Answer → Step → Values → StageEnd
+end_block stage answer (Jump true table) packet = Ends (Some (outcomes.Made packet table answer))
+end_block stage answer Output packet = made_for (pipeline_of stage) answer packet
+end_block stage answer _ packet = Ends None
 
 -- what a block does to the packet that is made: changes, and then the last action
-abbrev pub run_block : Lookup → Stage → List Step → Values → StageEnd
-run_block net stage [] packet = Ends None
-run_block net stage (last ∷ []) packet = end_block last packet
-run_block net stage (step ∷ others) packet = after_change (effect net stage step packet) (run_block net stage others)
+abbrev pub run_block : Lookup → Stage → Answer → List Step → Values → StageEnd
+run_block net stage answer [] packet = Ends None
+run_block net stage answer (last ∷ []) packet = end_block stage answer last packet
+run_block net stage answer (step ∷ others) packet = after_change (effect net stage step packet) (run_block net stage answer others)
 
 -- the reset that answers a packet, and the ICMP error, where it may be answered; a rejected packet is answered by the first if it is TCP
 abbrev pub reset_for : Values → Option Values
@@ -125,9 +143,13 @@ error_for packet = if is_answerable packet then Some (icmp_error packet PortUnre
 abbrev pub answer_for : Values → Option Values
 answer_for packet = if meets packet Tcp then reset_for packet else error_for packet
 
+-- the ARP packet that takes the place of a packet: from and to its Ethernet addresses, and all else zero, but the working fields stay
+abbrev pub arp_for : Values → Values
+arp_for packet = with_values (workings packet) ((EthSrc, value packet EthSrc) ∷ (EthDst, value packet EthDst) ∷ (EthType, 0x806) ∷ (ArpSha, value packet EthSrc) ∷ [])
+
 -- the block runs on the packet that answers; one that may not be answered is dropped
 abbrev pub answered : Lookup → Stage → List Step → Option Values → StageEnd
-answered net stage block (Some packet) = run_block net stage block packet
+answered net stage block (Some packet) = run_block net stage Reject block packet
 answered net stage block None = Ends (option_map outcomes.Drop (cause_at stage))
 
 -- what actions do, one after the other; nothing follows a block
@@ -137,6 +159,7 @@ run_actions net stage (action.Step step ∷ others) packet = after (effect net s
 run_actions net stage (action.TcpReset block ∷ []) packet = answered net stage block (reset_for packet)
 run_actions net stage (action.Icmp4 block ∷ []) packet = answered net stage block (error_for packet)
 run_actions net stage (action.Reject block ∷ []) packet = answered net stage block (answer_for packet)
+run_actions net stage (action.Arp block ∷ []) packet = run_block net stage Arp block (arp_for packet)
 run_actions net stage (_ ∷ others) packet = Ends None
 
 -- the row that acts on a packet in a stage

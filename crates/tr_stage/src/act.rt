@@ -9,10 +9,10 @@ ghost use Rattle.tr_stage.specs.Machine.Effect.{Changed, Done};
 ghost use Rattle.tr_stage.specs.Runnable.{is_change, may_end, may_be_last};
 ghost use Rattle.tr_stage.specs.Ending.{with_packet};
 
-use crate::Cause;
-use crate::block::{answer, answer_for, error_for, reset_for};
+use crate::block::{answer, answer_for, arp_for, error_for, reset_for, run_block};
 use crate::cause::cause_at;
 use crate::part::set_part;
+use crate::{Answer, Cause};
 use act_core::{Action, Step};
 use expr_core::Env;
 use nv_base::{FLOOD_GROUP, FLOOD_NUMBER, Field, Name, UNKNOWN_GROUP, UNKNOWN_NUMBER};
@@ -26,13 +26,15 @@ pub enum Ending {
     On(Stage),
     /// It goes out of this pipeline.
     Sent(Pipeline),
-    /// It was made in the place of another, which is rejected, and goes on at the table of egress of this number.
-    Made(u8),
+    /// It leaves ingress for the table of egress of this number.
+    Left(u8),
+    /// It was made in the place of another, as the answer says, and goes on at the table of egress of this number.
+    Made(u8, Answer),
     /// It is dropped.
     Dropped(Cause),
 }
 
-/// Does an action of a row, which is an assignment or an exchange.
+/// Does an action of a row that others may follow: an assignment, an exchange, or `ip.ttl--`, which stops at zero.
 pub fn change<E: Env>(env: &E, step: &Step, packet: &mut Packet)
     requires formed { IsTrue (is_step step.now) }
     requires change { IsTrue (is_change (E.lookup env.now) step.now) }
@@ -49,6 +51,10 @@ pub fn change<E: Env>(env: &E, step: &Step, packet: &mut Packet)
             None => unreachable!(),
         },
         Step::Exchange(one, other) => packet.exchange(*one, *other),
+        Step::DecTtl => {
+            let hops = packet.get(Field::IpTtl).saturating_sub(1);
+            packet.set(Field::IpTtl, hops);
+        }
         _ => unreachable!(),
     }
 }
@@ -73,7 +79,13 @@ pub fn end<E: Env>(env: &E, stage: Stage, last: &Action, packet: &mut Packet) ->
             let reply = answer_for(packet);
             answer(env, stage, block.as_slice(), reply, packet)
         }
-        Action::Arp(_) => unreachable!(),
+        Action::Arp(block) => {
+            *packet = arp_for(packet);
+            Ending::Made(
+                run_block(env, stage, Answer::Arp, block.as_slice(), packet),
+                Answer::Arp,
+            )
+        }
     }
 }
 
@@ -89,6 +101,10 @@ fn end_step(stage: Stage, step: &Step) -> Ending
         },
         Step::Output => Ending::Sent(stage.pipeline()),
         Step::Drop => Ending::Dropped(cause_at(stage)),
+        Step::Jump {
+            egress: true,
+            table,
+        } => Ending::Left(*table),
         _ => unreachable!(),
     }
 }

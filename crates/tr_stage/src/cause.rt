@@ -14,6 +14,10 @@ pub(crate) fn cause_at(stage: Stage) -> Cause
         Stage::LsInCheckPortSec | Stage::LsOutCheckPortSec => Cause::PortSec,
         Stage::LsInAclEval | Stage::LsOutAclEval => Cause::Acl,
         Stage::LsInL2Unknown => Cause::Unknown,
+        Stage::LrInAdmission => Cause::Admission,
+        Stage::LrInIpInput => Cause::IpInput,
+        Stage::LrInIpRouting => Cause::NoRoute,
+        Stage::LrOutDelivery => Cause::Delivery,
         _ => unreachable!(),
     }
 }

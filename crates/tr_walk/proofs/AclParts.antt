@@ -61,7 +61,7 @@ use Rattle.ls_ct_laws.proofs.Alike.{same_ip4, same_look, same_tuple}
 use Rattle.ls_ct_laws.proofs.Independent.{same_deciding}
 use Rattle.ls_ct_laws.proofs.Onward.{same_rejected}
 use Rattle.ls_ct_laws.proofs.Noted.{AreAlike, is_noted, alike_noted, alike_self}
-use Rattle.tr_walk.specs.Machine.{after_ingress, after_egress, numbered, part_of}
+use Rattle.tr_walk.specs.Machine.{after_ingress, after_egress, late_table, numbered, part_of}
 use Rattle.tr_walk.specs.Refined.{DoesPart, IsFresh}
 use Rattle.tr_walk.proofs.Carried.{carried_back, back_outport}
 use Rattle.tr_walk.proofs.Formed.{reset_is, reset_inport, error_is, error_inport}
@@ -73,7 +73,7 @@ port_field To = Outport
 
 abbrev pub outcome_after : Network → ObjId → Way → Option Outcome → Option Passed
 outcome_after net dp From = after_ingress net dp
-outcome_after net dp To = after_egress
+outcome_after net dp To = after_egress net dp
 
 -- ---- what stages do where the switch tracks connections, and where it does not
 
@@ -130,7 +130,7 @@ same_committed a b alike zone state (Some (Found place Orig false blocked)) = re
 same_committed a b alike zone state (Some (Found place Reply true blocked)) = refl
 same_committed a b alike zone state (Some (Found place Reply false blocked)) = refl
 
-module _ (net : Network) (sound : IsSound net) (port : Port) (way : Way) (packet : Values) (state : State) (formed : IsPacket packet) (fresh : IsFresh packet) (here : value packet (port_field way) ≡ port.id.0) (onward : Passed) where
+module _ (net : Network) (sound : IsSound net) (port : Port) (last_is : late_table net port.switch ≡ last_table kinds.Switch) (way : Way) (packet : Values) (state : State) (formed : IsPacket packet) (fresh : IsFresh packet) (here : value packet (port_field way) ≡ port.id.0) (onward : Passed) where
   abbrev dp : ObjId
   dp = port.switch
 
@@ -204,8 +204,8 @@ module _ (net : Network) (sound : IsSound net) (port : Port) (way : Way) (packet
   answer_seen k is true = by way
     where
       by : (w : Way) → option_map carrying (outcome_after net dp w (Some (Made (sent_back (rejection k)) (last_table kinds.Switch) Reject))) ≡ Some (carrying (Makes Reject (numbered (value k Inport)) (turned_back (rejection k))))
-      by From = rw (back_outport (rejection k) (rejection_is k is) ∙ rejection_inport k, carried_back (rejection k) (rejection_is k is)) refl
-      by To = rw (back_outport (rejection k) (rejection_is k is) ∙ rejection_inport k, carried_back (rejection k) (rejection_is k is)) refl
+      by From = rw (last_is, back_outport (rejection k) (rejection_is k is) ∙ rejection_inport k, carried_back (rejection k) (rejection_is k is)) refl
+      by To = rw (last_is, back_outport (rejection k) (rejection_is k is) ∙ rejection_inport k, carried_back (rejection k) (rejection_is k is)) refl
   answer_seen k is false = ap (option_map carrying) (drops_seen acl_cause)
 
   -- the packet ends here, with this state

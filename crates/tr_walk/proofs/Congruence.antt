@@ -16,7 +16,7 @@ use Rattle.net_meaning.specs.Places.{side_of, datapath_at}
 use Rattle.net_meaning.specs.Places.Side.{Host}
 use Rattle.net_meaning.specs.Walk.{Target, Passed, Part, Parts, Told, Walked, Onward, ends, told_of, after_told, carrying, then_part, delivered_to, made, left, leaves, leaves_late, copies, is_same_port, sent, arrived, enters, hops_left, walk, events}
 use Rattle.net_meaning.specs.Walk.Passed.{GoesOn, Drops, Makes}
-use Rattle.net_meaning.specs.Walk.Target.{OnePort, Ports}
+use Rattle.net_meaning.specs.Walk.Target.{OnePort, Ports, Late}
 use Rattle.net_meaning.specs.Walk.Told.{Note, Happens}
 use Rattle.tr_walk.specs.Refined.{AreAlike, IsFresh}
 
@@ -73,6 +73,7 @@ module _ (net : Network) where
   abbrev pub IsKept : Option Passed → Type 0
   IsKept None = Unit {0}
   IsKept (Some (GoesOn (OnePort port) packet)) = IsPort port × IsInside packet
+  IsKept (Some (GoesOn (Late port) packet)) = IsPort port × IsInside packet
   IsKept (Some (GoesOn (Ports ports) packet)) = AllByRecursion IsPort ports × IsInside packet
   IsKept (Some (Drops why)) = Unit {0}
   IsKept (Some (Makes answer.Reject port packet)) = IsPort port × IsInside packet
@@ -161,6 +162,11 @@ module _ (net : Network) where
           by : (b : Bool) → AreAlike (cond b (ends {N = N} (Drop (datapath_at net arrival) cause.SamePort ∷ []) state) (leaves net ps o arrival packet state port)) (cond b (ends {N = M} (Drop (datapath_at net arrival) cause.SamePort ∷ []) state) (leaves net qs p arrival packet state port))
           by true = ends_alike (Drop (datapath_at net arrival) cause.SamePort ∷ []) state
           by false = leaves_alike arrival packet state port at kept.1 kept.0
+      sent_alike arrival (Late port) packet state at kept = by (is_same_port net ps o arrival port packet)
+        where
+          by : (b : Bool) → AreAlike (cond b (ends {N = N} (Drop (datapath_at net arrival) cause.SamePort ∷ []) state) (leaves_late net ps o arrival packet state port)) (cond b (ends {N = M} (Drop (datapath_at net arrival) cause.SamePort ∷ []) state) (leaves_late net qs p arrival packet state port))
+          by true = ends_alike (Drop (datapath_at net arrival) cause.SamePort ∷ []) state
+          by false = late_alike arrival packet state port at kept.1 kept.0
       sent_alike arrival (Ports ports) packet state at kept = copies_alike arrival packet state (filter (λ port. not (same port arrival)) ports) at kept.1 (others arrival ports kept.0)
 
       arrived_alike : (arrival : ObjId) → IsPort arrival → (passed : Option Passed) (state : S) → IsKept passed → AreAlike (arrived net ps o arrival passed state) (arrived net qs p arrival passed state)

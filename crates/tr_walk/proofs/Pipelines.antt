@@ -59,7 +59,7 @@ use Rattle.ls_ct_laws.proofs.PlainSteps.{plain_stage_of, plain_where_untracked}
 use Rattle.ls_ct_laws.proofs.RuleRuns.{asks_for_connections}
 use Rattle.ls_ct_laws.proofs.TrackedAcls.{rules_of}
 use Rattle.ls_ct_laws.proofs.Connections.{asks_of, looks_up_of, keeps_of}
-use Rattle.tr_walk.specs.Machine.{numbered, target_of, after_ingress, after_egress}
+use Rattle.tr_walk.specs.Machine.{numbered, target_of, after_ingress, after_egress, late_table}
 use Rattle.tr_walk.specs.Refined.{IsFresh}
 use Rattle.tr_walk.proofs.AclParts.{Does, LawsElsewhere, LawsWhereTracked, after_step, acl_part, does_same}
 use Rattle.tr_walk.proofs.Carried.{carried_outport, carried_back, back_outport}
@@ -109,6 +109,9 @@ module _ (net : Network) (sound : IsSound net) (plain : IsPlain net) (port : Por
 
   of_switch : kind_of flows ≡ kinds.Switch
   of_switch = subst (λ (d : ObjId). kind_of (flows_at net d) ≡ kinds.Switch) of.2 (rw (numbered_switch net.switches of.0 of.1) refl)
+
+  pub last_is : late_table net dp ≡ last_table kinds.Switch
+  last_is = ap last_table of_switch
 
   pub at_dp : datapath_at net port.id ≡ dp
   at_dp = rw (at_its_number net sound plain port there) refl
@@ -268,27 +271,31 @@ module _ (net : Network) (sound : IsSound net) (plain : IsPlain net) (port : Por
       where
         by : (b : Bool) → Does seen (go_on (run_from flows 127) (ended (coming packet state) (cond b (packets.StageEnd.On LsInPreAcl packet) (packets.StageEnd.Ends (Some (Drop PortSec))))))
             (cond b (after_acls (ruled net From port packet state) packet (asked net port packet)) (done (Drops PortSec) state))
-        by true = acl_part net sound port From packet state formed fresh from (asked net port packet) 122 rest_in 124 through_lb of_host (where_tracked From) (where_not From)
+        by true = acl_part net sound port last_is From packet state formed fresh from (asked net port packet) 122 rest_in 124 through_lb of_host (where_tracked From) (where_not From)
         by false = record { passes = refl; leaves = refl }
 
   -- ---- egress
 
+  -- and of one of egress
+  abbrev seen_out : Option Outcome → Option Passed
+  seen_out = after_egress net dp
+
   -- the last step
-  checked_out : (flight : Flight) → IsPacket flight.packet → value flight.packet Outport ≡ port.id.0 → (budget : ℕ) → Does after_egress (run_from flows (suc budget) LsOutCheckPortSec flight) (done (let_out port flight.packet) flight.state)
+  checked_out : (flight : Flight) → IsPacket flight.packet → value flight.packet Outport ≡ port.id.0 → (budget : ℕ) → Does seen_out (run_from flows (suc budget) LsOutCheckPortSec flight) (done (let_out port flight.packet) flight.state)
   checked_out flight is to budget =
-      after_step after_egress flows budget LsOutCheckPortSec flight _ (done (let_out port flight.packet) flight.state)
+      after_step seen_out flows budget LsOutCheckPortSec flight _ (done (let_out port flight.packet) flight.state)
       (here flight LsOutCheckPortSec (λ d. cond (is_let_out port flight.packet) (packets.StageEnd.Ends (Some (Deliver flight.packet))) (packets.StageEnd.Ends (Some (Drop PortSec)))) refl (checks_out net of.0 flight.packet (on flight.packet is) port its_port to))
       (by (is_let_out port flight.packet))
     where
-      by : (b : Bool) → Does after_egress (go_on (run_from flows budget) (ended flight (cond b (packets.StageEnd.Ends (Some (Deliver flight.packet))) (packets.StageEnd.Ends (Some (Drop PortSec))))))
+      by : (b : Bool) → Does seen_out (go_on (run_from flows budget) (ended flight (cond b (packets.StageEnd.Ends (Some (Deliver flight.packet))) (packets.StageEnd.Ends (Some (Drop PortSec))))))
           (done (cond b (GoesOn (OnePort port.id) flight.packet) (Drops PortSec)) flight.state)
       by true = record { passes = ap (λ n. Some (GoesOn (OnePort (numbered n)) (carried flight.packet))) to; leaves = refl }
       by false = record { passes = refl; leaves = refl }
 
   module _ (packet : Values) (state : State) (formed : IsPacket packet) (to : value packet Outport ≡ port.id.0) where
-    rest_out : (flight : Flight) → IsPacket flight.packet → AreAlike flight.packet packet → Does after_egress (run_from flows 124 LsOutCheckPortSec flight) (done (let_out port packet) flight.state)
+    rest_out : (flight : Flight) → IsPacket flight.packet → AreAlike flight.packet packet → Does seen_out (run_from flows 124 LsOutCheckPortSec flight) (done (let_out port packet) flight.state)
     rest_out flight is alike =
-        does_same after_egress (run_from flows 124 LsOutCheckPortSec flight) (done (let_out port flight.packet) flight.state) (done (let_out port packet) flight.state) (same_out flight.packet packet alike port) refl
+        does_same seen_out (run_from flows 124 LsOutCheckPortSec flight) (done (let_out port flight.packet) flight.state) (done (let_out port packet) flight.state) (same_out flight.packet packet alike port) refl
         (checked_out flight is (alike.same Outport refl ∙ to) 123)
 
     begins_out : run_pipeline flows Egress 0 packet state ≡ run_from flows 128 LsOutPreAcl (coming packet state)
@@ -299,10 +306,14 @@ module _ (net : Network) (sound : IsSound net) (plain : IsPlain net) (port : Por
     unfolding stage_at all_stages
     begins_late = pipeline_begins flows Egress (last_table kinds.Switch) packet state LsOutCheckPortSec (ap (λ kind. stage_at kind Egress (last_table kinds.Switch)) of_switch)
 
-    pub egress_is : IsFresh packet → Does after_egress (run_pipeline flows Egress 0 packet state) (leaving_by net port packet state)
+    pub egress_is : IsFresh packet → Does seen_out (run_pipeline flows Egress 0 packet state) (leaving_by net port packet state)
     egress_is fresh =
-        subst (λ run. Does after_egress run (leaving_by net port packet state)) (sym begins_out)
-        (acl_part net sound port To packet state formed fresh to (let_out port packet) 124 rest_out 125 (λ flight did is rest. rest) of_host (where_tracked To) (where_not To))
+        subst (λ run. Does seen_out run (leaving_by net port packet state)) (sym begins_out)
+        (acl_part net sound port last_is To packet state formed fresh to (let_out port packet) 124 rest_out 125 (λ flight did is rest. rest) of_host (where_tracked To) (where_not To))
 
-    pub late_is : Does after_egress (run_pipeline flows Egress (last_table kinds.Switch) packet state) (leaving_late port packet state)
-    late_is = subst (λ run. Does after_egress run (leaving_late port packet state)) (sym begins_late) (checked_out (coming packet state) formed to 127)
+    pub late_is : Does seen_out (run_pipeline flows Egress (last_table kinds.Switch) packet state) (leaving_late port packet state)
+    late_is = subst (λ run. Does seen_out run (leaving_late port packet state)) (sym begins_late) (checked_out (coming packet state) formed to 127)
+
+-- packets leave by a port of a switch late by the last table of switches
+pub late_there : (net : Network) → IsSound net → IsPlain net → (port : Port) → Contains net.ports port → late_table net (datapath_at net port.id) ≡ last_table kinds.Switch
+late_there net sound plain port there = ap (late_table net) (at_dp net sound plain port there) ∙ last_is net sound plain port there

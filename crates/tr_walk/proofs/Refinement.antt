@@ -15,11 +15,12 @@ use Rattle.net_meaning.specs.Walk.{Part, carrying}
 use Rattle.tr_stage.specs.declared.outcome.Hit.{Hit}
 use Rattle.tr_walk.specs.Events.{event_of, without_hits}
 use Rattle.ct_core.specs.State.{State}
-use Rattle.tr_walk.specs.Machine.{ingress, egress, machine, pipelines}
+use Rattle.tr_walk.specs.Machine.{ingress, egress, late_egress, machine, pipelines}
 use Rattle.tr_walk.specs.Refined.{DoesPart, IsIngress, IsEgress, IsLate, Trace, IsMeant, AreAlike, IsRefined}
 use Rattle.tr_walk.proofs.Hits.{left_out}
 use Rattle.tr_walk.proofs.Congruence.{IsPort, IsKept, SamePart, SameParts, walks_alike}
 use Rattle.tr_walk.proofs.Parts as parts
+use Rattle.tr_walk.proofs.Pipelines.{late_there}
 use Rattle.tr_walk.proofs.Kept.{arriving_kept, leaving_kept, let_out_kept, at_its_number, are_packets}
 use Rattle.sb_model.specs.Stage.{last_table}
 use Rattle.sb_model.specs.declared.stage.DatapathKind.TheVariants as datapath
@@ -39,6 +40,10 @@ module _ (net : Network) (sound : IsSound net) (plain : IsPlain net) where
   same_at does port packet state there part is kept =
       subst (λ (other : Part (Unit {0}) State). SamePart net part other) (sym (at_port_is does port packet state there)) (record { passed = is.passes; state = is.leaves; kept = kept })
 
+  -- by the last table of its switch
+  late_does : (port : Port) (packet : Values) (state : State) → Contains net.ports port → DoesPart (egress net (last_table datapath.Switch) port.id packet state) (leaving_late port packet state) → DoesPart (late_egress net port.id packet state) (leaving_late port packet state)
+  late_does port packet state there does = subst (λ table. DoesPart (egress net table port.id packet state) (leaving_late port packet state)) (sym (late_there net sound plain port there)) does
+
   module _ (of_ingress : IsIngress net) (of_egress : IsEgress net) (of_late : IsLate net) where
     same_parts : SameParts net (pipelines net) (direct_parts net)
     same_parts = record {
@@ -50,8 +55,8 @@ module _ (net : Network) (sound : IsSound net) (plain : IsPlain net) where
           subst (λ (number : ObjId). value packet Outport ≡ number.0 → SamePart net (egress net 0 number packet state) (at_port net (leaving_by net) number packet state)) is.is
           (λ to. same_at (leaving_by net) is.port packet state is.among _ (of_egress is.port packet state is.among inside.formed inside.fresh to) (leaving_kept net sound packet inside.formed inside.by is.port state is.among));
       late = λ port packet state is inside.
-          subst (λ (number : ObjId). value packet Outport ≡ number.0 → SamePart net (egress net (last_table datapath.Switch) number packet state) (at_port net leaving_late number packet state)) is.is
-          (λ to. same_at leaving_late is.port packet state is.among _ (of_late is.port packet state is.among inside.formed to) (let_out_kept net sound packet inside.formed inside.by is.port is.among));
+          subst (λ (number : ObjId). value packet Outport ≡ number.0 → SamePart net (late_egress net number packet state) (at_port net leaving_late number packet state)) is.is
+          (λ to. same_at leaving_late is.port packet state is.among _ (late_does is.port packet state is.among (of_late is.port packet state is.among inside.formed to)) (let_out_kept net sound packet inside.formed inside.by is.port is.among));
     }
 
     -- so do the walks

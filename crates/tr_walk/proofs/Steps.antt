@@ -1,5 +1,5 @@
 -- The steps of a walk by rows tell what the walk tells.
-use Rattle.std.proofs.Common.{◌≡◌, ℕ, zero, suc, ◌+◌, ◌-◌, ◌<◌, ◌≤◌, true, false, List, [], ◌∷◌, ◌++◌, length, drop, get_or, map, append_assoc, append-nil, sym, ap, refl, subst, ◌∙◌, arith}
+use Rattle.std.proofs.Common.{◌≡◌, ℕ, zero, suc, ◌+◌, ◌-◌, ◌<◌, ◌≤◌, Bool, true, false, List, [], ◌∷◌, ◌++◌, length, drop, get_or, map, append_assoc, append-nil, sym, ap, refl, subst, ◌∙◌, arith}
 use Rattle.std.specs.Prelude.{Option, IsSome}
 use Rattle.std.proofs.lemmas.List.{drop_all, drop_more}
 use Rattle.nv_base.specs.declared.object.ObjId.{ObjId}
@@ -8,6 +8,7 @@ use Rattle.pkt_core.specs.Packet.{Values, value, with_value}
 use Rattle.pkt_core.specs.Replies.{start}
 use Rattle.nb_model.specs.Network.{Network, same}
 use Rattle.sb_model.specs.Stage.{all_stages, stage_at}
+use Rattle.sb_model.specs.declared.stage.DatapathKind.{DatapathKind}
 use Rattle.sb_model.specs.declared.stage.DatapathKind.TheVariants as kinds
 use Rattle.sb_model.specs.declared.stage.Pipeline.TheVariants.{Ingress, Egress}
 use Rattle.net_meaning.specs.Places.{Side, datapath_at, side_of}
@@ -25,8 +26,8 @@ use Rattle.ls_laws.specs.Steps.{flows_at}
 use Rattle.tr_walk.specs.declared.event.Event.{Event}
 use Rattle.tr_walk.specs.declared.event.Event.TheVariants as events
 use Rattle.tr_walk.specs.Events.{event_of}
-use Rattle.tr_walk.specs.Machine.{numbered, after_ingress, egress, part_of, pipelines}
-use Rattle.tr_walk.specs.inner.Telling.{events_of, onward, table_for, entering, arriving, sending, leaving, going_out, delivering, answering}
+use Rattle.tr_walk.specs.Machine.{numbered, after_ingress, egress, late_table, part_of, pipelines}
+use Rattle.tr_walk.specs.inner.Telling.{events_of, onward, egress_table, is_late, entering, arriving, sending, leaving, going_out, delivering, answering}
 use Rattle.sb_model.specs.Stage.{last_table}
 
 -- ---- events
@@ -189,34 +190,46 @@ module _ (net : Network) (state : State) (arrival : ObjId) (packet : Values) (ol
   abbrev leaves_by : ℕ → ObjId → ℕ → Values → Walked Hit State
   leaves_by hops port table taken = leaving net hops state arrival port table taken
 
+  -- the port that it leaves by, and the table
+  abbrev out : ObjId
+  out = numbered (value packet Outport)
+
   abbrev IsSame : ℕ → Answer → Walked Hit State → Type 0
   IsSame hops answer walked = SameEnd mid walked old (answering net hops state arrival answer packet)
 
   made_leaves : (hops : ℕ) (answer : Answer) → (hops ≡ 0 → ⊥) → mid ≡ old ++ map event_of (told_of answer arrival)
-      → IsSame hops answer (leaves_by (hops - 1) (numbered (value packet Outport)) (table_for answer) (carried packet))
+      → IsSame hops answer (leaves_by (hops - 1) out (egress_table net out (is_late answer)) (carried packet))
   made_leaves zero answer some first = absurd (some refl)
   made_leaves (suc hops) Reject some first =
-      subst (λ (n : ℕ). IsSame (suc hops) Reject (leaves_by n (numbered (value packet Outport)) (last_table kinds.Switch) (carried packet))) (sym (one_less hops))
-      (record { all = ap (λ front. front ++ events_of (leaves_by hops (numbered (value packet Outport)) (last_table kinds.Switch) (carried packet))) first ∙ append_assoc old (events.Reject arrival ∷ []) _; left = refl })
+      let late = late_table net (datapath_at net out) in
+      subst (λ (n : ℕ). IsSame (suc hops) Reject (leaves_by n out late (carried packet))) (sym (one_less hops))
+      (record { all = ap (λ front. front ++ events_of (leaves_by hops out late (carried packet))) first ∙ append_assoc old (events.Reject arrival ∷ []) _; left = refl })
   made_leaves (suc hops) Arp some first =
-      subst (λ (n : ℕ). IsSame (suc hops) Arp (leaves_by n (numbered (value packet Outport)) 0 (carried packet))) (sym (one_less hops))
-      (record { all = ap (λ front. front ++ events_of (leaves_by hops (numbered (value packet Outport)) 0 (carried packet))) first ∙ append_assoc old [] _; left = refl })
+      subst (λ (n : ℕ). IsSame (suc hops) Arp (leaves_by n out 0 (carried packet))) (sym (one_less hops))
+      (record { all = ap (λ front. front ++ events_of (leaves_by hops out 0 (carried packet))) first ∙ append_assoc old [] _; left = refl })
 
-  pub replies : (hops : ℕ) (answer : Answer) (port : ObjId) (table : ℕ) (taken : Values) → (hops ≡ 0 → ⊥) → mid ≡ old ++ map event_of (told_of answer arrival)
-      → port ≡ numbered (value packet Outport) → table ≡ table_for answer → taken ≡ carried packet → IsSame hops answer (leaves_by (hops - 1) port table taken)
-  replies hops answer port table taken some first port_is table_is taken_is =
-      subst (λ (p : ObjId). IsSame hops answer (leaves_by (hops - 1) p table taken)) (sym port_is)
-      (subst (λ (n : ℕ). IsSame hops answer (leaves_by (hops - 1) (numbered (value packet Outport)) n taken)) (sym table_is)
-      (subst (λ (q : Values). IsSame hops answer (leaves_by (hops - 1) (numbered (value packet Outport)) (table_for answer) q)) (sym taken_is)
+  pub replies : (hops : ℕ) (answer : Answer) (port : ObjId) (late : Bool) (taken : Values) → (hops ≡ 0 → ⊥) → mid ≡ old ++ map event_of (told_of answer arrival)
+      → port ≡ out → late ≡ is_late answer → taken ≡ carried packet → IsSame hops answer (leaves_by (hops - 1) port (egress_table net port late) taken)
+  replies hops answer port late taken some first port_is late_is taken_is =
+      subst (λ (p : ObjId). IsSame hops answer (leaves_by (hops - 1) p (egress_table net p late) taken)) (sym port_is)
+      (subst (λ (l : Bool). IsSame hops answer (leaves_by (hops - 1) out (egress_table net out l) taken)) (sym late_is)
+      (subst (λ (q : Values). IsSame hops answer (leaves_by (hops - 1) out (egress_table net out (is_late answer)) q)) (sym taken_is)
       (made_leaves hops answer some first)))
 
 -- ---- tables
 
--- a switch has a first table of ingress, and one of egress
-pub ingress_begins : IsSome (stage_at kinds.Switch Ingress 0)
+-- each datapath has a first table of ingress, and of egress a first and a last one
+pub ingress_begins : (kind : DatapathKind) → IsSome (stage_at kind Ingress 0)
 unfolding stage_at all_stages
-ingress_begins = refl
+ingress_begins kinds.Switch = refl
+ingress_begins kinds.Router = refl
 
-pub egress_begins : IsSome (stage_at kinds.Switch Egress 0)
+pub egress_begins : (kind : DatapathKind) → IsSome (stage_at kind Egress 0)
 unfolding stage_at all_stages
-egress_begins = refl
+egress_begins kinds.Switch = refl
+egress_begins kinds.Router = refl
+
+pub egress_ends : (kind : DatapathKind) → IsSome (stage_at kind Egress (last_table kind))
+unfolding stage_at all_stages
+egress_ends kinds.Switch = refl
+egress_ends kinds.Router = refl

@@ -16,7 +16,7 @@ use Rattle.nb_model.specs.Network.{Network}
 use Rattle.sb_model.specs.declared.row.Row.{Row}
 use Rattle.sb_model.specs.declared.stage.Stage.{Stage}
 use Rattle.net_rows.specs.Build.{rows}
-use Rattle.tr_stage.specs.Machine.{Effect, effect, reset_for, error_for, answer_for}
+use Rattle.tr_stage.specs.Machine.{Effect, effect, reset_for, error_for, answer_for, arp_for}
 use Rattle.tr_stage.specs.Machine.Effect.{Changed, Done}
 
 -- the fields that an action reads, those of connection tracking apart
@@ -28,9 +28,12 @@ reads PutArp = Inport ∷ ArpSpa ∷ ArpSha ∷ []
 reads GetArp = Outport ∷ Reg0 ∷ []
 reads _ = []
 
--- what an action leaves to those after it: a commit leaves the packet as it was
+-- What an action leaves to those after it. A commit, and what is learnt, leave the packet as it was; and what is known of a neighbour goes
+-- to `eth.dst`, on which no field depends.
 abbrev pub left_by : Lookup → Stage → Step → Values → Effect
 left_by net stage (CtCommit blocked) packet = Changed packet
+left_by net stage PutArp packet = Changed packet
+left_by net stage GetArp packet = Changed packet
 left_by net stage step packet = effect net stage step packet
 
 -- what is asked of the packet that an action leaves; after one that ends the step nothing is
@@ -48,14 +51,14 @@ abbrev pub answer_finds : Lookup → Stage → List Step → Option Values → B
 answer_finds net stage block None = true
 answer_finds net stage block (Some packet) = block_finds net stage block packet
 
--- the same of a row's actions; the block of `arp` is not run yet
+-- the same of a row's actions
 abbrev pub actions_find : Lookup → Stage → List Action → Values → Bool
 actions_find net stage [] packet = true
 actions_find net stage (action.Step step ∷ others) packet = list_all (is_there packet) (reads step) && once_changed (left_by net stage step packet) (actions_find net stage others)
 actions_find net stage (action.TcpReset block ∷ others) packet = answer_finds net stage block (reset_for packet)
 actions_find net stage (action.Icmp4 block ∷ others) packet = answer_finds net stage block (error_for packet)
 actions_find net stage (action.Reject block ∷ others) packet = answer_finds net stage block (answer_for packet)
-actions_find net stage (action.Arp block ∷ others) packet = true
+actions_find net stage (action.Arp block ∷ others) packet = block_finds net stage block (arp_for packet)
 
 -- of each packet that a row takes, the row's actions read only fields that are there
 abbrev pub FindsWhatItReads : Lookup → Row → Type 0

@@ -1,15 +1,16 @@
 //! The run of a packet through a pipeline, as a part of a walk.
 ghost use Rattle.std.specs.Prelude.{◌≡◌, ◌++◌, map, IfOk, OnOk, IsSome};
 ghost use Rattle.sb_model.specs.Stage.{stage_at};
-ghost use Rattle.sb_model.specs.declared.stage.DatapathKind.TheVariants as kinds;
+ghost use Rattle.sb_model.specs.declared.stage.Pipeline.TheVariants as pipelines;
 ghost use Rattle.net_meaning.specs.Places.{datapath_at};
 ghost use Rattle.tr_pipe.specs.Machine.{run_pipeline};
 ghost use Rattle.ls_laws.specs.Steps.{flows_at};
 ghost use Rattle.tr_walk.specs.declared.event.Event.TheVariants as variants;
-ghost use Rattle.tr_walk.specs.inner.Telling.{AreRowsOf};
+ghost use Rattle.tr_stage.specs.Machine.{kind_of};
+ghost use Rattle.tr_walk.specs.inner.Telling.{AreRowsOf, egress_table};
 
 use crate::Event;
-use crate::places::datapath_at;
+use crate::places::{datapath_at, late_table};
 use ct_state::Work;
 use expr_core::Env;
 use nb_store::Records;
@@ -44,7 +45,7 @@ pub(crate) fn run(
     events: &mut Vec<Event>,
 ) -> Result<Option<Outcome>, OutOfMemory>
     requires rows { AreRowsOf flows.records.now flows.rows.now }
-    requires table { IsSome (stage_at kinds.Switch pipeline table) }
+    requires table { IsSome (stage_at (kind_of (flows_at flows.records.now (datapath_at flows.records.now port))) pipeline table) }
     ensures hits { OnOk result (events.new.items ≡ events.old.items ++ map variants.Hit (run_pipeline (flows_at flows.entry.records.now (datapath_at flows.entry.records.now port)) pipeline table packet.now work.old.state).hits) }
     ensures state { OnOk result (work.new.state ≡ (run_pipeline (flows_at flows.entry.records.now (datapath_at flows.entry.records.now port)) pipeline table packet.now work.old.state).state) }
     ensures back { work.new.back ≡ work.old.back }
@@ -67,6 +68,19 @@ pub(crate) fn run(
     )?;
     put_hits(&hits, events)?;
     Ok(Some(outcome))
+}
+
+/// The table of egress that a packet leaves by, by a port.
+#[tactic(auto, using(crate::proofs::Steps::egress_begins, crate::proofs::Steps::egress_ends))]
+pub(crate) fn egress_table(records: &Records, port: ObjId, late: bool) -> u8
+    ensures table { result ≡ egress_table records.now port late }
+    ensures there { IsSome (stage_at (kind_of (flows_at records.now (datapath_at records.now port))) pipelines.Egress result) }
+{
+    if late {
+        late_table(records, datapath_at(records, port))
+    } else {
+        0
+    }
 }
 
 fn put_hits(hits: &[Hit], events: &mut Vec<Event>) -> Result<(), OutOfMemory>

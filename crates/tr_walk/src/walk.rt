@@ -1,33 +1,30 @@
 //! The walk of a packet: it comes in by a port, leaves by others, and goes on over their peers.
-ghost use Rattle.std.specs.Prelude.{◌≡◌, ◌&&◌, ◌==◌, ◌++◌, map, IfOk, OnOk, OnErr, IsSome};
+ghost use Rattle.std.specs.Prelude.{◌≡◌, ◌&&◌, ◌==◌, ◌++◌, map, IfOk, OnOk, OnErr};
 ghost use Rattle.nv_base.specs.declared.field.Field.TheVariants.{Outport, FlagsLoopback};
 ghost use Rattle.pkt_core.specs.Packet.{value};
-ghost use Rattle.sb_model.specs.Stage.{stage_at};
-ghost use Rattle.sb_model.specs.declared.stage.DatapathKind.TheVariants as kinds;
-ghost use Rattle.sb_model.specs.declared.stage.Pipeline.TheVariants as pipelines;
 ghost use Rattle.nb_model.specs.Network.{same};
 ghost use Rattle.nb_model.specs.Sound.{IsSound};
 ghost use Rattle.net_meaning.specs.Places.{datapath_at};
 ghost use Rattle.nb_model.specs.Plain.{IsPlain};
 ghost use Rattle.net_meaning.specs.Walk.{carried, told_of};
-ghost use Rattle.net_meaning.specs.Walk.Target.{Ports};
+ghost use Rattle.net_meaning.specs.Walk.Target.{Ports, Late};
 ghost use Rattle.net_rows.specs.Build as build;
 ghost use Rattle.tr_walk.specs.Events.{event_of};
-ghost use Rattle.tr_walk.specs.Machine.{machine, numbered, target_of};
+ghost use Rattle.tr_walk.specs.Machine.{machine, numbered, table_of, target_of};
 ghost use Rattle.tr_walk.specs.Refined.{IsMeant};
 ghost use Rattle.tr_walk.specs.Runnable.{AreRunnable};
-ghost use Rattle.tr_walk.specs.inner.Telling.{AreRowsOf, events_of, table_for, entering, arriving, sending, leaving, going_out, delivering, answering};
+ghost use Rattle.tr_walk.specs.inner.Telling.{AreRowsOf, events_of, egress_table, is_late, entering, arriving, sending, leaving, going_out, delivering, answering};
 
 use crate::Event;
-use crate::places::{Side, datapath_at, side_of};
+use crate::places::{Side, datapath_at, late_table, side_of};
 use crate::ports::{group_of, ports_of};
-use crate::run::{Flows, run};
+use crate::run::{Flows, egress_table, run};
 use ct_state::{State, Work};
 use nb_store::Records;
 use net_meaning::{Answer, Cause};
 use nv_base::{Field, ObjId, OutOfMemory};
 use pkt_core::Packet;
-use sb_model::{DatapathKind, Pipeline};
+use sb_model::Pipeline;
 use sb_rows::Rows;
 use std::alloc::Global;
 use tr_stage::Outcome;
@@ -113,13 +110,16 @@ fn arrive(
 {
     match outcome {
         Some(Outcome::Leave(packet, table)) => {
-            if *table > 0 {
+            if *table == 0 {
+                return send(flows, hops, arrival, packet, work, events);
+            }
+            if *table != late_table(flows.records, datapath_at(flows.records, arrival)) {
                 return Ok(());
             }
-            send(flows, hops, arrival, packet, work, events)
+            send_late(flows, hops, arrival, packet, work, events)
         }
         Some(Outcome::Made(packet, table, answer)) => {
-            if *table != DatapathKind::Switch.last_table() {
+            if *table != table_of(flows, arrival, *answer) {
                 return Ok(());
             }
             reply(flows, hops, arrival, *answer, packet, work, events)
@@ -162,9 +162,35 @@ fn send(
                 events.push(Event::Drop(dp, Cause::SamePort))?;
                 return Ok(());
             }
-            leave(flows, hops, arrival, port, 0, &packet, work, events)
+            leave(flows, hops, arrival, port, false, &packet, work, events)
         }
     }
+}
+
+// A packet goes late by the one port that its `outport` says.
+#[cycle(walk)]
+fn send_late(
+    flows: Flows<'_>,
+    hops: u32,
+    arrival: ObjId,
+    packet: &Packet,
+    work: &mut Work,
+    events: &mut Vec<Event>,
+) -> Result<(), OutOfMemory>
+    requires { AreRowsOf flows.records.now flows.rows.now }
+    ensures told { OnOk result (events.new.items ≡ events.old.items
+        ++ events_of (sending flows.entry.records.now hops work.old.state arrival (Late (numbered (value packet.now Outport))) (carried packet.now))) }
+    ensures left { OnOk result (work.new.state ≡ (sending flows.entry.records.now hops work.old.state arrival (Late (numbered (value packet.now Outport))) (carried packet.now)).state) }
+    ensures back { work.new.back ≡ work.old.back }
+{
+    let port = outport(packet);
+    let packet = carried(packet);
+    if is_same_port(arrival, port, &packet) {
+        let dp = datapath_at(flows.records, arrival);
+        events.push(Event::Drop(dp, Cause::SamePort))?;
+        return Ok(());
+    }
+    leave(flows, hops, arrival, port, true, &packet, work, events)
 }
 
 // Copies of a packet leave by all ports but the one that it came in by.
@@ -188,31 +214,31 @@ fn copy(
         if is_same(*port, arrival) {
             continue;
         }
-        leave(flows, hops, arrival, *port, 0, packet, work, events)?;
+        leave(flows, hops, arrival, *port, false, packet, work, events)?;
     }
     Ok(())
 }
 
-// A packet leaves by a port, from a table of egress on.
+// A packet leaves by a port: by all of egress, or late.
 #[cycle(walk)]
 fn leave(
     flows: Flows<'_>,
     hops: u32,
     arrival: ObjId,
     port: ObjId,
-    table: u8,
+    late: bool,
     packet: &Packet,
     work: &mut Work,
     events: &mut Vec<Event>,
 ) -> Result<(), OutOfMemory>
-    requires rows { AreRowsOf flows.records.now flows.rows.now }
-    requires table { IsSome (stage_at kinds.Switch pipelines.Egress table) }
-    ensures told { OnOk result (events.new.items ≡ events.old.items ++ events_of (leaving flows.entry.records.now hops work.old.state arrival port table packet.now)) }
-    ensures left { OnOk result (work.new.state ≡ (leaving flows.entry.records.now hops work.old.state arrival port table packet.now).state) }
+    requires { AreRowsOf flows.records.now flows.rows.now }
+    ensures told { OnOk result (events.new.items ≡ events.old.items ++ events_of (leaving flows.entry.records.now hops work.old.state arrival port (egress_table flows.entry.records.now port late) packet.now)) }
+    ensures left { OnOk result (work.new.state ≡ (leaving flows.entry.records.now hops work.old.state arrival port (egress_table flows.entry.records.now port late) packet.now).state) }
     ensures back { work.new.back ≡ work.old.back }
 {
     let mut packet = *packet;
     packet.set(Field::Outport, u128::from(port.0));
+    let table = egress_table(flows.records, port, late);
     let outcome = run(flows, port, Pipeline::Egress, table, &packet, work, events)?;
     go_out(flows, hops, arrival, port, &outcome, work, events)
 }
@@ -243,7 +269,7 @@ fn go_out(
             events,
         ),
         Some(Outcome::Made(packet, table, answer)) => {
-            if *table != DatapathKind::Switch.last_table() {
+            if *table != table_of(flows, port, *answer) {
                 return Ok(());
             }
             reply(flows, hops, arrival, *answer, packet, work, events)
@@ -318,7 +344,7 @@ fn reply(
         hops - 1,
         arrival,
         port,
-        table_for(answer),
+        is_late(answer),
         &packet,
         work,
         events,
@@ -336,15 +362,23 @@ fn tell_answer(arrival: ObjId, answer: Answer, events: &mut Vec<Event>) -> Resul
     Ok(())
 }
 
-// The table of egress that an answer leaves by: an ARP request goes through all, as other packets do.
-#[tactic(auto, unfolding(sb_model::specs::Stage::stage_at, sb_model::specs::Stage::all_stages))]
-fn table_for(answer: Answer) -> u8
-    ensures table { result ≡ table_for answer }
-    ensures there { IsSome (stage_at kinds.Switch pipelines.Egress result) }
+// The table of egress by which a packet leaves that is made where a packet is at a port.
+fn table_of(flows: Flows<'_>, port: ObjId, answer: Answer) -> u8
+    ensures { result ≡ table_of flows.entry.records.now (datapath_at flows.entry.records.now port) answer }
 {
     match answer {
-        Answer::Reject => DatapathKind::Switch.last_table(),
+        Answer::Reject => late_table(flows.records, datapath_at(flows.records, port)),
         Answer::Arp => 0,
+    }
+}
+
+// Whether an answer leaves late: an ARP request goes through all of egress, as other packets do.
+fn is_late(answer: Answer) -> bool
+    ensures { result ≡ is_late answer }
+{
+    match answer {
+        Answer::Reject => true,
+        Answer::Arp => false,
     }
 }
 

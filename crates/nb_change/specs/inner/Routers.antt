@@ -1,12 +1,12 @@
 -- What the removal of a router, or of one of its ports, leaves.
-use Rattle.std.specs.Prelude.{Bool, ◌&&◌, Option}
+use Rattle.std.specs.Prelude.{Bool, not, ◌&&◌, ◌==◌, if◌then◌else◌, Option}
 use Rattle.nv_base.specs.Block.{Block}
 use Rattle.nv_base.specs.declared.object.ObjId.{ObjId}
 use Rattle.nb_records.specs.declared.router.Nat.{Nat}
 use Rattle.nb_records.specs.declared.router.NatKind.{NatKind}
 use Rattle.nb_records.specs.declared.router.Route.{Route}
 use Rattle.nb_records.specs.declared.router.RouteBy.{RouteBy}
-use Rattle.nb_model.specs.Belongs.{same_block, same_policy, same_nat_kind}
+use Rattle.nb_model.specs.Belongs.{is_snat, same_block, same_policy, same_nat_kind}
 use Rattle.nb_model.specs.Effect.{without, without_router_ports, is_asked, is_nat_at}
 use Rattle.nb_model.specs.Network.{Network, same}
 use Rattle.nv_table.specs.Table.{without_number}
@@ -33,3 +33,7 @@ is_route_for prefix by route = is_asked same_block prefix route.prefix && is_ask
 -- the NAT rule is of a kind and at a prefix, where they are given
 abbrev pub is_nat_for : Option NatKind → Option Block → Nat → Bool
 is_nat_for kind at nat = is_asked same_nat_kind kind nat.kind && is_asked (λ block own. is_nat_at own block) at nat
+
+-- a NAT rule that one of this kind, at this prefix, would repeat
+abbrev pub is_nat_like : NatKind → Block → Nat → Bool
+is_nat_like kind at nat = if is_snat kind then is_snat nat.kind && same_block at nat.logical else not (is_snat nat.kind) && (at.base.0 == nat.external.0)

@@ -8,20 +8,6 @@ use Rattle.nb_store.specs.declared.step.Object.TheVariants as object
 use Rattle.nb_store.specs.declared.step.Place.{Place}
 use Rattle.nb_store.specs.declared.step.Place.TheVariants as place
 
--- the kind of an object, and its number
-abbrev pub place_of : Object → Place
-place_of (object.Switch r) = place.Switch r.id
-place_of (object.Port r) = place.Port r.id
-place_of (object.Router r) = place.Router r.id
-place_of (object.RouterPort r) = place.RouterPort r.id
-place_of (object.Route r) = place.Route r.id
-place_of (object.Nat r) = place.Nat r.id
-place_of (object.Lb r) = place.Lb r.id
-place_of (object.Acl r) = place.Acl r.id
-place_of (object.Set r) = place.Set r.id
-place_of (object.Group r) = place.Group r.id
-place_of (object.Binding r) = place.Binding r.id
-
 -- the object of this kind and number
 abbrev pub held : Place → Network → Option Object
 held (place.Switch n) net = option_map object.Switch (record_of (λ x. x.id) n net.switches)

@@ -1,5 +1,5 @@
 -- The events of the steps of a walk by rows.
-use Rattle.std.specs.Prelude.{◌≡◌, ℕ, List, map, Option, option_map}
+use Rattle.std.specs.Prelude.{◌≡◌, ℕ, Bool, true, false, if◌then◌else◌, List, map, Option, option_map}
 use Rattle.nv_base.specs.declared.object.ObjId.{ObjId}
 use Rattle.nv_base.specs.declared.field.Field.TheVariants.{Outport}
 use Rattle.pkt_core.specs.Packet.{Values, value, with_value}
@@ -16,10 +16,8 @@ use Rattle.tr_stage.specs.declared.outcome.Outcome.{Outcome}
 use Rattle.tr_walk.specs.declared.event.Event.{Event}
 use Rattle.tr_walk.specs.Events.{event_of}
 use Rattle.ct_core.specs.State.{State}
-use Rattle.tr_walk.specs.Machine.{numbered, after_ingress, after_egress, egress, pipelines}
+use Rattle.tr_walk.specs.Machine.{numbered, after_ingress, after_egress, egress, late_table, pipelines}
 use Rattle.tr_walk.specs.Runnable.{AreRunnable}
-use Rattle.sb_model.specs.Stage.{last_table}
-use Rattle.sb_model.specs.declared.stage.DatapathKind.TheVariants as datapath
 
 -- the rows are those of a sound network, and each packet comes to an end in them
 pub record AreRowsOf (net : Network) (rows : List Row) : Type 0 where
@@ -34,10 +32,14 @@ events_of walked = map event_of walked.told
 abbrev pub onward : Network → ℕ → Option (Onward Hit State)
 onward net hops = hops_left net (pipelines net) hops
 
--- the table of egress that an answer leaves by
-abbrev pub table_for : Answer → ℕ
-table_for Reject = last_table datapath.Switch
-table_for Arp = 0
+-- the table of egress that a packet leaves by, by a port
+abbrev pub egress_table : Network → ObjId → Bool → ℕ
+egress_table net port late = if late then late_table net (datapath_at net port) else 0
+
+-- an answer leaves late, unless it is an ARP request
+abbrev pub is_late : Answer → Bool
+is_late Reject = true
+is_late Arp = false
 
 module _ (net : Network) (hops : ℕ) (state : State) where
   -- a packet comes in by a port
@@ -58,7 +60,7 @@ module _ (net : Network) (hops : ℕ) (state : State) where
 
   -- a packet has come to the end of egress
   abbrev pub going_out : ObjId → ObjId → Option Outcome → Walked Hit State
-  going_out arrival port outcome = left net (pipelines net) (onward net hops) arrival port (option_map carrying (after_egress outcome)) state
+  going_out arrival port outcome = left net (pipelines net) (onward net hops) arrival port (option_map carrying (after_egress net (datapath_at net port) outcome)) state
 
   -- a packet is delivered at a port
   abbrev pub delivering : ObjId → Values → Walked Hit State

@@ -1,4 +1,4 @@
-use Rattle.std.proofs.Common.{◌++◌, Some, ap, sym, ◌∙◌}
+use Rattle.std.proofs.Common.{◌++◌, Some, ap, ◌∙◌}
 use Rattle.std.specs.Prelude.{filter}
 use Rattle.std.specs.List.{flat_map}
 use Rattle.nb_records.specs.declared.switch.Port.{Port}

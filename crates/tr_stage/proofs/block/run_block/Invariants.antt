@@ -5,7 +5,7 @@ use Rattle.tr_stage.proofs.block.run_block.Given as goal
 
 -- what is left of the block does what the whole of it does
 abbrev pub invariant-loop-step : goal.invariant-loop-step
-invariant-loop-step g l = IsLeft (g.E.Env.lookup l.fn.env) (λ stage. run_block (g.E.Env.lookup l.fn.env) stage l.fn.block l.fn.packet) l.rest l.packet
+invariant-loop-step g l = IsLeft (g.E.Env.lookup l.fn.env) l.fn.stage l.fn.answer (run_block (g.E.Env.lookup l.fn.env) l.fn.stage l.fn.answer l.fn.block l.fn.packet) l.rest l.packet
 
 abbrev pub decreases-loop-step : goal.decreases-loop-step
 decreases-loop-step g l = length l.rest

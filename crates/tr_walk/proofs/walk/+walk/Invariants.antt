@@ -23,6 +23,9 @@ decreases-copy l = 8 * l.hops + 3
 abbrev pub decreases-send : goal.decreases-send
 decreases-send l = 8 * l.hops + 4
 
+abbrev pub decreases-send_late : goal.decreases-send_late
+decreases-send_late l = 8 * l.hops + 4
+
 abbrev pub decreases-arrive : goal.decreases-arrive
 decreases-arrive l = 8 * l.hops + 5
 

@@ -1,4 +1,4 @@
-use Rattle.std.proofs.Common.{◌≡◌, ◌∙◌, ◌||◌, nat_lt, true, false, length, ap, subst, sym}
+use Rattle.std.proofs.Common.{◌≡◌, ◌∙◌, ◌||◌, nat_lt, true, length, ap, subst, sym}
 use Rattle.ct_core.specs.Neighbours.{AreNeighbours, is_known, neighbour_limit, noted}
 use Rattle.ct_core.proofs.Learnt.{keeps_learnt}
 use Rattle.ct_nbrs.specs.declared.pair.Pair.{Pair}

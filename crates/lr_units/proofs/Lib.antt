@@ -1,0 +1,13 @@
+pub mod Apart
+pub mod ApartKinds
+pub mod ApartRules
+pub mod Datapaths
+pub mod Hosts
+pub mod Matches
+pub mod Numbers
+pub mod SoundRouters
+pub mod Sources
+pub mod Stages
+pub mod Tests
+pub mod Typed
+pub mod Whole

@@ -1,0 +1,4 @@
+pub mod Build
+pub mod Network
+pub mod Units
+pub mod Words

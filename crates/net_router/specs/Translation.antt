@@ -1,0 +1,184 @@
+-- How a router changes the addresses of packets (ovn-nb(5), 'NAT TABLE' and 'Load_Balancer TABLE'; ovn-northd(8), 'Ingress Table: UNSNAT',
+-- 'DEFRAG', 'DNAT' and 'Egress Table: UNDNAT', 'SNAT'). Which connection's rules hold is told by two zones of the router.
+use Rattle.std.specs.Prelude.{ℕ, ◌==◌, nat_lt, Bool, true, false, not, ◌&&◌, if◌then◌else◌, List, fold, filter, length, Option, Some, None, option_map, unwrap_or, slice_get, option_and_then}
+use Rattle.std.specs.List.{find, filter_map, list_any}
+use Rattle.std.specs.Option.{option_map_or}
+use Rattle.nv_base.specs.declared.ip4.Ip4.{Ip4}
+use Rattle.nv_base.specs.declared.object.ObjId.{ObjId}
+use Rattle.nv_base.specs.declared.field.Field.TheVariants.{Ip4Src, Ip4Dst}
+use Rattle.nv_base.specs.declared.field.Prerequisite.TheVariants as needs
+use Rattle.pkt_core.specs.declared.tuple.Tuple.{Tuple}
+use Rattle.pkt_core.specs.Packet.{Values, value}
+use Rattle.pkt_core.specs.Prerequisite.{is_ip4, meets}
+use Rattle.pkt_core.specs.Tuple.{dport_of, swap, tuple, with_tuple}
+use Rattle.ct_core.specs.declared.entry.Entry.{Entry}
+use Rattle.ct_core.specs.declared.look.Look.{Look}
+use Rattle.ct_core.specs.declared.look.Look.TheVariants.{New, Found}
+use Rattle.ct_core.specs.declared.look.Side.{Side}
+use Rattle.ct_core.specs.declared.look.Side.TheVariants.{Orig, Reply}
+use Rattle.ct_core.specs.declared.zone.Zone.{Zone}
+use Rattle.ct_core.specs.declared.zone.Zone.TheVariants.{Dnat, Snat}
+use Rattle.ct_core.specs.Changes.{recorded}
+use Rattle.ct_core.specs.Look.{look}
+use Rattle.ct_core.specs.State.{State, with_conns}
+use Rattle.ct_core.specs.Translation.{balance, snat_port, translated, with_source}
+use Rattle.nb_records.specs.declared.balancer.Backend.{Backend}
+use Rattle.nb_records.specs.declared.balancer.Lb.{Lb}
+use Rattle.nb_records.specs.declared.balancer.Proto.{Proto}
+use Rattle.nb_records.specs.declared.balancer.Proto.TheVariants as proto
+use Rattle.nb_records.specs.declared.balancer.Vip.{Vip}
+use Rattle.nb_records.specs.declared.router.Nat.{Nat}
+use Rattle.nb_records.specs.declared.router.NatKind.{NatKind}
+use Rattle.nb_records.specs.declared.router.NatKind.TheVariants as kind
+use Rattle.nb_model.specs.Belongs.{either, is_snat, same_nat_kind}
+use Rattle.nb_model.specs.Network.{Network}
+use Rattle.nb_router.specs.Vocabulary.{dnats, lbs_of, nats_of}
+use Rattle.net_router.specs.Input.{is_in_network}
+use Rattle.net_meaning.specs.declared.cause.Cause.{Cause}
+use Rattle.net_meaning.specs.declared.cause.Cause.TheVariants.{CtFull, NoPort}
+
+-- ---- packets of a connection
+
+-- with the addresses that the connection at a place gives to packets of a direction
+abbrev pub translated_at : List Entry → ℕ → Side → Values → Values
+translated_at conns place side packet = option_map_or (λ e. translated e side packet) (slice_get conns place) packet
+
+-- a packet that was looked up, translated where it goes in the direction of its connection
+abbrev pub forth : List Entry → Values → Look → Values
+forth conns packet (Found place Orig related blocked) = translated_at conns place Orig packet
+forth conns packet _ = packet
+
+-- and where it is a reply
+abbrev pub back : List Entry → Values → Look → Values
+back conns packet (Found place Reply related blocked) = translated_at conns place Reply packet
+back conns packet _ = packet
+
+abbrev pub is_reply : Look → Bool
+is_reply (Found place Reply related blocked) = true
+is_reply _ = false
+
+-- ---- packets that begin one
+
+-- what becomes of a packet whose addresses may change: it goes on with a state, or it is dropped and leaves the state as it was
+pub data Changed : Type 0 where
+  Onward : Values → State → Changed
+  Stopped : Cause → Changed
+
+abbrev pub where_room : Option (List Entry) → Values → State → Changed
+where_room (Some conns) packet state = Onward packet (with_conns conns state)
+where_room None packet state = Stopped CtFull
+
+-- the connection of a packet that gets this tuple
+abbrev pub begun_as : Zone → Tuple → Values → Entry
+begun_as zone t packet = record { zone = zone; orig = tuple packet; reply = swap t; blocked = false }
+
+-- a packet gets this tuple, and begins a connection in a zone, if there is room for it
+abbrev pub bound : Zone → Tuple → Values → State → Changed
+bound zone t packet state = where_room (recorded (begun_as zone t packet) state.conns) (with_tuple packet t) state
+
+-- ---- destinations: load balancers, and rules
+
+-- a packet of the protocol
+abbrev pub is_of : Proto → Values → Bool
+is_of proto.Tcp packet = meets packet needs.Tcp
+is_of proto.Udp packet = meets packet needs.Udp
+
+-- a packet is to the address of a VIP; and to its port, where it has one, by the protocol of its load balancer
+abbrev pub is_to : Values → Vip → Bool
+is_to packet vip = vip.at.addr.0 == value packet Ip4Dst
+
+abbrev pub is_to_port : Proto → Values → Option ℕ → Bool
+is_to_port proto packet None = false
+is_to_port proto packet (Some port) = is_of proto packet && (port == dport_of packet)
+
+abbrev pub is_for_all : Option ℕ → Bool
+is_for_all None = true
+is_for_all (Some port) = false
+
+-- the VIP of a load balancer that is for the packet's port, and the one that is for all
+abbrev pub vip_of_port : Values → Lb → Option Vip
+vip_of_port packet lb = find (λ vip. is_to packet vip && is_to_port lb.proto packet vip.at.port) lb.vips
+
+abbrev pub vip_for_all : Values → Lb → Option Vip
+vip_for_all packet lb = find (λ vip. is_to packet vip && is_for_all vip.at.port) lb.vips
+
+-- the VIP that a packet is for: one of its port comes before one that is for all, then the load balancer of the lowest number
+abbrev pub vip : List Lb → Values → Option Vip
+vip lbs packet = either (slice_get (filter_map (vip_of_port packet) lbs) 0) (slice_get (filter_map (vip_for_all packet) lbs) 0)
+
+-- the backend to which a packet goes
+abbrev pub backend_for : Values → Vip → Option Backend
+backend_for packet vip = slice_get vip.backends (balance (tuple packet) (length vip.backends))
+
+-- a tuple to another address, and to a port where one is given
+abbrev pub with_destination : Ip4 → Option ℕ → Tuple → Tuple
+with_destination addr port t = record t { dst = addr; dport = unwrap_or port t.dport }
+
+-- the rule that changes the destination of a packet
+abbrev pub destination_rule : Network → ObjId → Values → Option Nat
+destination_rule net router packet = find (λ nat. not (is_snat nat.kind) && (nat.external.0 == value packet Ip4Dst)) (nats_of net router)
+
+-- the tuple that a packet gets which begins a connection: to a backend, else to the logical address of a rule
+abbrev pub new_tuple : Network → ObjId → Values → Option Tuple
+new_tuple net router packet =
+    either (option_map (λ backend. with_destination backend.addr backend.port (tuple packet)) (option_and_then (backend_for packet) (vip (lbs_of net router) packet)))
+    (option_map (λ nat. with_destination nat.logical.base None (tuple packet)) (destination_rule net router packet))
+
+abbrev pub bound_if : Zone → Option Tuple → Values → State → Changed
+bound_if zone None packet state = Onward packet state
+bound_if zone (Some t) packet state = bound zone t packet state
+
+abbrev pub redirected : Network → ObjId → Values → State → Look → Changed
+redirected net router packet state New = bound_if (Dnat router) (new_tuple net router packet) packet state
+redirected net router packet state found = Onward (forth state.conns packet found) state
+
+-- what becomes of the destination of a packet that arrives
+abbrev pub dnatted : Network → ObjId → Values → State → Changed
+dnatted net router packet state =
+    if dnats net router then redirected net router packet state (look state.conns (Dnat router) packet) else Onward packet state
+
+-- ---- sources: rules
+
+-- the rule changes sources
+abbrev pub changes_source : NatKind → Bool
+changes_source of_kind = not (same_nat_kind of_kind kind.Dnat)
+
+-- a reply to an external address goes to whom that stands for
+abbrev pub unsnatted : Network → ObjId → List Entry → Values → Values
+unsnatted net router conns packet =
+    if list_any (λ nat. changes_source nat.kind && (nat.external.0 == value packet Ip4Dst)) (nats_of net router)
+    then back conns packet (look conns (Snat router) packet)
+    else packet
+
+-- of two rules the one of the longer logical prefix; of equals the earlier, whose number is lower
+abbrev pub closer : Option Nat → Nat → Option Nat
+closer None nat = Some nat
+closer (Some first) nat = if nat_lt first.logical.len nat.logical.len then Some nat else Some first
+
+-- the rule that changes the source of a packet
+abbrev pub source_rule : Network → ObjId → Values → Option Nat
+source_rule net router packet =
+    fold closer None (filter (λ nat. changes_source nat.kind && is_in_network (value packet Ip4Src) nat.logical) (nats_of net router))
+
+-- a packet gets an external address and the port that is chosen
+abbrev pub with_port : Zone → Ip4 → Option ℕ → Values → State → Changed
+with_port zone external None packet state = Stopped NoPort
+with_port zone external (Some port) packet state = bound zone (with_source external port (tuple packet)) packet state
+
+abbrev pub hidden_behind : Zone → Ip4 → Values → State → Look → Changed
+hidden_behind zone external packet state New = with_port zone external (snat_port state.conns zone (tuple packet) external) packet state
+hidden_behind zone external packet state found = Onward (forth state.conns packet found) state
+
+abbrev pub hidden_by : ObjId → Option Nat → Values → State → Changed
+hidden_by router None packet state = Onward packet state
+hidden_by router (Some nat) packet state = hidden_behind (Snat router) nat.external packet state (look state.conns (Snat router) packet)
+
+-- What becomes of the addresses of an IPv4 packet that leaves: a reply to a changed destination comes from that again, and of any other a
+-- rule may change the source.
+abbrev pub snatted : Network → ObjId → Values → State → Look → Changed
+snatted net router packet state found =
+    if dnats net router && is_reply found then Onward (back state.conns packet found) state else hidden_by router (source_rule net router packet) packet state
+
+abbrev pub changed_out : Network → ObjId → Values → State → Changed
+changed_out net router packet state =
+    if is_ip4 packet then snatted net router packet state (look state.conns (Dnat router) packet) else Onward packet state

@@ -1,7 +1,9 @@
 ghost use Rattle.std.specs.Prelude.{◌≡◌, [], IfOk};
-ghost use Rattle.ct_core.specs.declared.zone.Zone.TheVariants.{Port};
+ghost use Rattle.ct_core.specs.declared.zone.Zone.TheVariants.{Port, Dnat, Snat};
 ghost use Rattle.ct_core.specs.Changes.{without_zone};
+ghost use Rattle.ct_core.specs.Neighbours.{without_port};
 ghost use Rattle.ct_core.specs.State.{empty_state, with_conns};
+ghost use Rattle.ct_state.specs.Work.{with_nbrs};
 
 use ct_core::Zone;
 use ct_nbrs::Neighbours;
@@ -59,11 +61,35 @@ impl State {
         self.conns.drop_zone(Zone::Port(port));
     }
 
+    /// Strikes out the connections of the two zones of a router (not from OVN). It takes no memory; where none of a zone was recorded
+    /// since it was last struck out, it costs one look.
+    pub fn strike_router(&mut self, router: ObjId)
+        ensures { self.new ≡ with_conns (without_zone (Snat router) (without_zone (Dnat router) self.old.conns)) self.old }
+    {
+        self.conns.drop_zone(Zone::Dnat(router));
+        self.conns.drop_zone(Zone::Snat(router));
+    }
+
+    /// Strikes out what a router's port has learnt of its neighbours (not from OVN). It takes no memory, and costs by the number of
+    /// neighbours that are known.
+    pub fn strike_router_port(&mut self, port: ObjId)
+        ensures { self.new ≡ with_nbrs (without_port port self.old.nbrs) self.old }
+    {
+        self.nbrs.drop_port(port);
+    }
+
     /// Takes all connections out (modelled on `dpctl/flush-conntrack` of ovs-appctl(8)). Neighbours stay.
     pub fn flush_conns(&mut self)
         ensures { self.new ≡ with_conns [] self.old }
     {
         self.conns.flush();
+    }
+
+    /// Takes all neighbours out (not from OVN). Connections stay.
+    pub fn flush_nbrs(&mut self)
+        ensures { self.new ≡ with_nbrs [] self.old }
+    {
+        self.nbrs.flush();
     }
 
     /// An equal state. Where memory runs out the answer is `OutOfMemory`.

@@ -3,7 +3,7 @@
 use Rattle.std.proofs.Common.{◌≡◌, ℕ, ◌<◌, Bool, true, false, cond, List, [], ◌∷◌, sym, ap, refl, ◌∙◌, ◌⊎◌, inl, inr}
 use Rattle.std.specs.Prelude.{◌||◌, Some, ⊤}
 use Rattle.std.specs.List.{AllByRecursion, Contains}
-use Rattle.std.proofs.lemmas.Bool.{false≢true}
+use Rattle.std.proofs.lemmas.Bool.{false≢true, or_left, or_right}
 use Rattle.nv_base.specs.declared.object.ObjId.{ObjId}
 use Rattle.pkt_core.specs.Packet.{Values}
 use Rattle.expr_core.specs.Lookup.{Lookup}
@@ -13,7 +13,7 @@ use Rattle.sb_model.specs.declared.stage.Stage.{Stage}
 use Rattle.sb_rows.specs.Match.{is_in_table, select}
 use Rattle.sb_rows.specs.Row.{IsInRowOrder}
 use Rattle.sb_rows.proofs.Tables.{in_table-gives}
-use Rattle.net_rows.proofs.Elements.{one_of, one_first, one_later}
+use Rattle.net_rows.proofs.Elements.{one_of, one_of_none, one_first, one_later}
 use Rattle.ls_laws.proofs.RuleStages.{each_of}
 use Rattle.ls_laws.proofs.Takers.{IsMet, lower_after, met}
 
@@ -40,6 +40,15 @@ first_end (l ∷ ls) last = cond l.test l.end (first_end ls last)
 abbrev pub any_holds : {E : Type 0} → List (Layer E) → Bool
 any_holds [] = false
 any_holds (l ∷ ls) = l.test || any_holds ls
+
+-- where this one's does
+pub any_holds-from : {E : Type 0} (ls : List (Layer E)) (l : Layer E) → Contains ls l → l.test ≡ true → any_holds ls ≡ true
+any_holds-from [] l there is = absurd (one_of_none l there)
+any_holds-from {E} (m ∷ ls) l there is = by (one_of m ls l there) (λ later. any_holds-from ls l later is)
+  where
+    by : (m ≡ l) ⊎ Contains ls l → (Contains ls l → any_holds ls ≡ true) → (m.test || any_holds ls) ≡ true
+    by (inl same) rest = or_left m.test (any_holds ls) (ap (λ (n : Layer E). n.test) same ∙ is)
+    by (inr later) rest = or_right m.test (any_holds ls) (rest later)
 
 -- a row is of a layer whose test holds
 pub record IsOfLayer {E : Type 0} (does : Row → E) (layers : List (Layer E)) (row : Row) : Type 0 where

@@ -3,10 +3,16 @@ pub mod Changes
 pub mod Delivery
 pub mod Exits
 pub mod Hosts
+pub mod InputEnds
+pub mod InputLayers
+pub mod InputMatches
+pub mod InputPackets
+pub mod InputRows
 pub mod Layers
 pub mod Learning
 pub mod Members
 pub mod Networks
+pub mod OwnAddresses
 pub mod OwnRules
 pub mod PassingStages
 pub mod PortRules
@@ -17,4 +23,5 @@ pub mod RouteWays
 pub mod RoutedPackets
 pub mod StageLayers
 pub mod Tables
+pub mod TakenIn
 pub mod Ways

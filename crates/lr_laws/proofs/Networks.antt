@@ -28,7 +28,7 @@ same_times a b s positive = by (eqb a b) refl (eqb (a * s) (b * s)) refl
     by false e false f = refl
 
 -- numbers of 32 bits agree in the bits of a prefix where they agree without the bits after it
-prefix_tells : (n base k : ℕ) → n < 2 ^ 32 → base < 2 ^ 32 → k ≤ 32 → eqb (bit_and n (2 ^ 32 - 2 ^ k)) (bit_and base (2 ^ 32 - 2 ^ k)) ≡ eqb (n / 2 ^ k) (base / 2 ^ k)
+pub prefix_tells : (n base k : ℕ) → n < 2 ^ 32 → base < 2 ^ 32 → k ≤ 32 → eqb (bit_and n (2 ^ 32 - 2 ^ k)) (bit_and base (2 ^ 32 - 2 ^ k)) ≡ eqb (n / 2 ^ k) (base / 2 ^ k)
 prefix_tells n base k n_fits base_fits within =
     ap (λ m. eqb m (bit_and base (2 ^ 32 - 2 ^ k))) (and_high_mask 32 k within n n_fits)
     ∙ ap (λ m. eqb (n / 2 ^ k * 2 ^ k) m) (and_high_mask 32 k within base base_fits)

@@ -1,7 +1,7 @@
 -- A packet of IPv4 is routed as the meaning says.
-use Rattle.std.proofs.Common.{◌≡◌, ℕ, ◌+◌, ◌-◌, ◌*◌, ◌<◌, ◌≤◌, Bool, true, false, cond, List, [], ◌∷◌, map, eqb, sym, ap, refl, ◌∙◌, subst, ◌⊎◌, inl, inr, lit<, arith}
+use Rattle.std.proofs.Common.{◌≡◌, ℕ, ◌+◌, ◌-◌, ◌*◌, ◌<◌, ◌≤◌, Bool, true, false, cond, List, [], ◌∷◌, map, sym, ap, refl, ◌∙◌, subst, ◌⊎◌, inl, inr, lit<, arith}
 use Rattle.std.specs.Prelude.{◌&&◌, Option, Some, None, fold, option_map}
-use Rattle.std.specs.List.{Contains, flat_map}
+use Rattle.std.specs.List.{Contains}
 use Rattle.std.proofs.lemmas.Bool.{false≢true, and_from, and_parts, eq-eqb, eqb-true}
 use Rattle.std.proofs.lemmas.Option.{same_Some, none-some}
 use Rattle.nv_base.specs.Block.{Block}
@@ -37,7 +37,7 @@ use Rattle.net_router.specs.Routing as meaning
 use Rattle.net_router.specs.Routing.{Hop, Way, asking, hop_by, hop_for, is_exit, longer, takes, ways}
 use Rattle.net_rows.specs.Unit.{row_of, rule, unit_of, unit_of_datapath}
 use Rattle.net_rows.specs.declared.rule.Rule.{Rule}
-use Rattle.net_rows.proofs.Elements.{any_from, any_gives, one_first, one_of_none, Contains-filter, Contains-flat_map, Contains-from_filter, Contains-from_flat_map}
+use Rattle.net_rows.proofs.Elements.{one_first, one_of_none, Contains-from_filter}
 use Rattle.net_rows.proofs.Pairs.{OfPairs, every_member}
 use Rattle.net_rows.proofs.SoundObjects.{IsBlock}
 use Rattle.lr_rows.specs.Make.{becomes, is_within}
@@ -49,7 +49,6 @@ use Rattle.lr_units.specs.Units.{binding_input, neighbour_input, port_route_inpu
 use Rattle.lr_units.proofs.SoundRouters.{route_is_sound, router_port_is_sound}
 use Rattle.ls_laws.proofs.Packets.{other_value}
 use Rattle.ls_laws.proofs.RuleStages.{from_rules_at, rules_at, the_only}
-use Rattle.ls_laws.proofs.Tables.{filter_passes}
 use Rattle.tr_stage.specs.Machine as packets
 use Rattle.tr_stage.specs.Machine.{number_of}
 use Rattle.tr_stage.specs.declared.outcome.Outcome.TheVariants as outcomes
@@ -60,6 +59,7 @@ use Rattle.lr_units.specs.Network.{network_rows}
 use Rattle.lr_laws.specs.Steps.{IsOnRouter, Routes, flows_at, on_way, sent_by}
 use Rattle.lr_laws.proofs.Exits.{exit-from, exit-none, exit_of}
 use Rattle.lr_laws.proofs.Networks.{addresses_of_item, cleared_item, network_item}
+use Rattle.lr_laws.proofs.OwnAddresses.{HasAddress, own-from, own-gives}
 use Rattle.lr_laws.proofs.OwnRules.{IsStaticRule, binding_stage, is_of_hosts, neighbour_stage, own_rule-gives, static_rule-gives}
 use Rattle.lr_laws.proofs.PortRules.{IsPortSays, own_address-from, own_address_rule, port_has_net, port_rule-gives, stage_is, stage_said, to_network-from}
 use Rattle.lr_laws.proofs.Ports.{number_of_port}
@@ -197,16 +197,10 @@ module _ (net : Network) (router : Router) (flight : Flight) (on : IsOnRouter ne
     ByOwn : is_own net router.id dst.0 ≡ true → row.priority ≡ 200 → its_does row ≡ dropped → IsTaker row
     ByLast : row.priority ≡ 0 → its_does row ≡ dropped → IsTaker row
 
-  own-from : (port : RouterPort) → Contains net.router_ports port → port.router ≡ router.id → is_among_ips dst.0 (addresses_at port) ≡ true → is_own net router.id dst.0 ≡ true
-  own-from port there its is =
-      let found = any_gives (λ (a : Ip4). eqb a.0 dst.0) (addresses_at port) is in
-      let among = Contains-filter (λ (p : RouterPort). same router.id p.router) net.router_ports port there (eq-eqb router.id.0 port.router.0 (ap (λ (o : ObjId). o.0) (sym its))) in
-      any_from (λ (a : Ip4). eqb a.0 dst.0) (flat_map addresses_at (ports_of net router.id)) found.0 (Contains-flat_map addresses_at (ports_of net router.id) port found.0 among found.1) found.2
-
   by_port_rule : (row : Row) (of : IsPortRule net router.id LrInIpRouting row) → holds (names net) packet row.matching ≡ true → IsRouting of.port of.says → IsTaker row
   by_port_rule row of takes_it (ToItself is) =
       let row_is : row ≡ row_of (unit_of router.id of.port.id) (own_address_rule (port_route_input of.port)) = of.is ∙ ap (row_of (unit_of router.id of.port.id)) is in
-      ByOwn (own-from of.port of.among of.of_router (sym (own_match of.port) ∙ (sym (ap (λ (r : Row). holds (names net) packet r.matching) row_is) ∙ takes_it))) (ap (λ (r : Row). r.priority) row_is)
+      ByOwn (own-from net router dst.0 of.port (of.among, of.of_router) (sym (own_match of.port) ∙ (sym (ap (λ (r : Row). holds (names net) packet r.matching) row_is) ∙ takes_it))) (ap (λ (r : Row). r.priority) row_is)
       (ap its_does row_is)
   by_port_rule row of takes_it (ToNetwork own there is) =
       let row_is : row ≡ row_of (unit_of router.id of.port.id) (network_rule (port_route_input of.port) own) = of.is ∙ ap (row_of (unit_of router.id of.port.id)) is in
@@ -342,31 +336,22 @@ module _ (net : Network) (router : Router) (flight : Flight) (on : IsOnRouter ne
 
   -- none leads to the router itself
   by_own : is_own net router.id dst.0 ≡ true → step (flows_at net router.id) LrInIpRouting flight ≡ dropped
-  by_own is = step_by_row net router flight on LrInIpRouting its_row among its refl taking (λ row of row_takes. others row (taker row of row_takes))
+  by_own is = step_by_row net router flight on LrInIpRouting its_row among found.its.1 refl taking (λ row of row_takes. others row (taker row of row_takes))
     where
-      found : (a : Ip4) × Contains (flat_map addresses_at (ports_of net router.id)) a × (eqb a.0 dst.0 ≡ true)
-      found = any_gives (λ (a : Ip4). eqb a.0 dst.0) (flat_map addresses_at (ports_of net router.id)) is
-
-      at : (port : RouterPort) × Contains (ports_of net router.id) port × Contains (addresses_at port) found.0
-      at = Contains-from_flat_map addresses_at (ports_of net router.id) found.0 found.1
-
-      there : Contains net.router_ports at.0
-      there = Contains-from_filter (λ (p : RouterPort). same router.id p.router) net.router_ports at.0 at.1
-
-      its : at.0.router ≡ router.id
-      its = let number = eqb-true router.id.0 at.0.router.0 (filter_passes (λ (p : RouterPort). same router.id p.router) net.router_ports at.0 at.1) in λ i. record { 0 = sym number i }
+      found : HasAddress net router dst.0
+      found = own-gives net router dst.0 is
 
       says : Rule
-      says = own_address_rule (port_route_input at.0)
+      says = own_address_rule (port_route_input found.port)
 
       its_row : Row
-      its_row = row_of (unit_of at.0.router at.0.id) says
+      its_row = row_of (unit_of found.port.router found.port.id) says
 
       among : Contains (network_rows net) its_row
-      among = rows-port_route net at.0 says there (own_address-from net at.0 (port_has_net net on.sound at.0 there))
+      among = rows-port_route net found.port says found.its.0 (own_address-from net found.port (port_has_net net on.sound found.port found.its.0))
 
       taking : holds (names net) packet says.matching ≡ true
-      taking = own_match at.0 ∙ any_from (λ (a : Ip4). eqb a.0 dst.0) (addresses_at at.0) found.0 at.2 found.2
+      taking = own_match found.port ∙ found.has
 
       others : (row : Row) → IsTaker row → IsBehind its_row row
       others row (ByWay c there len low high priority hint done) = inr (inl (rw priority (omega (arith, len, high))))

@@ -1,6 +1,6 @@
--- What a packet's step through the stages of a router does, but that of input, said of the network's objects, of the packet and of the state:
+-- What a packet's step through the stages of a router does, said of the network's objects, of the packet and of the state:
 -- the stage laws. They are of routers that translate no addresses.
-use Rattle.std.specs.Prelude.{◌≡◌, ◌-◌, ◌==◌, true, if◌then◌else◌, List, [], ◌∷◌, Contains, Option, Some, None}
+use Rattle.std.specs.Prelude.{◌≡◌, ℕ, ◌-◌, ◌==◌, true, if◌then◌else◌, [], ◌∷◌, Contains, Option, Some, None}
 use Rattle.nv_base.specs.Ip4.{address}
 use Rattle.nv_base.specs.declared.object.ObjId.{ObjId}
 use Rattle.nv_base.specs.declared.field.Field.TheVariants.{Inport, Outport, FlagsLoopback, EthSrc, EthDst, EthType, IpTtl, Ip4Src, Ip4Dst, ArpOp, ArpSpa, ArpSha, ArpTpa, Reg0, Reg1, Reg6}
@@ -13,10 +13,16 @@ use Rattle.nb_model.specs.Network.{Network}
 use Rattle.nb_model.specs.Sound.{IsSound}
 use Rattle.nb_router.specs.Vocabulary.{lbs_of, nats_of}
 use Rattle.sb_model.specs.declared.stage.Stage.{Stage}
-use Rattle.sb_model.specs.declared.stage.Stage.TheVariants.{LrInAdmission, LrInLearnNeighbor, LrInIpInput, LrInIpRouting, LrInArpResolve, LrInArpRequest, LrOutDelivery}
+use Rattle.sb_model.specs.declared.stage.Stage.TheVariants.{LrInAdmission, LrInLearnNeighbor, LrInIpInput, LrInUnsnat, LrInIpRouting, LrInArpResolve, LrInArpRequest, LrOutDelivery}
 use Rattle.net_meaning.specs.declared.answer.Answer.TheVariants as answer
 use Rattle.net_meaning.specs.declared.cause.Cause.TheVariants.{Admission, NoRoute, Delivery}
-use Rattle.net_router.specs.Input.{after_learning, is_admitted}
+use Rattle.net_meaning.specs.Walk.{Passed}
+use Rattle.net_meaning.specs.Walk.Passed.{GoesOn, Drops, Makes}
+use Rattle.net_meaning.specs.Walk.Target.{OnePort, Ports, Late}
+use Rattle.sb_model.specs.Stage.{last_table}
+use Rattle.sb_model.specs.declared.stage.DatapathKind.TheVariants as datapath
+use Rattle.ct_core.specs.State.{State}
+use Rattle.net_router.specs.Input.{after_learning, is_admitted, taken_in}
 use Rattle.net_router.specs.Resolution.{mac_for}
 use Rattle.net_router.specs.Routing.{Hop, hop_for}
 use Rattle.lr_units.specs.Network.{network_rows}
@@ -76,6 +82,39 @@ abbrev pub Learns : Type 0
 Learns =
     (net : Network) (router : Router) (flight : Flight) → IsOnRouter net router flight.packet → (port : RouterPort) → IsPortOf net router port → CameIn port flight.packet
     → Does net router LrInLearnNeighbor flight (On LrInIpInput (record flight { state = after_learning port flight.packet flight.state }))
+
+-- ---- input
+
+-- the last table of a router's egress, by which packets leave late
+abbrev pub late : ℕ
+late = last_table datapath.Router
+
+-- what becomes of a packet that the router does not pass on
+abbrev pub taken : Passed → State → StageEnd
+taken (Drops cause) state = Ends (Some (outcomes.Drop cause)) state
+taken (GoesOn (OnePort port) packet) state = Ends (Some (outcomes.Leave packet 0)) state
+taken (GoesOn (Late port) packet) state = Ends (Some (outcomes.Leave packet late)) state
+taken (GoesOn (Ports ports) packet) state = Ends None state
+taken (Makes why port packet) state = Ends (Some (outcomes.Made packet late why)) state
+
+-- a packet that is to be passed on goes on; any other is dropped or answered
+abbrev pub taken_or_passed : Option Passed → Flight → StageEnd
+taken_or_passed None flight = On LrInUnsnat flight
+taken_or_passed (Some passed) flight = taken passed flight.state
+
+-- the packet, to go out by the port that it came in by
+abbrev pub going_back : RouterPort → Values → Values
+going_back port packet = with_value packet Outport port.id.0
+
+-- the packet has the MAC of the port that it came in by in `reg6`
+abbrev pub HasMac : RouterPort → Values → Type 0
+HasMac port packet = value packet Reg6 ≡ port.mac
+
+-- what the meaning does not pass on is dropped or answered as it says, of the packet that is to go back; the rest goes on as it is
+abbrev pub TakesIn : Type 0
+TakesIn =
+    (net : Network) (router : Router) (flight : Flight) → IsOnRouter net router flight.packet → (port : RouterPort) → IsPortOf net router port → CameIn port flight.packet
+    → HasMac port flight.packet → Does net router LrInIpInput flight (taken_or_passed (taken_in net port (going_back port flight.packet)) flight)
 
 -- ---- routing
 

@@ -6,7 +6,9 @@ use Rattle.std.specs.List.{Contains}
 use Rattle.std.proofs.Math.Bool.{or-false}
 use Rattle.std.proofs.lemmas.Bool.{false≢true, and_from, and_parts}
 use Rattle.nv_base.specs.declared.object.ObjId.{ObjId}
+use Rattle.nv_base.specs.Field.{field_prerequisite}
 use Rattle.nv_base.specs.declared.field.Field.TheVariants.{EthDst, Reg0}
+use Rattle.nv_base.specs.declared.field.Prerequisite.TheVariants.{Nothing}
 use Rattle.pkt_core.specs.Packet.{value}
 use Rattle.pkt_core.specs.Prerequisite.{is_ip4}
 use Rattle.expr_core.specs.Formula.{Formula}
@@ -18,14 +20,13 @@ use Rattle.act_core.specs.declared.step.Step.TheVariants as action_step
 use Rattle.nb_records.specs.declared.acl.Acl.{Acl}
 use Rattle.nb_records.specs.declared.acl.Way.{Way}
 use Rattle.nb_records.specs.declared.acl.Way.TheVariants.{From, To}
+use Rattle.nb_records.specs.declared.switch.Port.{Port}
 use Rattle.nb_records.specs.declared.switch.Switch.{Switch}
 use Rattle.nb_model.specs.Applies.{acls, applies, tracks}
-use Rattle.nb_model.specs.Belongs.{same_way}
+use Rattle.nb_model.specs.Belongs.{is_to_router, same_way}
 use Rattle.nb_model.specs.Names.{names}
 use Rattle.nb_model.specs.Network.{Network}
-use Rattle.nb_model.specs.Plain.{IsPlain}
 use Rattle.nb_model.specs.Readable.{is_priority}
-use Rattle.nb_model.specs.Sound.{IsSound}
 use Rattle.sb_model.specs.Make.{is_predicate, bit_is_set, steps, goes_on}
 use Rattle.sb_model.specs.Stage.{all_stages, next_stage, pipeline_of, stage_at, stage_place}
 use Rattle.sb_model.specs.declared.row.Row.{Row}
@@ -33,25 +34,26 @@ use Rattle.sb_model.specs.declared.stage.Pipeline.TheVariants.{Ingress, Egress}
 use Rattle.sb_model.specs.declared.stage.Stage.{Stage}
 use Rattle.sb_model.specs.declared.stage.Stage.TheVariants.{LsInPreAcl, LsInStateful, LsInArpRsp, LsOutStateful, LsOutCheckPortSec}
 use Rattle.net_meaning.specs.Address.{is_multicast}
-use Rattle.net_meaning.specs.Tracked.{is_stateless, passes_untracked}
+use Rattle.net_meaning.specs.Tracked.{is_stateless, is_tracked, passes_untracked}
 use Rattle.net_rows.specs.Acls.{asks_to_track, first_stage_of, stage_of, switch_acl_rules, acl_on_rules}
-use Rattle.net_rows.specs.Build.{acl_on_input, has_unknown, rows, switch_rules}
+use Rattle.net_rows.specs.Build.{acl_on_input, has_unknown, switch_rules}
 use Rattle.net_rows.specs.Lookup.{switch_l2_rules}
 use Rattle.net_rows.specs.Unit.{rule, row_of, unit_of, unit_of_datapath}
 use Rattle.net_rows.specs.declared.inputs.AclOnInput.{AclOnInput}
 use Rattle.net_rows.specs.declared.rule.Rule.{Rule}
 use Rattle.net_rows.proofs.Elements.{one_of, one_of_none, one_first, one_later, any_gives, any_from, Contains-filter, Contains-from_filter}
 use Rattle.net_rows.proofs.Sound.{each_passes}
-use Rattle.net_rows.proofs.Units.{rows-acl, rows-switch}
+use Rattle.lr_units.specs.Network.{network_rows}
 use Rattle.tr_pipe.specs.Machine.{Effect, after, kept, run_actions, step}
 use Rattle.tr_pipe.specs.Machine.StageEnd.{On}
 use Rattle.tr_pipe.specs.Tracking.{Flight, committed, tracked, zone_of}
-use Rattle.ls_laws.specs.Steps.{flows_at}
-use Rattle.ls_laws.proofs.RuleStages.{rules_at, among_rules_at, from_rules_at, is_of_addresses, is_of_security, port_rule_stage}
-use Rattle.ls_laws.proofs.Tables.{IsSwitchRule, IsPortRule, IsAclRule, IsRule, filter_passes}
-use Rattle.ls_ct_laws.specs.Tracking.{Asks, Keeps, LooksUp, after_stateful, has_bit, is_to_track, keeps, pipeline_for, pre_stateful, stateful, with_bit}
+use Rattle.ls_laws.specs.Steps.{IsOn, IsPortOf, flows_at}
+use Rattle.ls_laws.proofs.AtPort.{at_port-from, at_port-gives, same_port}
+use Rattle.ls_laws.proofs.RuleStages.{rules_at, among_rules_at, from_rules_at, is_first, is_of_ports, port_rule_stage}
+use Rattle.ls_laws.proofs.Tables.{IsSwitchRule, IsPortRule, IsAclRule, IsRule, filter_passes, row_of_acl, row_of_port, row_of_switch}
+use Rattle.ls_ct_laws.specs.Tracking.{Asks, Keeps, LooksUp, after_stateful, has_bit, keeps, pipeline_for, port_field, pre_stateful, stateful, with_bit}
 use Rattle.ls_ct_laws.proofs.Meets.{meets_above}
-use Rattle.ls_ct_laws.proofs.TrackedRules.{passing, tracked_switch_rules, switch_rules-tracked, acl_rule_stages, first_from, first_gives, first_rules, is_deciding, is_first, own_rules, own_stage, tracked_from, tracked_gives}
+use Rattle.ls_ct_laws.proofs.TrackedRules.{passing, tracked_switch_rules, switch_rules-tracked, acl_rule_stages, first_from, first_gives, first_rules, is_deciding, own_rules, own_stage, port_rule, port_rule-from, port_rule-gives, tracked_from, tracked_gives}
 
 -- ---- actions
 
@@ -128,19 +130,11 @@ last_are From false = refl
 last_are To true = refl
 last_are To false = refl
 
--- no port has a rule in these stages
-abbrev of_ports : Stage → Bool
-of_ports stage = is_of_security stage || is_of_addresses stage
-
--- nor has an ACL in the second and in the last
+-- neither a port nor an ACL has a rule in the second and in the last
 abbrev of_acls : Stage → Bool
 of_acls stage = is_first stage || is_deciding stage
 
-first_not_ports : (w : Way) → of_ports (first_stage_of w) ≡ false
-first_not_ports From = refl
-first_not_ports To = refl
-
-second_not_ports : (w : Way) → of_ports (pre_stateful w) ≡ false
+second_not_ports : (w : Way) → is_of_ports (pre_stateful w) ≡ false
 second_not_ports From = refl
 second_not_ports To = refl
 
@@ -148,7 +142,7 @@ second_not_acls : (w : Way) → of_acls (pre_stateful w) ≡ false
 second_not_acls From = refl
 second_not_acls To = refl
 
-last_not_ports : (w : Way) → of_ports (stateful w) ≡ false
+last_not_ports : (w : Way) → is_of_ports (stateful w) ≡ false
 last_not_ports From = refl
 last_not_ports To = refl
 
@@ -186,7 +180,7 @@ own_not_first : (w : Way) → is_first (stage_of w) ≡ false
 own_not_first From = refl
 own_not_first To = refl
 
-module _ (net : Network) (switch : Switch) (flight : Flight) (plain : IsPlain net) (among : Contains net.switches switch) (tracking : tracks net switch.id ≡ true) where
+module _ (net : Network) (switch : Switch) (flight : Flight) (on : IsOn net switch flight.packet) (tracking : tracks net switch.id ≡ true) where
   abbrev dp : ObjId
   dp = switch.id
 
@@ -196,16 +190,16 @@ module _ (net : Network) (switch : Switch) (flight : Flight) (plain : IsPlain ne
   -- the rows of the switch in a stage, by its rules there
   module _ (stage : Stage) (some : List Rule) (are : (unknown : Bool) → rules_at stage (tracked_switch_rules unknown) ≡ some) where
     at_stage : rules_at stage (switch_rules net dp) ≡ some
-    at_stage = ap (rules_at stage) (switch_rules-tracked net dp plain tracking) ∙ are (has_unknown net dp)
+    at_stage = ap (rules_at stage) (switch_rules-tracked net dp on.plain tracking) ∙ are (has_unknown net dp)
 
-    row_there : (says : Rule) → Contains some says → Contains (rows net) (row_at says)
-    row_there says there = rows-switch net switch says among (from_rules_at stage (switch_rules net dp) some says at_stage there)
+    row_there : (says : Rule) → Contains some says → Contains (network_rows net) (row_at says)
+    row_there says there = row_of_switch net switch says on.among (from_rules_at stage (switch_rules net dp) some says at_stage there)
 
     among_some : (x : Row) (of : IsSwitchRule net dp stage x) → Contains some of.says
     among_some x of = subst (λ rs. Contains rs of.says) at_stage (among_rules_at stage (switch_rules net dp) of.says of.in_rules of.of_stage)
 
-  of_no_port : (stage : Stage) → of_ports stage ≡ false → (x : Row) → IsPortRule net dp stage x → ⊥
-  of_no_port stage no_port x of = false≢true (sym no_port ∙ sym (ap of_ports of.of_stage) ∙ port_rule_stage net of.port of.says of.in_rules)
+  of_no_port : (stage : Stage) → is_of_ports stage ≡ false → (x : Row) → IsPortRule net dp stage x → ⊥
+  of_no_port stage no_port x of = false≢true (sym no_port ∙ sym (ap is_of_ports of.of_stage) ∙ port_rule_stage net of.port of.says of.in_rules)
 
   of_no_acl : (stage : Stage) → of_acls stage ≡ false → (x : Row) → IsAclRule net dp stage x → ⊥
   of_no_acl stage no_acl x of = false≢true (sym no_acl ∙ sym (ap of_acls of.of_stage) ∙ acl_rule_stages (acl_on_input net of.acl dp) of.says tracking of.in_rules)
@@ -213,7 +207,7 @@ module _ (net : Network) (switch : Switch) (flight : Flight) (plain : IsPlain ne
   -- ---- a stage with two rules: of the packets that the second takes, and of others
 
   module _ (stage : Stage) (m : Formula TypedAtom) (actions : List Action) (are : (unknown : Bool) → rules_at stage (tracked_switch_rules unknown) ≡ passing stage ∷ rule stage 100 m actions ∷ [])
-      (no_port : of_ports stage ≡ false) (no_acl : of_acls stage ≡ false) where
+      (no_port : is_of_ports stage ≡ false) (no_acl : of_acls stage ≡ false) where
     abbrev low : Rule
     low = passing stage
 
@@ -259,19 +253,19 @@ module _ (net : Network) (switch : Switch) (flight : Flight) (plain : IsPlain ne
 
         by : (b : Bool) → takes m ≡ b → step (flows_at net dp) stage flight ≡ run_actions (names net) stage (cond b actions goes_on) flight
         by true it_takes =
-            meets_above net dp stage flight (row_at high) (row_there stage (low ∷ high ∷ []) are high (one_later low (high ∷ []) high (one_first high [] high refl))) refl refl it_takes
+            meets_above net switch flight on stage (row_at high) (row_there stage (low ∷ high ∷ []) are high (one_later low (high ∷ []) high (one_first high [] high refl))) refl refl it_takes
             (λ x of takes_x. below x (of_rule x of))
         by false none =
-            meets_above net dp stage flight (row_at low) (row_there stage (low ∷ high ∷ []) are low (one_first low (high ∷ []) low refl)) refl refl refl
+            meets_above net switch flight on stage (row_at low) (row_there stage (low ∷ high ∷ []) are low (one_first low (high ∷ []) low refl)) refl refl refl
             (λ x of takes_x. inl (only x none takes_x (of_rule x of)))
 
 -- ---- the second stage and the last
 
-module _ (net : Network) (switch : Switch) (flight : Flight) (plain : IsPlain net) (among : Contains net.switches switch) (tracking : tracks net switch.id ≡ true) where
+module _ (net : Network) (switch : Switch) (flight : Flight) (on : IsOn net switch flight.packet) (tracking : tracks net switch.id ≡ true) where
   -- what is noted to be tracked is tracked
   pub tracks_noted : (way : Way) → step (flows_at net switch.id) (pre_stateful way) flight ≡ On (stage_of way) (if has_bit 0 flight.packet then tracked (zone_of (pipeline_for way) flight.packet) flight else flight)
   tracks_noted way =
-      two_rules net switch flight plain among tracking (pre_stateful way) (bit_is_set Reg0 0) tracks_it (second_are way) (second_not_ports way) (second_not_acls way)
+      two_rules net switch flight on tracking (pre_stateful way) (bit_is_set Reg0 0) tracks_it (second_are way) (second_not_ports way) (second_not_acls way)
       ∙ by (has_bit 0 flight.packet)
     where
       by : (b : Bool) → run_actions (names net) (pre_stateful way) (cond b tracks_it goes_on) flight ≡ On (stage_of way) (cond b (tracked (zone_of (pipeline_for way) flight.packet) flight) flight)
@@ -281,7 +275,7 @@ module _ (net : Network) (switch : Switch) (flight : Flight) (plain : IsPlain ne
   -- the connection of what is noted to be kept is kept
   pub keeps_noted : (way : Way) → step (flows_at net switch.id) (stateful way) flight ≡ (if has_bit 1 flight.packet then keeps way flight else On (after_stateful way) flight)
   keeps_noted way =
-      two_rules net switch flight plain among tracking (stateful way) (bit_is_set Reg0 1) keeps_it (last_are way) (last_not_ports way) (last_not_acls way)
+      two_rules net switch flight on tracking (stateful way) (bit_is_set Reg0 1) keeps_it (last_are way) (last_not_ports way) (last_not_acls way)
       ∙ by (has_bit 1 flight.packet)
     where
       by : (b : Bool) → run_actions (names net) (stateful way) (cond b keeps_it goes_on) flight ≡ cond b (keeps way flight) (On (after_stateful way) flight)
@@ -290,7 +284,7 @@ module _ (net : Network) (switch : Switch) (flight : Flight) (plain : IsPlain ne
 
 -- ---- the first stage
 
-module _ (net : Network) (switch : Switch) (flight : Flight) (sound : IsSound net) (plain : IsPlain net) (among : Contains net.switches switch) (tracking : tracks net switch.id ≡ true) (way : Way) where
+module _ (net : Network) (switch : Switch) (flight : Flight) (on : IsOn net switch flight.packet) (tracking : tracks net switch.id ≡ true) (way : Way) (port : Port) (of_it : IsPortOf net switch port) (here : value flight.packet (port_field way) ≡ port.id.0) where
   abbrev at : Stage
   at = first_stage_of way
 
@@ -363,7 +357,7 @@ module _ (net : Network) (switch : Switch) (flight : Flight) (sound : IsSound ne
     parts = and_parts (applies net switch.id acl) (same_way acl.way way) (filter_passes (λ (a : Acl). applies net switch.id a && same_way a.way way) net.acls acl applied)
 
     in_range : is_priority acl.priority ≡ true
-    in_range = each_passes (λ (a : Acl). is_priority a.priority) net.acls acl sound.readable.priorities listed
+    in_range = each_passes (λ (a : Acl). is_priority a.priority) net.acls acl on.sound.readable.priorities listed
 
     in_rules : Contains (acl_on_rules (acl_on_input net acl switch.id)) (untracking acl)
     in_rules =
@@ -371,13 +365,50 @@ module _ (net : Network) (switch : Switch) (flight : Flight) (sound : IsSound ne
         (inl (subst (λ w. Contains (first_rules (acl_on_input net acl switch.id)) (rule (first_stage_of w) (acl.priority + 1000) acl.matching goes_on)) (same_way-is acl.way way parts.1)
         (first_from acl.way (acl.priority + 1000) acl.matching acl.verdict stateless)))
 
-    untracking_there : Contains (rows net) (untracking_row acl)
-    untracking_there = rows-acl net acl switch (untracking acl) listed (Contains-filter (λ (s : Switch). applies net s.id acl) net.switches switch among parts.0) in_rules
+    untracking_there : Contains (network_rows net) (untracking_row acl)
+    untracking_there = row_of_acl net acl switch (untracking acl) listed (Contains-filter (λ (s : Switch). applies net s.id acl) net.switches switch on.among parts.0) in_rules
+
+  -- ---- rows of ports there
+
+  -- what is said of a port that leads to a router
+  abbrev port_row : Port → Row
+  port_row other = row_of (unit_of switch.id other.id) (port_rule way other.name)
+
+  record IsOfRouter (x : Row) : Type 0 where
+    pub other : Port
+    pub among : Contains net.ports other
+    pub leads : is_to_router other ≡ true
+    pub is : x ≡ port_row other
+
+  of_router : (x : Row) → IsPortRule net switch.id at x → IsOfRouter x
+  of_router x of =
+      let gives = port_rule-gives net of.port way of.says of.in_rules of.of_stage in
+      record {
+        other = of.port;
+        among = of.among;
+        leads = (and_parts (is_to_router of.port) (tracks net of.port.switch) gives.0).0;
+        is = of.is ∙ ap (row_of (unit_of switch.id of.port.id)) gives.1;
+      }
+
+  plain_field : (w : Way) → field_prerequisite (port_field w) ≡ Nothing
+  plain_field From = refl
+  plain_field To = refl
+
+  -- where one takes the packet, the packet's port leads to a router
+  router_by : (x : Row) → IsOfRouter x → held x.matching ≡ true → is_to_router port ≡ true
+  router_by x of takes =
+      let does = sym (ap (λ (r : Row). held r.matching) of.is) ∙ takes in
+      let number = at_port-gives net flight.packet (port_field way) (plain_field way) on.sound of.other of.among does in
+      ap is_to_router (same_port net on.sound port of.other of_it.0 of.among (sym here ∙ number)) ∙ of.leads
+
+  -- and there is one for it where it does
+  router_row : is_to_router port ≡ true → Contains (network_rows net) (row_of (unit_of port.switch port.id) (port_rule way port.name))
+  router_row leads = row_of_port net port (port_rule way port.name) of_it.0 (port_rule-from net port way (and_from (is_to_router port) (tracks net port.switch) leads (ap (tracks net) of_it.1 ∙ tracking)))
 
   -- ---- all rows there
 
   abbrev IsOneOf : Row → Type 0
-  IsOneOf x = (x ≡ switch_row (passing at)) ⊎ ((x ≡ switch_row of_many) ⊎ ((x ≡ switch_row of_ip4) ⊎ IsUntracking x))
+  IsOneOf x = (x ≡ switch_row (passing at)) ⊎ ((x ≡ switch_row of_many) ⊎ ((x ≡ switch_row of_ip4) ⊎ (IsUntracking x ⊎ IsOfRouter x)))
 
   of_three : (x : Row) (says : Rule) → x ≡ switch_row says → Contains three says → IsOneOf x
   of_three x says is there = first (one_of (passing at) (of_many ∷ of_ip4 ∷ []) says there)
@@ -395,26 +426,27 @@ module _ (net : Network) (switch : Switch) (flight : Flight) (sound : IsSound ne
       first (inr later) = second (one_of of_many (of_ip4 ∷ []) says later)
 
   each_row : (x : Row) → IsRule net switch.id at x → IsOneOf x
-  each_row x (inl of) = of_three x of.says of.is (among_some net switch flight plain among tracking at three (first_are way) x of)
-  each_row x (inr (inl of)) = absurd (of_no_port net switch flight plain among tracking at (first_not_ports way) x of)
-  each_row x (inr (inr of)) = inr (inr (inr (of_acl x of)))
+  each_row x (inl of) = of_three x of.says of.is (among_some net switch flight on tracking at three (first_are way) x of)
+  each_row x (inr (inl of)) = inr (inr (inr (inr (of_router x of))))
+  each_row x (inr (inr of)) = inr (inr (inr (inl (of_acl x of))))
 
-  three_there : (says : Rule) → Contains three says → Contains (rows net) (switch_row says)
-  three_there says there = row_there net switch flight plain among tracking at three (first_are way) says there
+  three_there : (says : Rule) → Contains three says → Contains (network_rows net) (switch_row says)
+  three_there says there = row_there net switch flight on tracking at three (first_are way) says there
 
   -- but those of IPv4 packets, all rows say that the packet goes on
   going : (x : Row) (priority : ℕ) → 100 < priority → IsOneOf x → (x.actions ≡ goes_on) ⊎ (x.priority < priority)
   going x priority above (inl is) = inl (ap (λ (r : Row). r.actions) is)
   going x priority above (inr (inl is)) = inl (ap (λ (r : Row). r.actions) is)
   going x priority above (inr (inr (inl is))) = inr (subst (λ (r : Row). r.priority < priority) (sym is) above)
-  going x priority above (inr (inr (inr of))) = inl (ap (λ (r : Row). r.actions) of.is)
+  going x priority above (inr (inr (inr (inl of)))) = inl (ap (λ (r : Row). r.actions) of.is)
+  going x priority above (inr (inr (inr (inr of)))) = inl (ap (λ (r : Row). r.actions) of.is)
 
   -- ---- what becomes of the packet
 
   -- a packet for many goes on
   many_go : is_multicast (value flight.packet EthDst) ≡ true → step (flows_at net switch.id) at flight ≡ On (pre_stateful way) flight
   many_go many =
-      meets_above net switch.id at flight (switch_row of_many) (three_there of_many (one_later (passing at) (of_many ∷ of_ip4 ∷ []) of_many (one_first of_many (of_ip4 ∷ []) of_many refl))) refl refl (held_many ∙ many)
+      meets_above net switch flight on at (switch_row of_many) (three_there of_many (one_later (passing at) (of_many ∷ of_ip4 ∷ []) of_many (one_first of_many (of_ip4 ∷ []) of_many refl))) refl refl (held_many ∙ many)
       (λ x of takes. going x 110 (omega arith) (each_row x of))
       ∙ first_passes net flight way
 
@@ -423,27 +455,35 @@ module _ (net : Network) (switch : Switch) (flight : Flight) (sound : IsSound ne
   stateless_go passes =
       let found = any_gives (λ (acl : Acl). is_stateless acl.verdict && holds (names net) flight.packet acl.matching) (acls net switch.id way) passes in
       let both = and_parts (is_stateless found.0.verdict) (held found.0.matching) found.2 in
-      meets_above net switch.id at flight (untracking_row found.0) (untracking_there found.0 found.1 both.0) refl refl both.1
+      meets_above net switch flight on at (untracking_row found.0) (untracking_there found.0 found.1 both.0) refl refl both.1
       (λ x of takes. going x (found.0.priority + 1000) (omega arith) (each_row x of))
+      ∙ first_passes net flight way
+
+  -- what is of a port that leads to a router goes on
+  router_go : is_to_router port ≡ true → step (flows_at net switch.id) at flight ≡ On (pre_stateful way) flight
+  router_go leads =
+      meets_above net switch flight on at (row_of (unit_of port.switch port.id) (port_rule way port.name)) (router_row leads) of_it.1 refl
+      (at_port-from net flight.packet (port_field way) (plain_field way) on.sound port of_it.0 here) (λ x of takes. going x 110 (omega arith) (each_row x of))
       ∙ first_passes net flight way
 
   -- what is not of IPv4 goes on
   others_go : is_ip4 flight.packet ≡ false → step (flows_at net switch.id) at flight ≡ On (pre_stateful way) flight
   others_go other =
-      meets_above net switch.id at flight (switch_row (passing at)) (three_there (passing at) (one_first (passing at) (of_many ∷ of_ip4 ∷ []) (passing at) refl)) refl refl refl (λ x of takes. inl (same x takes (each_row x of)))
+      meets_above net switch flight on at (switch_row (passing at)) (three_there (passing at) (one_first (passing at) (of_many ∷ of_ip4 ∷ []) (passing at) refl)) refl refl refl (λ x of takes. inl (same x takes (each_row x of)))
       ∙ first_passes net flight way
     where
       same : (x : Row) → held x.matching ≡ true → IsOneOf x → x.actions ≡ goes_on
       same x takes (inl is) = ap (λ (r : Row). r.actions) is
       same x takes (inr (inl is)) = ap (λ (r : Row). r.actions) is
       same x takes (inr (inr (inl is))) = absurd (false≢true (sym (held_ip4 ∙ other) ∙ sym (ap (λ (r : Row). held r.matching) is) ∙ takes))
-      same x takes (inr (inr (inr of))) = ap (λ (r : Row). r.actions) of.is
+      same x takes (inr (inr (inr (inl of)))) = ap (λ (r : Row). r.actions) of.is
+      same x takes (inr (inr (inr (inr of)))) = ap (λ (r : Row). r.actions) of.is
 
   -- and what is left is noted
-  rest_noted : is_ip4 flight.packet ≡ true → is_multicast (value flight.packet EthDst) ≡ false → passes_untracked net switch.id way flight.packet ≡ false
+  rest_noted : is_ip4 flight.packet ≡ true → is_multicast (value flight.packet EthDst) ≡ false → is_to_router port ≡ false → passes_untracked net switch.id way flight.packet ≡ false
       → step (flows_at net switch.id) at flight ≡ On (pre_stateful way) (with_bit 0 flight)
-  rest_noted ip4 one not_passed =
-      meets_above net switch.id at flight (switch_row of_ip4)
+  rest_noted ip4 one host not_passed =
+      meets_above net switch flight on at (switch_row of_ip4)
       (three_there of_ip4 (one_later (passing at) (of_many ∷ of_ip4 ∷ []) of_ip4 (one_later of_many (of_ip4 ∷ []) of_ip4 (one_first of_ip4 [] of_ip4 refl)))) refl refl (held_ip4 ∙ ip4)
       (λ x of takes. same x takes (each_row x of))
       ∙ first_notes net flight way
@@ -452,30 +492,34 @@ module _ (net : Network) (switch : Switch) (flight : Flight) (sound : IsSound ne
       same x takes (inl is) = inr (subst (λ (r : Row). r.priority < 100) (sym is) (omega arith))
       same x takes (inr (inl is)) = absurd (false≢true (sym (held_many ∙ one) ∙ sym (ap (λ (r : Row). held r.matching) is) ∙ takes))
       same x takes (inr (inr (inl is))) = inl (ap (λ (r : Row). r.actions) is)
-      same x takes (inr (inr (inr of))) = absurd (false≢true (sym not_passed ∙ untracked_by x of takes))
+      same x takes (inr (inr (inr (inl of)))) = absurd (false≢true (sym not_passed ∙ untracked_by x of takes))
+      same x takes (inr (inr (inr (inr of)))) = absurd (false≢true (sym host ∙ router_by x of takes))
 
   -- so the packets that are to be tracked are noted
-  pub notes_wanted : step (flows_at net switch.id) at flight ≡ On (pre_stateful way) (if is_to_track net switch.id way flight.packet then with_bit 0 flight else flight)
-  notes_wanted = by (is_ip4 flight.packet) (is_multicast (value flight.packet EthDst)) (passes_untracked net switch.id way flight.packet) refl refl refl
+  pub notes_wanted : step (flows_at net switch.id) at flight ≡ On (pre_stateful way) (if is_tracked net way port flight.packet then with_bit 0 flight else flight)
+  notes_wanted =
+      by (tracks net port.switch) (is_ip4 flight.packet) (is_multicast (value flight.packet EthDst)) (is_to_router port) (passes_untracked net port.switch way flight.packet) refl refl refl refl refl
     where
-      by : (ip4 many passed : Bool) → is_ip4 flight.packet ≡ ip4 → is_multicast (value flight.packet EthDst) ≡ many → passes_untracked net switch.id way flight.packet ≡ passed
-          → step (flows_at net switch.id) at flight ≡ On (pre_stateful way) (cond (ip4 && not many && not passed) (with_bit 0 flight) flight)
-      by true true passed i m p = many_go m
-      by false true passed i m p = others_go i
-      by false false passed i m p = others_go i
-      by true false true i m p = stateless_go p
-      by true false false i m p = rest_noted i m p
+      by : (t ip4 many router passed : Bool) → tracks net port.switch ≡ t → is_ip4 flight.packet ≡ ip4 → is_multicast (value flight.packet EthDst) ≡ many → is_to_router port ≡ router
+          → passes_untracked net port.switch way flight.packet ≡ passed
+          → step (flows_at net switch.id) at flight ≡ On (pre_stateful way) (cond (t && ip4 && not many && not router && not passed) (with_bit 0 flight) flight)
+      by false ip4 many router passed t i m r p = absurd (false≢true (sym t ∙ ap (tracks net) of_it.1 ∙ tracking))
+      by true false many router passed t i m r p = others_go i
+      by true true true router passed t i m r p = many_go m
+      by true true false true passed t i m r p = router_go r
+      by true true false false true t i m r p = stateless_go (ap (λ dp. passes_untracked net dp way flight.packet) (sym of_it.1) ∙ p)
+      by true true false false false t i m r p = rest_noted i m r (ap (λ dp. passes_untracked net dp way flight.packet) (sym of_it.1) ∙ p)
 
 -- ---- the laws
 
 pub asks_of : (way : Way) → Asks way
-asks_of From net switch flight on tracking = notes_wanted net switch flight on.sound on.plain on.among tracking From
-asks_of To net switch flight on tracking = notes_wanted net switch flight on.sound on.plain on.among tracking To
+asks_of From net switch flight port of_it here on tracking = notes_wanted net switch flight on tracking From port of_it here
+asks_of To net switch flight port of_it here on tracking = notes_wanted net switch flight on tracking To port of_it here
 
 pub looks_up_of : (way : Way) → LooksUp way
-looks_up_of From net switch flight on tracking = tracks_noted net switch flight on.plain on.among tracking From
-looks_up_of To net switch flight on tracking = tracks_noted net switch flight on.plain on.among tracking To
+looks_up_of From net switch flight on tracking = tracks_noted net switch flight on tracking From
+looks_up_of To net switch flight on tracking = tracks_noted net switch flight on tracking To
 
 pub keeps_of : (way : Way) → Keeps way
-keeps_of From net switch flight on tracking = keeps_noted net switch flight on.plain on.among tracking From
-keeps_of To net switch flight on tracking = keeps_noted net switch flight on.plain on.among tracking To
+keeps_of From net switch flight on tracking = keeps_noted net switch flight on tracking From
+keeps_of To net switch flight on tracking = keeps_noted net switch flight on tracking To

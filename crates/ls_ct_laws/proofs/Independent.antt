@@ -5,10 +5,10 @@ use Rattle.std.specs.List.{AllByRecursion, filter, list_all, list_any}
 use Rattle.std.proofs.lemmas.Bool.{false≢true, and_parts}
 use Rattle.nv_base.specs.declared.object.ObjId.{ObjId}
 use Rattle.nv_base.specs.declared.field.Field.{Field}
-use Rattle.nv_base.specs.declared.field.Field.TheVariants.{Reg0, CtState, CtMarkBlocked, EthDst}
+use Rattle.nv_base.specs.declared.field.Field.TheVariants.{Reg0, CtState, CtMarkBlocked}
 use Rattle.nv_base.specs.Field.{field_width}
-use Rattle.pkt_core.specs.Packet.{Values, value}
-use Rattle.pkt_core.specs.Prerequisite.{is_ip4, is_there}
+use Rattle.pkt_core.specs.Packet.{Values}
+use Rattle.pkt_core.specs.Prerequisite.{is_there}
 use Rattle.expr_check.specs.Printed.{IsPrintable}
 use Rattle.expr_core.specs.Formula.{Formula, Formulas}
 use Rattle.expr_core.specs.Formula.Formula.{Leaf, Not, And, Or}
@@ -35,19 +35,16 @@ use Rattle.expr_eval.specs.Relation.{relates}
 use Rattle.nb_records.specs.declared.acl.Acl.{Acl}
 use Rattle.nb_records.specs.declared.acl.Way.{Way}
 use Rattle.nb_records.specs.declared.acl.Way.TheVariants.{From, To}
-use Rattle.nb_records.specs.declared.switch.Port.{Port}
 use Rattle.nb_read.specs.Readings.{role_of}
-use Rattle.nb_model.specs.Applies.{acls, applies, tracks}
-use Rattle.nb_model.specs.Belongs.{is_to_router, same_way}
+use Rattle.nb_model.specs.Applies.{acls, applies}
+use Rattle.nb_model.specs.Belongs.{same_way}
 use Rattle.nb_model.specs.Names.{names}
 use Rattle.nb_model.specs.Network.{Network}
 use Rattle.nb_model.specs.Sound.{IsSound}
-use Rattle.net_meaning.specs.AclVerdict.{deciding, decision, decided_by, higher}
-use Rattle.net_meaning.specs.Address.{is_multicast}
-use Rattle.net_meaning.specs.Tracked.{is_stateless, passes_untracked, is_tracked}
+use Rattle.net_meaning.specs.AclVerdict.{deciding, higher}
+use Rattle.net_meaning.specs.Tracked.{is_stateless, passes_untracked}
 use Rattle.ls_ct_laws.proofs.Noted.{AreAlike, is_noted}
-use Rattle.ls_ct_laws.proofs.Alike.{same_ip4, same_there}
-use Rattle.ls_ct_laws.proofs.Onward.{same_multicast}
+use Rattle.ls_ct_laws.proofs.Alike.{same_there}
 
 -- ---- what a match of an ACL may ask for
 

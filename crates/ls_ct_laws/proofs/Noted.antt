@@ -1,11 +1,11 @@
 -- What stages note of a packet on its way: in the first register, and of its connection. Packets that differ in nothing else are alike.
-use Rattle.std.proofs.Common.{◌≡◌, ℕ, ◌<◌, ◌^◌, Bool, true, false, cond, [], ◌∷◌, length, eqb, sym, ap, refl, subst, ◌∙◌}
+use Rattle.std.proofs.Common.{◌≡◌, ℕ, Bool, true, false, cond, length, eqb, sym, ap, refl, subst, ◌∙◌}
 use Rattle.std.proofs.lemmas.Bool.{false≢true, eqb-true}
 use Rattle.nv_base.specs.declared.field.Field.{Field}
 use Rattle.nv_base.specs.declared.field.Field.TheVariants.{Reg0, CtState, CtMarkBlocked}
-use Rattle.nv_base.specs.Field.{field_count, field_width}
-use Rattle.pkt_core.specs.Packet.{Values, IsPacket, place, value, with_value, with_values}
-use Rattle.ls_laws.proofs.Packets.{set_value, other_value, with_length, same_place, same_packets, fits_with}
+use Rattle.nv_base.specs.Field.{field_count}
+use Rattle.pkt_core.specs.Packet.{Values, place, value, with_value}
+use Rattle.ls_laws.proofs.Packets.{set_value, other_value, with_length, same_place}
 
 -- the fields that stages note in
 abbrev pub is_noted : Field → Bool

@@ -2,7 +2,8 @@
 use Rattle.std.proofs.Common.{◌≡◌, Bool, true, false, Option, Some, None, sym, ap, refl, ◌∙◌, subst, inl, inr}
 use Rattle.std.specs.Prelude.{◌&&◌}
 use Rattle.std.specs.Bool.{IsTrue}
-use Rattle.nv_base.specs.declared.object.ObjId.{ObjId}
+use Rattle.std.specs.List.{Contains}
+use Rattle.nb_records.specs.declared.switch.Switch.{Switch}
 use Rattle.nb_model.specs.Applies.{tracks}
 use Rattle.nb_model.specs.Names.{names}
 use Rattle.nb_model.specs.Network.{Network}
@@ -37,43 +38,43 @@ plain_at flows stage flight asks_none = by (acting flows stage flight.packet) re
     by (Some row) is = plain_actions flows.net stage row.actions flight (asks_none row is)
 
 -- of a plain network, where a switch tracks no connections or the stage asks for none
-module _ (net : Network) (sound : IsSound net) (plain : IsPlain net) (dp : ObjId) (stage : Stage) (none : (tracks net dp && asks_for_connections stage) ≡ false) where
+module _ (net : Network) (sound : IsSound net) (plain : IsPlain net) (switch : Switch) (among : Contains net.switches switch) (stage : Stage) (none : (tracks net switch.id && asks_for_connections stage) ≡ false) where
   said : (says : Rule) (row : Row) → IsTrue (steps.are_run (names net) says.stage says.actions) → says.stage ≡ stage → row.actions ≡ says.actions → IsTrue (steps.are_run (names net) stage row.actions)
   said says row run of_stage actions =
       subst (λ done. IsTrue (steps.are_run (names net) stage done)) (sym actions) (subst (λ s. IsTrue (steps.are_run (names net) s says.actions)) of_stage run)
 
-  at_stage : (says : Rule) → says.stage ≡ stage → (tracks net dp && asks_for_connections says.stage) ≡ false
-  at_stage says of_stage = ap (λ s. tracks net dp && asks_for_connections s) of_stage ∙ none
+  at_stage : (says : Rule) → says.stage ≡ stage → (tracks net switch.id && asks_for_connections says.stage) ≡ false
+  at_stage says of_stage = ap (λ s. tracks net switch.id && asks_for_connections s) of_stage ∙ none
 
-  of_row : (row : Row) → IsRule net dp stage row → IsTrue (steps.are_run (names net) stage row.actions)
+  of_row : (row : Row) → IsRule net switch.id stage row → IsTrue (steps.are_run (names net) stage row.actions)
   of_row row (inl of) =
-      let is = every_member (IsRun (names net) (tracks net dp)) (switch_rules net dp) of.says (switch_rules_run net plain dp) of.in_rules in
+      let is = every_member (IsRun (names net) (tracks net switch.id)) (switch_rules net switch.id) of.says (switch_rules_run net plain switch.id) of.in_rules in
       said of.says row (is.plain (at_stage of.says of.of_stage)) of.of_stage (ap (λ (r : Row). r.actions) of.is)
   of_row row (inr (inl of)) =
       let is = every_member (IsRun (names net) false) (port_rules net of.port) of.says (port_rules_run net sound of.port of.among) of.in_rules in
       said of.says row (is.plain refl) of.of_stage (ap (λ (r : Row). r.actions) of.is)
   of_row row (inr (inr of)) =
-      let is = every_member (IsRun (names net) (tracks net dp)) (acl_on_rules (acl_on_input net of.acl dp)) of.says (acl_rules_run net of.acl dp) of.in_rules in
+      let is = every_member (IsRun (names net) (tracks net switch.id)) (acl_on_rules (acl_on_input net of.acl switch.id)) of.says (acl_rules_run net of.acl switch.id) of.in_rules in
       said of.says row (is.plain (at_stage of.says of.of_stage)) of.of_stage (ap (λ (r : Row). r.actions) of.is)
 
-  pub plain_stage : (flight : Flight) → step (flows_at net dp) stage flight ≡ ended flight (packets.step (flows_at net dp) stage flight.packet)
-  plain_stage flight = plain_at (flows_at net dp) stage flight by
+  pub plain_stage : (flight : Flight) → step (flows_at net switch.id) stage flight ≡ ended flight (packets.step (flows_at net switch.id) stage flight.packet)
+  plain_stage flight = plain_at (flows_at net switch.id) stage flight by
     where
-      by : (row : Row) → acting (flows_at net dp) stage flight.packet ≡ Some row → IsTrue (steps.are_run (names net) stage row.actions)
+      by : (row : Row) → acting (flows_at net switch.id) stage flight.packet ≡ Some row → IsTrue (steps.are_run (names net) stage row.actions)
       by row is =
-          let of : IsFound (flows_at net dp).rows dp stage row = IsFound-from_select (flows_at net dp) stage flight.packet row is in
-          of_row row (table-gives net dp stage row of.among (in_table-from dp stage row of.of_dp of.of_stage))
+          let of : IsFound (flows_at net switch.id).rows switch.id stage row = IsFound-from_select (flows_at net switch.id) stage flight.packet row is in
+          of_row row (table-gives net sound switch among stage row of.among (in_table-from switch.id stage row of.of_dp of.of_stage))
 
 -- at each switch, a stage that asks for none
-pub plain_stage_of : (net : Network) → IsSound net → IsPlain net → (dp : ObjId) (stage : Stage) → asks_for_connections stage ≡ false → (flight : Flight)
-    → step (flows_at net dp) stage flight ≡ ended flight (packets.step (flows_at net dp) stage flight.packet)
-plain_stage_of net sound plain dp stage asks_none = plain_stage net sound plain dp stage (by (tracks net dp))
+pub plain_stage_of : (net : Network) → IsSound net → IsPlain net → (switch : Switch) → Contains net.switches switch → (stage : Stage) → asks_for_connections stage ≡ false → (flight : Flight)
+    → step (flows_at net switch.id) stage flight ≡ ended flight (packets.step (flows_at net switch.id) stage flight.packet)
+plain_stage_of net sound plain switch among stage asks_none = plain_stage net sound plain switch among stage (by (tracks net switch.id))
   where
     by : (b : Bool) → (b && asks_for_connections stage) ≡ false
     by true = asks_none
     by false = refl
 
 -- and each stage of a switch that tracks none
-pub plain_where_untracked : (net : Network) → IsSound net → IsPlain net → (dp : ObjId) (stage : Stage) → tracks net dp ≡ false → (flight : Flight)
-    → step (flows_at net dp) stage flight ≡ ended flight (packets.step (flows_at net dp) stage flight.packet)
-plain_where_untracked net sound plain dp stage untracked = plain_stage net sound plain dp stage (ap (λ b. b && asks_for_connections stage) untracked)
+pub plain_where_untracked : (net : Network) → IsSound net → IsPlain net → (switch : Switch) → Contains net.switches switch → (stage : Stage) → tracks net switch.id ≡ false → (flight : Flight)
+    → step (flows_at net switch.id) stage flight ≡ ended flight (packets.step (flows_at net switch.id) stage flight.packet)
+plain_where_untracked net sound plain switch among stage untracked = plain_stage net sound plain switch among stage (ap (λ b. b && asks_for_connections stage) untracked)

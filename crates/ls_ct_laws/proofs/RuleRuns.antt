@@ -28,12 +28,13 @@ use Rattle.nb_model.specs.Plain.{IsPlain}
 use Rattle.nb_model.specs.Readable.{are_addresses, are_apart, are_guards, ips_of, is_ip4, is_mac, is_priority, macs_of, may_name, same_number}
 use Rattle.nb_model.specs.Sound.{IsSound}
 use Rattle.nb_model.proofs.Readable.{of_port}
-use Rattle.net_rows.specs.Acls.{acl_on_rules, ending, stage_of, switch_acl_rules, tracked_rules, untracking_rules}
-use Rattle.net_rows.specs.Build.{acl_on_input, has_unknown, port_l2_input, port_rules, port_sec_input, switch_rules}
+use Rattle.net_rows.specs.Acls.{acl_on_rules, ending, port_acl_rules, stage_of, switch_acl_rules, tracked_rules, untracking_rules}
+use Rattle.net_rows.specs.Build.{acl_on_input, acl_rules_of_port, has_unknown, is_untracked, port_acl_input, port_l2_input, port_rules, port_sec_input, switch_rules}
 use Rattle.net_rows.specs.Lookup.{arp_rules, arp_rules_of, lookup_rule, looked_up, port_l2_rules, switch_l2_rules}
 use Rattle.net_rows.specs.PortSecurity.{closed_rules, disabled_rules, guard_rules, guarded_rules, open_rules, port_sec_rules}
 use Rattle.net_rows.specs.Unit.{rule}
 use Rattle.net_rows.specs.declared.inputs.AclOnInput.{AclOnInput}
+use Rattle.net_rows.specs.declared.inputs.PortAclInput.{PortAclInput}
 use Rattle.net_rows.specs.declared.inputs.PortL2Input.{PortL2Input}
 use Rattle.net_rows.specs.declared.inputs.PortSecInput.{PortSecInput}
 use Rattle.net_rows.specs.declared.rule.Rule.{Rule}
@@ -50,7 +51,9 @@ use Rattle.tr_stage.specs.Machine.{number_of}
 use Rattle.tr_stage.proofs.PacketRuns as steps
 use Rattle.tr_pipe.specs.Runnable.{are_run}
 use Rattle.ls_laws.proofs.PortNames.{number_of_port}
-use Rattle.ls_laws.proofs.RuleStages.{rules_where, rules_where_tracked, untracked_rule}
+use Rattle.ls_laws.proofs.RuleStages.{later_rules, rules_where, rules_where_tracked, untracked_rule}
+use Rattle.ls_laws.proofs.Tables.{at_switch-gives}
+use Rattle.lr_units.specs.Network.{network_rows}
 
 -- the stages in which rules of a switch that tracks connections ask for connections
 abbrev pub asks_for_connections : Stage → Bool
@@ -192,6 +195,19 @@ module _ (known : Lookup) where
       by true = tt
       by false = (shuts_in _ _, tt)
 
+  -- ---- those of ports of which nothing is tracked
+
+  of_port_acl : (input : PortAclInput) → AreRun known false (port_acl_rules input)
+  unfolding port_acl_rules next_stage stage_at all_stages
+  of_port_acl input = (one_run known false _ refl, (one_run known false _ refl, tt))
+
+  of_untracked : (net : Network) (port : Port) → AreRun known false (acl_rules_of_port net port)
+  of_untracked net port = by (is_untracked net port)
+    where
+      by : (b : Bool) → AreRun known false (cond b (port_acl_rules (port_acl_input port)) [])
+      by true = of_port_acl (port_acl_input port)
+      by false = tt
+
   -- ---- those of addresses, which ask for none either
 
   of_address : (name : List ℕ) (mac : ℕ) (ip : Ip4) → nat_lt mac (2 ^ 48) ≡ true → nat_lt ip.0 (2 ^ 32) ≡ true → AreRun known false (arp_rules name mac ip)
@@ -249,8 +265,9 @@ acl_rules_run net acl dp = of_acl (names net) (acl_on_input net acl dp)
 pub port_rules_run : (net : Network) → IsSound net → (port : Port) → Contains net.ports port → AreRun (names net) false (port_rules net port)
 port_rules_run net sound port there =
     let of = port_of_sound net sound port there in
-    every_append (IsRun (names net) false) (port_sec_rules (port_sec_input port)) (port_l2_rules (port_l2_input net port)) (of_security (names net) (port_sec_input port))
-    (of_l2 (names net) (port_l2_input net port) of.unicast ips_fit (rw of.named refl) (rw (number_of_port net port sound there) refl))
+    every_append (IsRun (names net) false) (port_sec_rules (port_sec_input port)) (later_rules net port) (of_security (names net) (port_sec_input port))
+    (every_append (IsRun (names net) false) (acl_rules_of_port net port) (port_l2_rules (port_l2_input net port)) (of_untracked (names net) net port)
+    (of_l2 (names net) (port_l2_input net port) of.unicast ips_fit (rw of.named refl) (rw (number_of_port net port sound there) refl)))
   where
     ips_fit : IsTrue (list_all is_ip4 (flat_map ips_of port.addresses))
     ips_fit =
@@ -278,3 +295,8 @@ module _ (net : Network) (sound : IsSound net) (plain : IsPlain net) (row : Row)
   row_runs (inr (inr at)) =
       let dp = at.switch.id in
       said (tracks net dp) at.says (every_member (IsRun (names net) (tracks net dp)) (acl_on_rules (acl_on_input net at.acl dp)) at.says (acl_rules_run net at.acl dp) at.in_rules) (ap (λ (r : Row). r.stage) at.is) (ap (λ (r : Row). r.actions) at.is)
+
+-- so does it run the actions of each row of the network at a switch
+pub row_at_switch_runs : (net : Network) → IsSound net → IsPlain net → (switch : Switch) → Contains net.switches switch → (row : Row) → Contains (network_rows net) row → row.dp ≡ switch.id
+    → IsTrue (is_well_formed row.actions) × IsTrue (are_run (names net) row.stage row.actions)
+row_at_switch_runs net sound plain switch among row there of_dp = row_runs net sound plain row (at_switch-gives net sound switch among row there of_dp)

@@ -1,6 +1,6 @@
 -- What the stages of ACLs do with a packet on a switch that tracks connections.
 use Rattle.std.proofs.Common.{◌≡◌, ℕ, ◌+◌, ◌<◌, Bool, true, false, cond, List, [], ◌∷◌, ◌++◌, sym, ap, refl, ◌∙◌, subst, ◌⊎◌, inl, inr, arith}
-use Rattle.std.specs.Prelude.{◌||◌, ◌&&◌, not, Option, Some, None, fold}
+use Rattle.std.specs.Prelude.{◌&&◌, not, Option, Some, None, fold}
 use Rattle.std.specs.Ordering.{is_gt}
 use Rattle.std.specs.List.{Contains, filter}
 use Rattle.std.proofs.lemmas.Bool.{false≢true, and_from, and_parts}
@@ -40,7 +40,7 @@ use Rattle.net_meaning.specs.AclVerdict.{deciding, decided_by, decision_of, high
 use Rattle.net_meaning.specs.Tracked.{is_stateless, is_to_keep}
 use Rattle.net_meaning.specs.declared.cause.Cause.TheVariants.{Acl as acl_cause}
 use Rattle.net_rows.specs.Acls.{acl_on_rules, ending, first_stage_of, is_reply, is_shut_out, passes, rejects, stage_of, switch_acl_rules, tracked_rules, untracking_rules}
-use Rattle.net_rows.specs.Build.{acl_on_input, has_unknown, rows, switch_rules}
+use Rattle.net_rows.specs.Build.{acl_on_input, has_unknown, switch_rules}
 use Rattle.net_rows.specs.LoadBalancers.{switch_lb_rules}
 use Rattle.net_rows.specs.Lookup.{switch_l2_rules}
 use Rattle.net_rows.specs.PortSecurity.{switch_sec_rules}
@@ -49,7 +49,7 @@ use Rattle.net_rows.specs.declared.inputs.AclOnInput.{AclOnInput}
 use Rattle.net_rows.specs.declared.rule.Rule.{Rule}
 use Rattle.net_rows.proofs.Elements.{one_of, one_of_none, Contains-filter, Contains-from_filter}
 use Rattle.net_rows.proofs.Sound.{each_passes, rises}
-use Rattle.net_rows.proofs.Units.{rows-acl, rows-switch}
+use Rattle.lr_units.specs.Network.{network_rows}
 use Rattle.tr_stage.specs.declared.outcome.Outcome.TheVariants.{Drop}
 use Rattle.tr_stage.proofs.PacketRuns as steps_of
 use Rattle.tr_pipe.specs.Machine.{StageEnd, ended, run_actions, step as flight_step}
@@ -59,8 +59,8 @@ use Rattle.tr_pipe.proofs.Plain.{plain_actions}
 use Rattle.ls_laws.specs.Steps.{IsOn, decided, flows_at}
 use Rattle.ls_laws.proofs.AclEval.{does, next_of, not_of_ports, same_way-is, same_way-self, stage_tells}
 use Rattle.ls_laws.proofs.Deciding.{Rises, IsAfter, IsFirst, first_of, rises_kept}
-use Rattle.ls_laws.proofs.RuleStages.{rules_at, among_rules_at, from_rules_at, the_only, is_of_security, is_of_addresses, is_of_decisions, port_rule_stage}
-use Rattle.ls_laws.proofs.Tables.{IsSwitchRule, IsPortRule, IsAclRule, IsRule, filter_passes}
+use Rattle.ls_laws.proofs.RuleStages.{rules_at, among_rules_at, from_rules_at, the_only, is_of_decisions, is_of_ports, port_rule_stage}
+use Rattle.ls_laws.proofs.Tables.{IsSwitchRule, IsPortRule, IsAclRule, IsRule, filter_passes, row_of_acl, row_of_switch}
 use Rattle.ls_laws.proofs.Takers.{lower_after, later_after}
 use Rattle.ls_ct_laws.specs.Tracking.{IsNoted, Rules, goes, goes_again, marking, ruled_on, with_bit}
 use Rattle.ls_ct_laws.proofs.Flags.{is_est, is_answer, is_refused, est_is, not_est_is, answer_is, refused_is}
@@ -309,16 +309,16 @@ module _ (net : Network) (switch : Switch) (way : Way) (flight : Flight) (on : I
   abbrev row_at : Rule → Row
   row_at says = row_of (unit_of_datapath dp) says
 
-  its_row : (says : Rule) → Contains (keeping_rule stage ∷ shut_rule stage ∷ answer_rule stage ∷ []) says → Contains (rows net) (row_at says)
-  its_row says there = rows-switch net switch says on.among (from_rules_at stage (switch_rules net dp) _ says are there)
+  its_row : (says : Rule) → Contains (keeping_rule stage ∷ shut_rule stage ∷ answer_rule stage ∷ []) says → Contains (network_rows net) (row_at says)
+  its_row says there = row_of_switch net switch says on.among (from_rules_at stage (switch_rules net dp) _ says are there)
 
-  keeping_in : Contains (rows net) (row_at (keeping_rule stage))
+  keeping_in : Contains (network_rows net) (row_at (keeping_rule stage))
   keeping_in = its_row (keeping_rule stage) (0, omega arith, refl)
 
-  shut_in : Contains (rows net) (row_at (shut_rule stage))
+  shut_in : Contains (network_rows net) (row_at (shut_rule stage))
   shut_in = its_row (shut_rule stage) (1, omega arith, refl)
 
-  answer_in : Contains (rows net) (row_at (answer_rule stage))
+  answer_in : Contains (network_rows net) (row_at (answer_rule stage))
   answer_in = its_row (answer_rule stage) (2, omega arith, refl)
 
   -- a row of the switch is one of the three
@@ -340,7 +340,7 @@ module _ (net : Network) (switch : Switch) (way : Way) (flight : Flight) (on : I
       by (inr later) = then_by (one_of (shut_rule stage) (answer_rule stage ∷ []) of.says later)
 
   of_no_port : (x : Row) → IsPortRule net dp stage x → ⊥
-  of_no_port x of = false≢true (sym (not_of_ports way) ∙ sym (ap (λ s. is_of_security s || is_of_addresses s) of.of_stage) ∙ port_rule_stage net of.port of.says of.in_rules)
+  of_no_port x of = false≢true (sym (not_of_ports way) ∙ sym (ap is_of_ports of.of_stage) ∙ port_rule_stage net of.port of.says of.in_rules)
 
   -- ---- rows of ACLs
 
@@ -403,7 +403,7 @@ module _ (net : Network) (switch : Switch) (way : Way) (flight : Flight) (on : I
   lower says other x is stages less = inr (ap (λ (y : Row). is_gt (row_cmp y (row_at says))) is ∙ lower_after (row_at other) (row_at says) refl stages less)
 
   shut : is_refused found ≡ true → flight_step (flows_at net dp) stage flight ≡ Ends (Some (Drop acl_cause)) flight.state
-  shut is = meets net dp stage flight (row_at (shut_rule stage)) shut_in refl refl (refused_is known packet found noted ∙ is) others ∙ ends_with net way verdict.Drop flight
+  shut is = meets net switch flight on stage (row_at (shut_rule stage)) shut_in refl refl (refused_is known packet found noted ∙ is) others ∙ ends_with net way verdict.Drop flight
     where
       switch_by : (x : Row) → (x ≡ row_at (keeping_rule stage)) ⊎ ((x ≡ row_at (shut_rule stage)) ⊎ (x ≡ row_at (answer_rule stage))) → IsOther (row_at (shut_rule stage)) x
       switch_by x (inl one) = lower (shut_rule stage) (keeping_rule stage) x one refl (omega arith)
@@ -421,7 +421,7 @@ module _ (net : Network) (switch : Switch) (way : Way) (flight : Flight) (on : I
     not_shut x one takes = false≢true (sym let_on ∙ sym (refused_is known packet found noted) ∙ sym (ap (λ (y : Row). holds known packet y.matching) one) ∙ takes)
 
     answered : is_answer found ≡ true → flight_step (flows_at net dp) stage flight ≡ On (next_of way) flight
-    answered is = meets net dp stage flight (row_at (answer_rule stage)) answer_in refl refl (answer_is known packet found noted ∙ is) others ∙ ends_with net way verdict.AllowStateless flight
+    answered is = meets net switch flight on stage (row_at (answer_rule stage)) answer_in refl refl (answer_is known packet found noted ∙ is) others ∙ ends_with net way verdict.AllowStateless flight
       where
         switch_by : (x : Row) → holds known packet x.matching ≡ true → (x ≡ row_at (keeping_rule stage)) ⊎ ((x ≡ row_at (shut_rule stage)) ⊎ (x ≡ row_at (answer_rule stage))) → IsOther (row_at (answer_rule stage)) x
         switch_by x takes (inl one) = lower (answer_rule stage) (keeping_rule stage) x one refl (omega arith)
@@ -450,7 +450,7 @@ module _ (net : Network) (switch : Switch) (way : Way) (flight : Flight) (on : I
 
       -- where none holds, the packet goes on and is to be kept
       none_decides : holding ≡ [] → flight_step (flows_at net dp) stage flight ≡ On (next_of way) (with_bit 1 flight)
-      none_decides none = meets net dp stage flight (row_at (keeping_rule stage)) keeping_in refl refl refl others ∙ keeps_on net way way flight
+      none_decides none = meets net switch flight on stage (row_at (keeping_rule stage)) keeping_in refl refl refl others ∙ keeps_on net way way flight
         where
           others : (x : Row) → IsRule net dp stage x → holds known packet x.matching ≡ true → IsOther (row_at (keeping_rule stage)) x
           others x (inl of) takes = same (row_at (keeping_rule stage)) x (switch_last x of takes)
@@ -483,8 +483,8 @@ module _ (net : Network) (switch : Switch) (way : Way) (flight : Flight) (on : I
         its_rule : Contains (acl_on_rules (acl_on_input net acl dp)) (rule_for acl)
         its_rule = tracked_in (acl_on_input net acl dp) (rule_for acl) tracking (in_range acl there) (taken_there (stage_of acl.way) (acl.priority + 1000) acl.matching acl.verdict (is_est found))
 
-        acl_row : Contains (rows net) (row_for acl)
-        acl_row = rows-acl net acl switch (rule_for acl) there (Contains-filter (λ (s : Switch). applies net s.id acl) net.switches switch on.among both.0) its_rule
+        acl_row : Contains (network_rows net) (row_for acl)
+        acl_row = row_of_acl net acl switch (rule_for acl) there (Contains-filter (λ (s : Switch). applies net s.id acl) net.switches switch on.among both.0) its_rule
 
         its_stage : (row_for acl).stage ≡ stage
         its_stage = ap stage_of (same_way-is acl.way way both.1)
@@ -510,7 +510,7 @@ module _ (net : Network) (switch : Switch) (way : Way) (flight : Flight) (on : I
             by (inr (inr level)) = inr (ap (λ (r : Row). is_gt (row_cmp r (row_for acl))) taking.is ∙ later_after (row_for of.acl) (row_for acl) refl stages (ap (λ n. n + 1000) level.0) level.1)
 
         one_decides : flight_step (flows_at net dp) stage flight ≡ run_actions known stage (taken_actions acl.verdict (is_est found)) flight
-        one_decides = meets net dp stage flight (row_for acl) acl_row refl its_stage takes_it others
+        one_decides = meets net switch flight on stage (row_for acl) acl_row refl its_stage takes_it others
 
       -- so the stage does what this says of the ACL that decides
       module _ (says : Option Acl → StageEnd) (by_none : On (next_of way) (with_bit 1 flight) ≡ says None) (by_one : (a : Acl) → run_actions known stage (taken_actions a.verdict (is_est found)) flight ≡ says (Some a)) where

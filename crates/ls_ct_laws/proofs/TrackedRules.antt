@@ -1,5 +1,6 @@
--- Which rules a switch that tracks connections has in a stage, and those of ACLs that apply to it. No load balancer is attached.
-use Rattle.std.proofs.Common.{◌≡◌, ℕ, ◌+◌, Bool, true, false, cond, List, [], ◌∷◌, ◌++◌, ap, refl, ◌∙◌, ◌⊎◌, inl, inr}
+-- Which rules a switch that tracks connections has in a stage, those of its ports, and those of ACLs that apply to it. No load balancer is
+-- attached.
+use Rattle.std.proofs.Common.{◌≡◌, ℕ, ◌+◌, Bool, true, false, cond, List, [], ◌∷◌, ◌++◌, sym, ap, refl, ◌∙◌, ◌⊎◌, inl, inr, subst}
 use Rattle.std.specs.Prelude.{◌&&◌, ◌||◌, not}
 use Rattle.std.specs.List.{AllByRecursion, Contains, list_any}
 use Rattle.std.proofs.lemmas.Bool.{false≢true}
@@ -11,25 +12,27 @@ use Rattle.nb_records.specs.declared.acl.Verdict.{Verdict}
 use Rattle.nb_records.specs.declared.acl.Verdict.TheVariants.{Allow, AllowRelated, AllowStateless, Drop, Reject}
 use Rattle.nb_records.specs.declared.acl.Way.{Way}
 use Rattle.nb_records.specs.declared.acl.Way.TheVariants.{From, To}
+use Rattle.nb_records.specs.declared.switch.Port.{Port}
 use Rattle.nb_records.specs.declared.switch.Switch.{Switch}
 use Rattle.nb_model.specs.Applies.{balances, is_empty, tracks}
 use Rattle.nb_model.specs.Network.{Network, same}
 use Rattle.nb_model.specs.Plain.{IsPlain}
 use Rattle.nb_model.specs.Readable.{is_priority}
-use Rattle.sb_model.specs.Make.{takes_each, goes_on}
+use Rattle.sb_model.specs.Make.{takes_each, goes_on, is_port}
 use Rattle.sb_model.specs.declared.stage.Stage.{Stage}
-use Rattle.sb_model.specs.declared.stage.Stage.TheVariants.{LsInPreAcl, LsInAclEval, LsOutPreAcl, LsOutAclEval}
+use Rattle.sb_model.specs.declared.stage.Stage.TheVariants.{LsInPreAcl, LsInAclEval, LsOutAclEval}
 use Rattle.net_meaning.specs.Tracked.{is_stateless}
-use Rattle.net_rows.specs.Acls.{switch_acl_rules, first_stage_of, stage_of, acl_rules_at, acl_on_rules, tracked_rules, untracking_rules}
-use Rattle.net_rows.specs.Build.{has_unknown, switch_rules}
+use Rattle.net_rows.specs.Acls.{switch_acl_rules, port_acl_rules, first_stage_of, stage_of, acl_rules_at, acl_on_rules, tracked_rules, untracking_rules}
+use Rattle.net_rows.specs.Build.{acl_rules_of_port, has_unknown, is_untracked, port_acl_input, port_l2_input, port_rules, port_sec_input, switch_rules}
 use Rattle.net_rows.specs.LoadBalancers.{switch_lb_rules}
-use Rattle.net_rows.specs.Lookup.{switch_l2_rules}
-use Rattle.net_rows.specs.PortSecurity.{switch_sec_rules}
+use Rattle.net_rows.specs.Lookup.{port_l2_rules, switch_l2_rules}
+use Rattle.net_rows.specs.PortSecurity.{port_sec_rules, switch_sec_rules}
 use Rattle.net_rows.specs.Unit.{rule}
 use Rattle.net_rows.specs.declared.inputs.AclOnInput.{AclOnInput}
 use Rattle.net_rows.specs.declared.rule.Rule.{Rule}
-use Rattle.net_rows.proofs.Elements.{one_first, one_of_none}
-use Rattle.ls_laws.proofs.RuleStages.{each_of, the_only}
+use Rattle.net_rows.proofs.Elements.{one_first, one_later, one_of, one_of_none}
+use Rattle.ls_laws.proofs.RuleStages.{acl_rules_of_port-gives, each_of, is_first, is_of_addresses, is_of_security, later_rules, of_port_l2, of_port_sec, the_only}
+use Rattle.ls_ct_laws.specs.Tracking.{port_field}
 
 -- ---- the rules of a switch
 
@@ -59,14 +62,72 @@ switch_rules-tracked net switch plain tracking =
     ap (λ (t : Bool). switch_sec_rules ++ (switch_acl_rules (record { tracks = t; balances = balances net switch }) ++ (switch_lb_rules ++ switch_l2_rules (record { unknown = has_unknown net switch })))) tracking
     ∙ ap (λ (t : Bool). switch_sec_rules ++ (switch_acl_rules (record { tracks = true; balances = t }) ++ (switch_lb_rules ++ switch_l2_rules (record { unknown = has_unknown net switch })))) (balances_none net plain switch)
 
+-- ---- the rules of ports in the first stage of a direction
+
+-- what is of a port that leads to a router is passed on
+abbrev pub port_rule : Way → List ℕ → Rule
+port_rule way name = rule (first_stage_of way) 110 (is_port (port_field way) name) goes_on
+
+not_security : (way : Way) → is_of_security (first_stage_of way) ≡ false
+not_security From = refl
+not_security To = refl
+
+not_addresses : (way : Way) → is_of_addresses (first_stage_of way) ≡ false
+not_addresses From = refl
+not_addresses To = refl
+
+module _ (net : Network) (port : Port) (way : Way) where
+  abbrev own : List Rule
+  own = port_acl_rules (port_acl_input port)
+
+  -- the rule of a direction among the two
+  of_way : (says : Rule) → Contains own says → says.stage ≡ first_stage_of way → says ≡ port_rule way port.name
+  unfolding port_acl_rules
+  of_way says there of_stage = by way (one_of (port_rule From port.name) (port_rule To port.name ∷ []) says there) of_stage
+    where
+      is_in : Stage → Bool
+      is_in LsInPreAcl = true
+      is_in _ = false
+
+      by : (w : Way) → (port_rule From port.name ≡ says) ⊎ Contains (port_rule To port.name ∷ []) says → says.stage ≡ first_stage_of w → says ≡ port_rule w port.name
+      by From (inl same) stage = sym same
+      by From (inr later) stage = absurd (false≢true (sym (ap (λ (r : Rule). is_in r.stage) (the_only (port_rule To port.name) says later)) ∙ ap is_in stage))
+      by To (inl same) stage = absurd (false≢true (sym (ap is_in stage) ∙ sym (ap (λ (r : Rule). is_in r.stage) same)))
+      by To (inr later) stage = the_only (port_rule To port.name) says later
+
+  in_own : Contains own (port_rule way port.name)
+  unfolding port_acl_rules
+  in_own = by way
+    where
+      by : (w : Way) → Contains (port_rule From port.name ∷ port_rule To port.name ∷ []) (port_rule w port.name)
+      by From = one_first (port_rule From port.name) (port_rule To port.name ∷ []) (port_rule From port.name) refl
+      by To = one_later (port_rule From port.name) (port_rule To port.name ∷ []) (port_rule To port.name) (one_first (port_rule To port.name) [] (port_rule To port.name) refl)
+
+  -- it is the only one there, and is there where the port leads to a router and its switch tracks
+  pub port_rule-gives : (says : Rule) → Contains (port_rules net port) says → says.stage ≡ first_stage_of way → (is_untracked net port ≡ true) × (says ≡ port_rule way port.name)
+  port_rule-gives says there of_stage = by (Contains-append_cases (port_sec_rules (port_sec_input port)) (later_rules net port) says there)
+    where
+      later : Contains (acl_rules_of_port net port) says ⊎ Contains (port_l2_rules (port_l2_input net port)) says → (is_untracked net port ≡ true) × (says ≡ port_rule way port.name)
+      later (inl at) = let gives = acl_rules_of_port-gives net port says at in (gives.0, of_way says gives.1 of_stage)
+      later (inr at) =
+          let addresses = each_of (λ (r : Rule). is_of_addresses r.stage ≡ true) (port_l2_rules (port_l2_input net port)) says (of_port_l2 (port_l2_input net port)) at in
+          absurd (false≢true (sym (not_addresses way) ∙ sym (ap is_of_addresses of_stage) ∙ addresses))
+
+      by : Contains (port_sec_rules (port_sec_input port)) says ⊎ Contains (later_rules net port) says → (is_untracked net port ≡ true) × (says ≡ port_rule way port.name)
+      by (inl at) =
+          let security = each_of (λ (r : Rule). is_of_security r.stage ≡ true) (port_sec_rules (port_sec_input port)) says (of_port_sec (port_sec_input port)) at in
+          absurd (false≢true (sym (not_security way) ∙ sym (ap is_of_security of_stage) ∙ security))
+      by (inr at) = later (Contains-append_cases (acl_rules_of_port net port) (port_l2_rules (port_l2_input net port)) says at)
+
+  pub port_rule-from : is_untracked net port ≡ true → Contains (port_rules net port) (port_rule way port.name)
+  port_rule-from untracked =
+      let says = port_rule way port.name in
+      Contains-append_right (port_sec_rules (port_sec_input port)) (later_rules net port) says
+      (Contains-append_left (acl_rules_of_port net port) (port_l2_rules (port_l2_input net port)) says (subst (λ (b : Bool). Contains (cond b own []) says) (sym untracked) in_own))
+
 -- ---- the rules of ACLs
 
 -- on a switch that tracks an ACL has rules in the first stage of its direction and in its own
-abbrev pub is_first : Stage → Bool
-is_first LsInPreAcl = true
-is_first LsOutPreAcl = true
-is_first _ = false
-
 abbrev pub is_deciding : Stage → Bool
 is_deciding LsInAclEval = true
 is_deciding LsOutAclEval = true

@@ -1,11 +1,10 @@
 -- What a packet's step through the stages of ACLs and of connections does on a switch that tracks connections, said of the network's
 -- objects and of the connections: the stage laws, each of both directions.
-use Rattle.std.specs.Prelude.{◌≡◌, ℕ, Bool, true, false, not, ◌&&◌, ◌==◌, if◌then◌else◌, Option, Some}
+use Rattle.std.specs.Prelude.{◌≡◌, ℕ, Bool, true, false, ◌==◌, if◌then◌else◌, Option, Some}
 use Rattle.std.specs.Option.{option_map_or}
-use Rattle.nv_base.specs.declared.object.ObjId.{ObjId}
-use Rattle.nv_base.specs.declared.field.Field.TheVariants.{EthDst, CtState, CtMarkBlocked, Reg0}
+use Rattle.nv_base.specs.declared.field.Field.{Field}
+use Rattle.nv_base.specs.declared.field.Field.TheVariants.{Inport, Outport, CtState, CtMarkBlocked, Reg0}
 use Rattle.pkt_core.specs.Packet.{Values, value}
-use Rattle.pkt_core.specs.Prerequisite.{is_ip4}
 use Rattle.ct_core.specs.declared.look.Look.{Look}
 use Rattle.ct_core.specs.declared.look.Look.TheVariants.{Invalid, Found}
 use Rattle.ct_core.specs.declared.look.Side.TheVariants.{Orig}
@@ -17,6 +16,7 @@ use Rattle.expr_core.specs.declared.part.Bits.TheVariants.{Bit}
 use Rattle.nb_records.specs.declared.acl.Acl.{Acl}
 use Rattle.nb_records.specs.declared.acl.Way.{Way}
 use Rattle.nb_records.specs.declared.acl.Way.TheVariants.{From, To}
+use Rattle.nb_records.specs.declared.switch.Port.{Port}
 use Rattle.nb_records.specs.declared.switch.Switch.{Switch}
 use Rattle.nb_model.specs.Applies.{tracks}
 use Rattle.nb_model.specs.Network.{Network}
@@ -26,21 +26,25 @@ use Rattle.sb_model.specs.declared.stage.Stage.{Stage}
 use Rattle.sb_model.specs.declared.stage.Stage.TheVariants.{LsInPreAcl, LsInPreStateful, LsInAclEval, LsInLb, LsInStateful, LsInArpRsp, LsOutPreAcl, LsOutPreStateful, LsOutAclEval, LsOutStateful, LsOutCheckPortSec}
 use Rattle.net_meaning.specs.AclVerdict.{Decision, deciding, decided_by}
 use Rattle.net_meaning.specs.AclVerdict.Decision.{Allowed}
-use Rattle.net_meaning.specs.Address.{is_multicast}
-use Rattle.net_meaning.specs.Tracked.{is_to_keep, passes_untracked}
+use Rattle.net_meaning.specs.Tracked.{is_to_keep, is_tracked}
 use Rattle.net_meaning.specs.declared.cause.Cause.TheVariants.{Acl as acl_cause}
 use Rattle.tr_stage.specs.Part.{with_part}
 use Rattle.tr_stage.specs.declared.outcome.Outcome.TheVariants.{Drop}
 use Rattle.tr_pipe.specs.Machine.{StageEnd, after, ended, kept, step}
 use Rattle.tr_pipe.specs.Machine.StageEnd.{On, Ends}
 use Rattle.tr_pipe.specs.Tracking.{Flight, bit, committed, tracked, with_packet, zone_of}
-use Rattle.ls_laws.specs.Steps.{IsOn, decided, flows_at}
+use Rattle.ls_laws.specs.Steps.{IsOn, IsPortOf, decided, flows_at}
 
 -- ---- the stages of a direction
 
 abbrev pub pipeline_for : Way → Pipeline
 pipeline_for From = Ingress
 pipeline_for To = Egress
+
+-- the field that has the number of a packet's port
+abbrev pub port_field : Way → Field
+port_field From = Inport
+port_field To = Outport
 
 -- where it is asked which packets are to be tracked, and where these are looked up
 abbrev pub pre_acl : Way → Stage
@@ -82,14 +86,12 @@ has_bit n packet = bits_of (Bit n) (value packet Reg0) == 1
 abbrev pub with_bit : ℕ → Flight → Flight
 with_bit n flight = with_packet flight (with_part flight.packet Reg0 (Bit n) 1)
 
--- a packet of IPv4 for one receiver is to be tracked, unless an `allow-stateless` ACL takes it
-abbrev pub is_to_track : Network → ObjId → Way → Values → Bool
-is_to_track net switch way packet = is_ip4 packet && not (is_multicast (value packet EthDst)) && not (passes_untracked net switch way packet)
-
+-- what the meaning tracks at the packet's port is noted: what is of IPv4 and for one receiver, unless the port leads to a router or an
+-- `allow-stateless` ACL takes it
 abbrev pub Asks : Way → Type 0
 Asks way =
-    (net : Network) (switch : Switch) (flight : Flight)
-    → Steps net switch (pre_acl way) flight (On (pre_stateful way) (if is_to_track net switch.id way flight.packet then with_bit 0 flight else flight))
+    (net : Network) (switch : Switch) (flight : Flight) (port : Port) → IsPortOf net switch port → value flight.packet (port_field way) ≡ port.id.0
+    → Steps net switch (pre_acl way) flight (On (pre_stateful way) (if is_tracked net way port flight.packet then with_bit 0 flight else flight))
 
 -- it is looked up in the zone of its port
 abbrev pub LooksUp : Way → Type 0

@@ -2,7 +2,7 @@
 ghost use Rattle.nb_records.specs.declared.acl.Way.{Way};
 ghost use Rattle.ls_ct_laws.specs.Tracking.{Asks, Keeps, LooksUp, Rules};
 
-/// What is to be tracked is noted: packets of IPv4 for one receiver, unless an `allow-stateless` ACL takes them.
+/// What is to be tracked is noted: packets of IPv4 for one receiver at the ports of hosts, unless an `allow-stateless` ACL takes them.
 pub fn packets_are_asked_for()
     ensures { (way : Way) → Asks way }
 {}

@@ -1,6 +1,6 @@
 -- The stages of ACLs decide as the ACLs do, where a switch tracks no connections.
 use Rattle.std.proofs.Common.{◌≡◌, ◌+◌, Bool, true, false, cond, List, [], ◌∷◌, ◌++◌, sym, ap, refl, ◌∙◌, subst, ◌⊎◌, inl, inr, arith}
-use Rattle.std.specs.Prelude.{◌||◌, ◌&&◌, Option, Some, None, fold}
+use Rattle.std.specs.Prelude.{◌&&◌, Option, Some, None, fold}
 use Rattle.std.specs.Ordering.{is_gt}
 use Rattle.std.specs.List.{Contains, filter}
 use Rattle.std.proofs.lemmas.Bool.{false≢true, and_from, and_parts}
@@ -36,22 +36,23 @@ use Rattle.net_meaning.specs.Switches.{rejection}
 use Rattle.net_meaning.specs.declared.answer.Answer.TheVariants.{Reject}
 use Rattle.net_meaning.specs.declared.cause.Cause.TheVariants.{Acl as acl_cause}
 use Rattle.net_rows.specs.Acls.{switch_acl_rules, acl_on_rules, stage_of, ending, rejects}
-use Rattle.net_rows.specs.Build.{acl_on_input, has_unknown, rows, switch_rules}
+use Rattle.net_rows.specs.Build.{acl_on_input, has_unknown, switch_rules}
 use Rattle.net_rows.specs.Lookup.{switch_l2_rules}
 use Rattle.net_rows.specs.Unit.{unit_of, unit_of_datapath, row_of}
 use Rattle.net_rows.specs.declared.rule.Rule.{Rule}
 use Rattle.net_rows.proofs.Elements.{one_first, one_of_none, Contains-filter, Contains-from_filter}
 use Rattle.net_rows.proofs.Sound.{each_passes, rises}
-use Rattle.net_rows.proofs.Units.{rows-acl, rows-switch, rows-in_order}
+use Rattle.lr_units.specs.Network.{network_rows}
+use Rattle.lr_units.proofs.Whole.{network_in_order}
 use Rattle.tr_stage.specs.declared.outcome.Outcome.TheVariants.{Made, Drop}
 use Rattle.tr_stage.specs.Machine.{acted, answer_for, answered, run_actions, step}
 use Rattle.tr_stage.specs.Machine.StageEnd.{On, Ends}
 use Rattle.ls_laws.specs.Steps.{IsOn, IsUntracked, DecidesIn, DecidesOut, decided, flows_at, rejected, sent_back}
 use Rattle.ls_laws.proofs.Deciding.{Rises, IsAfter, IsFirst, first_of, rises_kept}
 use Rattle.ls_laws.proofs.PassingStages.{passing}
-use Rattle.ls_laws.proofs.RuleStages.{rules_at, among_rules_at, from_rules_at, the_only, is_of_security, is_of_addresses, port_rule_stage, untracked_rule, rules_where, switch_rules-untracked, acl_rule-gives}
+use Rattle.ls_laws.proofs.RuleStages.{rules_at, among_rules_at, from_rules_at, the_only, is_of_ports, port_rule_stage, untracked_rule, rules_where, switch_rules-untracked, acl_rule-gives}
 use Rattle.ls_laws.proofs.Selected.{first_of_takers}
-use Rattle.ls_laws.proofs.Tables.{IsSwitchRule, IsPortRule, IsAclRule, IsRule, filter_passes, table-gives}
+use Rattle.ls_laws.proofs.Tables.{IsSwitchRule, IsPortRule, IsAclRule, IsRule, filter_passes, row_of_acl, row_of_switch, table-gives}
 use Rattle.ls_laws.proofs.Takers.{lower_after, later_after, step_by}
 use Rattle.sb_model.specs.Stage.{last_table}
 use Rattle.sb_model.specs.declared.stage.DatapathKind.TheVariants as datapath
@@ -129,7 +130,7 @@ stage_tells From To is = absurd (false≢true (sym (ap is_from is)))
 stage_tells To From is = absurd (false≢true (ap is_from is))
 stage_tells To To is = refl
 
-pub not_of_ports : (w : Way) → (is_of_security (stage_of w) || is_of_addresses (stage_of w)) ≡ false
+pub not_of_ports : (w : Way) → is_of_ports (stage_of w) ≡ false
 not_of_ports From = refl
 not_of_ports To = refl
 
@@ -167,7 +168,7 @@ module _ (net : Network) (switch : Switch) (way : Way) (packet : Values) (on : I
       of.is ∙ ap (row_of (unit_of_datapath dp)) (the_only (passing stage) of.says (subst (λ rs. Contains rs of.says) are at))
 
   of_no_port : (x : Row) → IsPortRule net dp stage x → ⊥
-  of_no_port x of = false≢true (sym (not_of_ports way) ∙ sym (ap (λ s. is_of_security s || is_of_addresses s) of.of_stage) ∙ port_rule_stage net of.port of.says of.in_rules)
+  of_no_port x of = false≢true (sym (not_of_ports way) ∙ sym (ap is_of_ports of.of_stage) ∙ port_rule_stage net of.port of.says of.in_rules)
 
   -- the rule of an ACL
   abbrev rule_for : Acl → Rule
@@ -189,8 +190,8 @@ module _ (net : Network) (switch : Switch) (way : Way) (packet : Values) (on : I
   module _ (none : holding ≡ []) where
     passed_on : step (flows_at net dp) stage packet ≡ On (next_of way) packet
     passed_on =
-        step_by net dp stage packet (row_of (unit_of_datapath dp) (passing stage))
-        (rows-switch net switch (passing stage) on.among (from_rules_at stage (switch_rules net dp) (passing stage ∷ []) (passing stage) are (one_first (passing stage) [] (passing stage) refl)))
+        step_by net switch packet on stage (row_of (unit_of_datapath dp) (passing stage))
+        (row_of_switch net switch (passing stage) on.among (from_rules_at stage (switch_rules net dp) (passing stage ∷ []) (passing stage) are (one_first (passing stage) [] (passing stage) refl)))
         refl refl refl (λ x of takes. inl (by x of takes))
         ∙ goes_to net way packet way
       where
@@ -232,8 +233,8 @@ module _ (net : Network) (switch : Switch) (way : Way) (packet : Values) (on : I
     unfolding acl_on_rules
     its_rule = rw (in_range, none_tracked) (one_first (rule_for acl) [] (rule_for acl) refl)
 
-    its_row : Contains (rows net) (row_for acl)
-    its_row = rows-acl net acl switch (rule_for acl) there (Contains-filter (λ (s : Switch). applies net s.id acl) net.switches switch on.among passes.0) its_rule
+    its_row : Contains (network_rows net) (row_for acl)
+    its_row = row_of_acl net acl switch (rule_for acl) there (Contains-filter (λ (s : Switch). applies net s.id acl) net.switches switch on.among passes.0) its_rule
 
     its_stage : (row_for acl).stage ≡ stage
     its_stage = ap stage_of of_way
@@ -257,8 +258,8 @@ module _ (net : Network) (switch : Switch) (way : Way) (packet : Values) (on : I
         by (inr (inr level)) =
             inr (ap (λ (r : Row). is_gt (row_cmp r (row_for acl))) (of_acl-row x of) ∙ later_after (row_for of.acl) (row_for acl) refl stages (ap (λ n. n + 1000) level.0) level.1)
 
-    met : select dp stage (names net) packet (rows net) ≡ Some (row_for acl)
-    met = first_of_takers (names net) dp stage packet (row_for acl) (rows net) (rows-in_order net) its_row refl its_stage takes_it (λ x at in_it takes. others x (table-gives net dp stage x at in_it) takes)
+    met : select dp stage (names net) packet (network_rows net) ≡ Some (row_for acl)
+    met = first_of_takers (names net) dp stage packet (row_for acl) (network_rows net) (network_in_order net) its_row refl its_stage takes_it (λ x at in_it takes. others x (table-gives net on.sound switch on.among stage x at in_it) takes)
 
     decided_on : step (flows_at net dp) stage packet ≡ decided (decision_of acl.verdict) (next_of way) packet
     unfolding step

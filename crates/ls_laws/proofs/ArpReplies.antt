@@ -32,7 +32,7 @@ use Rattle.nb_model.specs.Applies.{tracks, balances}
 use Rattle.nb_model.specs.Ports.{is_open}
 use Rattle.net_meaning.specs.Switches.{answering, has_ip, is_among_ips, is_answering, is_request, mac_with}
 use Rattle.net_rows.specs.Acls.{switch_acl_rules}
-use Rattle.net_rows.specs.Build.{acl_on_input, has_unknown, rows, switch_rules}
+use Rattle.net_rows.specs.Build.{acl_on_input, has_unknown, switch_rules}
 use Rattle.net_rows.specs.Lookup.{answers, requests, switch_l2_rules}
 use Rattle.net_rows.specs.Unit.{unit_of, unit_of_datapath, row_of}
 use Rattle.net_rows.specs.declared.rule.Rule.{Rule}
@@ -40,20 +40,21 @@ use Rattle.net_rows.proofs.Elements.{one_of, one_of_none, one_first, any_from, a
 use Rattle.net_rows.proofs.Pairs.{Across, OfPairs, pairs_parts}
 use Rattle.net_rows.proofs.Sound.{ports_rise}
 use Rattle.net_rows.proofs.SoundObjects.{port_is_sound}
-use Rattle.net_rows.proofs.Units.{rows-switch, rows-port, rows-in_order}
+use Rattle.lr_units.specs.Network.{network_rows}
+use Rattle.lr_units.proofs.Whole.{network_in_order}
 use Rattle.tr_stage.specs.declared.outcome.Outcome.TheVariants.{Leave}
 use Rattle.tr_stage.specs.Machine.{acted, run_actions, step}
 use Rattle.tr_stage.specs.Machine.StageEnd.{On, Ends}
 use Rattle.ls_laws.specs.Steps.{IsOn, Answers, answered_for, flows_at, sent_back}
-use Rattle.ls_laws.proofs.AddressRules.{HasAddress, IsAddressRule, address_rule-gives, answer-from, answer_rule, is_host, own-from, own_rule}
+use Rattle.ls_laws.proofs.AddressRules.{HasAddress, IsAddressRule, address_rule-gives, answer-from, answer_rule, own-from, own_rule}
 use Rattle.ls_laws.proofs.AddressRules.IsAddressRule.{Own, Asked, ForMac}
 use Rattle.ls_laws.proofs.AtPort.{at_port-gives, at_port-from, same_port}
 use Rattle.ls_laws.proofs.FoundPorts.{IsFoundPort, found_port, found_none}
 use Rattle.ls_laws.proofs.Packets.{other_value}
 use Rattle.ls_laws.proofs.PassingStages.{passing}
-use Rattle.ls_laws.proofs.RuleStages.{rules_at, among_rules_at, from_rules_at, the_only, is_of_security, is_of_acls, rules_where, acl_rule_stage}
+use Rattle.ls_laws.proofs.RuleStages.{rules_at, among_rules_at, from_rules_at, the_only, is_before_addresses, is_of_acls, rules_where, acl_rule_stage}
 use Rattle.ls_laws.proofs.Selected.{first_of_takers}
-use Rattle.ls_laws.proofs.Tables.{IsSwitchRule, IsPortRule, IsRule, table-gives}
+use Rattle.ls_laws.proofs.Tables.{IsSwitchRule, IsPortRule, IsRule, row_of_port, row_of_switch, table-gives}
 use Rattle.ls_laws.proofs.Takers.{lower_after, later_after, step_by}
 
 -- ---- the packet that answers
@@ -227,12 +228,12 @@ module _ (net : Network) (switch : Switch) (packet : Values) (on : IsOn net swit
   are : rules_at LsInArpRsp (switch_rules net dp) ≡ passing LsInArpRsp ∷ []
   are = only_passes (tracks net dp) (balances net dp) (has_unknown net dp)
 
-  -- an enabled port of the switch with the address is one that answers
-  answers_for-from : (port : Port) → Contains net.ports port → port.switch ≡ dp → port.enabled ≡ true → has_ip asked.0 port ≡ true → answers_for port ≡ true
-  answers_for-from port there of_dp enabled has =
+  -- an enabled host of the switch with the address is one that answers
+  answers_for-from : (port : Port) → is_to_router port ≡ false → port.switch ≡ dp → port.enabled ≡ true → has_ip asked.0 port ≡ true → answers_for port ≡ true
+  answers_for-from port host of_dp enabled has =
       and_from (is_open dp port && not (is_to_router port)) (has_ip asked.0 port)
       (and_from (is_open dp port) (not (is_to_router port)) (and_from (eqb port.switch.0 dp.0) port.enabled (eq-eqb port.switch.0 dp.0 (ap (λ (o : ObjId). o.0) of_dp)) enabled)
-      (ap not (is_host net port on.plain there)))
+      (ap not host))
       has
 
   module _ (row : Row) (takes : holds (names net) packet row.matching ≡ true) where
@@ -243,7 +244,7 @@ module _ (net : Network) (switch : Switch) (packet : Values) (on : IsOn net swit
 
     by_port_rule : IsPortRule net dp LsInArpRsp row → IsTaker row
     by_port_rule of =
-        let gives = address_rule-gives net of.port (is_host net of.port on.plain of.among) of.says (ap is_of_security of.of_stage) of.in_rules in
+        let gives = address_rule-gives net of.port of.says (ap is_before_addresses of.of_stage) of.in_rules in
         by gives.0 gives.1
       where
         as_row : (says : Rule) → of.says ≡ says → row ≡ row_of (unit_of of.port.switch of.port.id) says
@@ -253,17 +254,17 @@ module _ (net : Network) (switch : Switch) (packet : Values) (on : IsOn net swit
         does says same = sym (ap (λ (r : Row). holds (names net) packet r.matching) (as_row says same)) ∙ takes
 
         by : of.port.enabled ≡ true → IsAddressRule net of.port of.says → IsTaker row
-        by enabled (Own mac ip has same) =
+        by enabled (Own host mac ip has same) =
             let parts = and_parts (holds (names net) packet (is_port Inport of.port.name)) (holds (names net) packet (all_of (requests ip))) (does (own_rule of.port.name ip) same) in
             let is_asked = (requests-gives ip parts.1).1 in
             let has_asked = subst (λ (a : Ip4). HasAddress net of.port mac a) (sym is_asked) has in
-            ByOwn of.port of.among (answers_for-from of.port of.among of.of_switch enabled (has_ip-from net of.port asked mac has_asked)) (at_port-gives net packet Inport refl on.sound of.port of.among parts.0)
+            ByOwn of.port of.among (answers_for-from of.port host of.of_switch enabled (has_ip-from net of.port asked mac has_asked)) (at_port-gives net packet Inport refl on.sound of.port of.among parts.0)
             (as_row (own_rule of.port.name ip) same ∙ ap (λ a. row_of (unit_of of.port.switch of.port.id) (own_rule of.port.name a)) (sym is_asked))
-        by enabled (Asked mac ip has same) =
+        by enabled (Asked host mac ip has same) =
             let asks = requests-gives ip (does (answer_rule mac ip) same) in
             let has_asked = subst (λ (a : Ip4). HasAddress net of.port mac a) (sym asks.1) has in
             let its_mac : mac ≡ mac_with asked.0 of.port.addresses = sym (mac_of_ip of.port.addresses mac has_asked.ips asked (port_is_sound net on.sound of.port of.among).ips_apart has_asked.address has_asked.among) in
-            ByAnswer of.port of.among asks.0 (answers_for-from of.port of.among of.of_switch enabled (has_ip-from net of.port asked mac has_asked))
+            ByAnswer of.port of.among asks.0 (answers_for-from of.port host of.of_switch enabled (has_ip-from net of.port asked mac has_asked))
             (as_row (answer_rule mac ip) same ∙ (λ i. row_of (unit_of of.port.switch of.port.id) (answer_rule (its_mac i) (sym asks.1 i))))
         by enabled (ForMac mac has same) = absurd (false≢true (sym (ap (λ (r : Rule). is_arp r.stage) same) ∙ ap is_arp of.of_stage))
 
@@ -281,8 +282,8 @@ module _ (net : Network) (switch : Switch) (packet : Values) (on : IsOn net swit
   -- where no host is asked for, the packet goes on
   by_last : ((port : Port) → Contains net.ports port → is_request packet ≡ true → answers_for port ≡ true → ⊥) → step (flows_at net dp) LsInArpRsp packet ≡ On LsInL2Lkup packet
   by_last none =
-      step_by net dp LsInArpRsp packet last_row
-      (rows-switch net switch (passing LsInArpRsp) on.among (from_rules_at LsInArpRsp (switch_rules net dp) (passing LsInArpRsp ∷ []) (passing LsInArpRsp) are (one_first (passing LsInArpRsp) [] (passing LsInArpRsp) refl)))
+      step_by net switch packet on LsInArpRsp last_row
+      (row_of_switch net switch (passing LsInArpRsp) on.among (from_rules_at LsInArpRsp (switch_rules net dp) (passing LsInArpRsp ∷ []) (passing LsInArpRsp) are (one_first (passing LsInArpRsp) [] (passing LsInArpRsp) refl)))
       refl refl refl (λ row of takes. others row (taker row takes of))
       ∙ passed_on
     where
@@ -299,6 +300,9 @@ module _ (net : Network) (switch : Switch) (packet : Values) (on : IsOn net swit
     opens : (eqb port.switch.0 dp.0 ≡ true) × (port.enabled ≡ true)
     opens = and_parts (eqb port.switch.0 dp.0) port.enabled (and_parts (is_open dp port) (not (is_to_router port)) parts.0).0
 
+    its_host : is_to_router port ≡ false
+    its_host = not-true (is_to_router port) (and_parts (is_open dp port) (not (is_to_router port)) parts.0).1
+
     its_switch : port.switch ≡ dp
     its_switch = let same = eqb-true port.switch.0 dp.0 opens.0 in λ i. record { 0 = same i }
 
@@ -308,19 +312,19 @@ module _ (net : Network) (switch : Switch) (packet : Values) (on : IsOn net swit
     is_its_mac : its_address.0 ≡ mac_with asked.0 port.addresses
     is_its_mac = sym (mac_of_ip port.addresses its_address.0 its_address.1.ips asked (port_is_sound net on.sound port there).ips_apart its_address.1.address its_address.1.among)
 
-    own_row_there : Contains (rows net) (own_row port)
-    own_row_there = rows-port net port (own_rule port.name asked) there (own-from net port (is_host net port on.plain there) opens.1 its_address.0 asked its_address.1)
+    own_row_there : Contains (network_rows net) (own_row port)
+    own_row_there = row_of_port net port (own_rule port.name asked) there (own-from net port opens.1 its_host its_address.0 asked its_address.1)
 
-    row_there : Contains (rows net) (row_for port)
+    row_there : Contains (network_rows net) (row_for port)
     row_there =
         let says = answer_rule (mac_with asked.0 port.addresses) asked in
         let has = subst (λ (mac : ℕ). HasAddress net port mac asked) is_its_mac its_address.1 in
-        rows-port net port says there (answer-from net port (is_host net port on.plain there) opens.1 (mac_with asked.0 port.addresses) asked has)
+        row_of_port net port says there (answer-from net port opens.1 its_host (mac_with asked.0 port.addresses) asked has)
 
     -- where the asker has the address itself, its request goes on
     by_own : value packet Inport ≡ port.id.0 → is_request packet ≡ true → step (flows_at net dp) LsInArpRsp packet ≡ On LsInL2Lkup packet
     by_own at asks =
-        step_by net dp LsInArpRsp packet (own_row port) own_row_there its_switch refl
+        step_by net switch packet on LsInArpRsp (own_row port) own_row_there its_switch refl
         (and_from (holds (names net) packet (is_port Inport port.name)) (holds (names net) packet (all_of (requests asked))) (at_port-from net packet Inport refl on.sound port there at) (requests-from asks))
         (λ row of takes. others row (taker row takes of))
         ∙ passed_on
@@ -348,10 +352,10 @@ module _ (net : Network) (switch : Switch) (packet : Values) (on : IsOn net swit
         by (inr later) = inr (ap (λ (r : Row). is_gt (row_cmp r (row_for host))) is ∙ later_after (row_for port) (row_for host) (its_switch port there answers ∙ sym host_switch) refl refl later)
     others row (ByLast is) = inr (ap (λ (r : Row). is_gt (row_cmp r (row_for host))) is ∙ lower_after last_row (row_for host) (sym host_switch) refl (lit< tt))
 
-    met : select dp LsInArpRsp (names net) packet (rows net) ≡ Some (row_for host)
+    met : select dp LsInArpRsp (names net) packet (network_rows net) ≡ Some (row_for host)
     met =
-        first_of_takers (names net) dp LsInArpRsp packet (row_for host) (rows net) (rows-in_order net) (row_there host is_found.among is_found.does) host_switch refl (requests-from asks)
-        (λ row at in_it takes. others row (taker row takes (table-gives net dp LsInArpRsp row at in_it)))
+        first_of_takers (names net) dp LsInArpRsp packet (row_for host) (network_rows net) (network_in_order net) (row_there host is_found.among is_found.does) host_switch refl (requests-from asks)
+        (λ row at in_it takes. others row (taker row takes (table-gives net on.sound switch on.among LsInArpRsp row at in_it)))
 
     replies : (mac : ℕ) → run_actions (names net) LsInArpRsp (steps (answers mac asked)) packet ≡ Ends (Some (Leave (sent_back (arp_reply packet mac)) 0))
     unfolding pipeline_of

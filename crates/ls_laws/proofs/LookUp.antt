@@ -28,24 +28,25 @@ use Rattle.nb_model.specs.Ports.{is_open, takes_unknown}
 use Rattle.net_meaning.specs.Switches.{all_macs, has_mac, numbers, port_for}
 use Rattle.net_meaning.specs.declared.cause.Cause.TheVariants.{Unknown}
 use Rattle.net_rows.specs.Acls.{switch_acl_rules}
-use Rattle.net_rows.specs.Build.{acl_on_input, has_unknown, rows, switch_rules}
+use Rattle.net_rows.specs.Build.{acl_on_input, has_unknown, switch_rules}
 use Rattle.net_rows.specs.Lookup.{lookup_rule, switch_l2_rules, unknown_rules}
 use Rattle.net_rows.specs.Unit.{unit_of, unit_of_datapath, rule, row_of}
 use Rattle.net_rows.specs.declared.rule.Rule.{Rule}
 use Rattle.net_rows.proofs.Elements.{one_of, one_of_none, one_first, one_later, any_from, any_gives}
 use Rattle.net_rows.proofs.Sound.{ports_rise}
-use Rattle.net_rows.proofs.Units.{rows-switch, rows-port, rows-in_order}
+use Rattle.lr_units.specs.Network.{network_rows}
+use Rattle.lr_units.proofs.Whole.{network_in_order}
 use Rattle.tr_stage.specs.declared.outcome.Outcome.TheVariants.{Drop}
 use Rattle.tr_stage.specs.Machine.{acted, after, bound_for, run_actions, step}
 use Rattle.tr_stage.specs.Machine.StageEnd.{On, Ends}
 use Rattle.ls_laws.specs.Steps.{IsOn, LooksUp, FindsNone, flows_at, found_at, leaves_by, sent_unknown}
-use Rattle.ls_laws.proofs.AddressRules.{IsAddressRule, address_rule-gives, is_host, lookup-from}
+use Rattle.ls_laws.proofs.AddressRules.{IsAddressRule, address_rule-gives, lookup-from}
 use Rattle.ls_laws.proofs.AddressRules.IsAddressRule.{Own, Asked, ForMac}
 use Rattle.ls_laws.proofs.FoundPorts.{IsFoundPort, found_port, found_none}
 use Rattle.ls_laws.proofs.PortNames.{number_of_port}
-use Rattle.ls_laws.proofs.RuleStages.{rules_at, among_rules_at, from_rules_at, is_of_security, is_of_addresses, is_of_acls, port_rule_stage, rules_where, acl_rule_stage}
+use Rattle.ls_laws.proofs.RuleStages.{rules_at, among_rules_at, from_rules_at, is_before_addresses, is_of_acls, is_of_ports, port_rule_stage, rules_where, acl_rule_stage}
 use Rattle.ls_laws.proofs.Selected.{first_of_takers}
-use Rattle.ls_laws.proofs.Tables.{IsSwitchRule, IsPortRule, IsRule, table-gives}
+use Rattle.ls_laws.proofs.Tables.{IsSwitchRule, IsPortRule, IsRule, row_of_port, row_of_switch, table-gives}
 use Rattle.ls_laws.proofs.Takers.{lower_after, later_after, step_by}
 use Rattle.nv_base.specs.Object.{flood_number, unknown_number}
 
@@ -117,12 +118,12 @@ module _ (net : Network) (switch : Switch) (packet : Values) (on : IsOn net swit
 
     by_port_rule : IsPortRule net dp LsInL2Lkup row → IsTaker row
     by_port_rule of =
-        let gives = address_rule-gives net of.port (is_host net of.port on.plain of.among) of.says (ap is_of_security of.of_stage) of.in_rules in
+        let gives = address_rule-gives net of.port of.says (ap is_before_addresses of.of_stage) of.in_rules in
         by gives.0 gives.1
       where
         by : of.port.enabled ≡ true → IsAddressRule net of.port of.says → IsTaker row
-        by enabled (Own m ip has same) = absurd (false≢true (sym (ap (λ (r : Rule). is_lookup r.stage) same) ∙ ap is_lookup of.of_stage))
-        by enabled (Asked m ip has same) = absurd (false≢true (sym (ap (λ (r : Rule). is_lookup r.stage) same) ∙ ap is_lookup of.of_stage))
+        by enabled (Own host m ip has same) = absurd (false≢true (sym (ap (λ (r : Rule). is_lookup r.stage) same) ∙ ap is_lookup of.of_stage))
+        by enabled (Asked host m ip has same) = absurd (false≢true (sym (ap (λ (r : Rule). is_lookup r.stage) same) ∙ ap is_lookup of.of_stage))
         by enabled (ForMac m has same) =
             let row_is : row ≡ row_of (unit_of of.port.switch of.port.id) (lookup_rule of.port.name m) =
             of.is ∙ (λ i. row_of (unit_of (sym of.of_switch i) of.port.id) (same i)) in
@@ -140,14 +141,14 @@ module _ (net : Network) (switch : Switch) (packet : Values) (on : IsOn net swit
 
   -- ---- what is done
 
-  in_switch : (says : Rule) → Contains (many_rule ∷ last_rule ∷ []) says → Contains (rows net) (row_of (unit_of_datapath dp) says)
-  in_switch says there = rows-switch net switch says on.among (from_rules_at LsInL2Lkup (switch_rules net dp) (many_rule ∷ last_rule ∷ []) says are there)
+  in_switch : (says : Rule) → Contains (many_rule ∷ last_rule ∷ []) says → Contains (network_rows net) (row_of (unit_of_datapath dp) says)
+  in_switch says there = row_of_switch net switch says on.among (from_rules_at LsInL2Lkup (switch_rules net dp) (many_rule ∷ last_rule ∷ []) says are there)
 
   -- what is for many leaves by the group of all ports
   by_many : is_multicast mac ≡ true → step (flows_at net dp) LsInL2Lkup packet ≡ leaves_by packet flood_number
   unfolding pipeline_of
   by_many many =
-      step_by net dp LsInL2Lkup packet many_row (in_switch many_rule (one_first many_rule (last_rule ∷ []) many_rule refl)) refl refl (or-false (is_multicast mac) ∙ many)
+      step_by net switch packet on LsInL2Lkup many_row (in_switch many_rule (one_first many_rule (last_rule ∷ []) many_rule refl)) refl refl (or-false (is_multicast mac) ∙ many)
       (λ row of takes. others row (taker row takes of))
     where
       others : (row : Row) → IsTaker row → (row.actions ≡ goes_out_by flood_group) ⊎ (row.priority < 100)
@@ -160,7 +161,7 @@ module _ (net : Network) (switch : Switch) (packet : Values) (on : IsOn net swit
     by_last : port_for net dp mac ≡ None → step (flows_at net dp) LsInL2Lkup packet ≡ On LsInL2Unknown packet
     unfolding next_stage stage_at all_stages
     by_last none =
-        step_by net dp LsInL2Lkup packet last_row (in_switch last_rule (one_later many_rule (last_rule ∷ []) last_rule (one_first last_rule [] last_rule refl))) refl refl refl
+        step_by net switch packet on LsInL2Lkup last_row (in_switch last_rule (one_later many_rule (last_rule ∷ []) last_rule (one_first last_rule [] last_rule refl))) refl refl refl
         (λ row of takes. others row (taker row takes of))
       where
         others : (row : Row) → IsTaker row → (row.actions ≡ goes_on) ⊎ (row.priority < 0)
@@ -182,10 +183,10 @@ module _ (net : Network) (switch : Switch) (packet : Values) (on : IsOn net swit
       has_it : Contains (all_macs net port) mac
       has_it = let own = any_gives (λ own. eqb own mac) (all_macs net port) opens.1 in subst (λ n. Contains (all_macs net port) n) (eqb-true own.0 mac own.2) own.1
 
-      its_row : Contains (rows net) (row_for port)
+      its_row : Contains (network_rows net) (row_for port)
       its_row =
-          rows-port net port (lookup_rule port.name mac) is_found.among
-          (lookup-from net port (is_host net port on.plain is_found.among) (and_parts (eqb port.switch.0 dp.0) port.enabled opens.0).1 mac has_it)
+          row_of_port net port (lookup_rule port.name mac) is_found.among
+          (lookup-from net port (and_parts (eqb port.switch.0 dp.0) port.enabled opens.0).1 mac has_it)
 
       -- each other row that takes the packet is after it
       others : (row : Row) → IsTaker row → (row ≡ row_for port) ⊎ (is_gt (row_cmp row (row_for port)) ≡ true)
@@ -202,10 +203,10 @@ module _ (net : Network) (switch : Switch) (packet : Values) (on : IsOn net swit
           by (inr later) = inr (ap (λ (r : Row). is_gt (row_cmp r (row_for port))) is ∙ later_after (row_for other) (row_for port) (of_dp ∙ sym its_switch) refl refl later)
       others row (ByLast is) = inr (ap (λ (r : Row). is_gt (row_cmp r (row_for port))) is ∙ lower_after last_row (row_for port) (sym its_switch) refl (lit< tt))
 
-      met : select dp LsInL2Lkup (names net) packet (rows net) ≡ Some (row_for port)
+      met : select dp LsInL2Lkup (names net) packet (network_rows net) ≡ Some (row_for port)
       met =
-          first_of_takers (names net) dp LsInL2Lkup packet (row_for port) (rows net) (rows-in_order net) its_row its_switch refl (eq-eqb mac mac refl)
-          (λ row at in_it takes. others row (taker row takes (table-gives net dp LsInL2Lkup row at in_it)))
+          first_of_takers (names net) dp LsInL2Lkup packet (row_for port) (network_rows net) (network_in_order net) its_row its_switch refl (eq-eqb mac mac refl)
+          (λ row at in_it takes. others row (taker row takes (table-gives net on.sound switch on.among LsInL2Lkup row at in_it)))
 
       leaves : run_actions (names net) LsInL2Lkup (goes_out_by port.name) packet ≡ leaves_by packet port.id.0
       unfolding pipeline_of
@@ -251,7 +252,7 @@ module _ (net : Network) (switch : Switch) (packet : Values) (on : IsOn net swit
 
     of_switch : (row : Row) → IsRule net at_dp LsInL2Unknown row → (says : Rule) × Contains (drop_rule ∷ unknown_rules unknown) says × (row ≡ row_of (unit_of_datapath at_dp) says)
     of_switch row (inl of) = (of.says, subst (λ rs. Contains rs of.says) they_are (among_rules_at LsInL2Unknown (switch_rules net at_dp) of.says of.in_rules of.of_stage), of.is)
-    of_switch row (inr (inl of)) = absurd (false≢true (sym (ap (λ s. is_of_security s || is_of_addresses s) of.of_stage) ∙ port_rule_stage net of.port of.says of.in_rules))
+    of_switch row (inr (inl of)) = absurd (false≢true (sym (ap is_of_ports of.of_stage) ∙ port_rule_stage net of.port of.says of.in_rules))
     of_switch row (inr (inr of)) = absurd (false≢true (sym (ap is_of_acls of.of_stage) ∙ acl_rule_stage (acl_on_input net of.acl at_dp) of.says of.in_rules))
 
     -- what the highest rule does is done
@@ -259,7 +260,7 @@ module _ (net : Network) (switch : Switch) (packet : Values) (on : IsOn net swit
         → ((says : Rule) → Contains (drop_rule ∷ unknown_rules unknown) says → (says.actions ≡ r.actions) ⊎ (says.priority < r.priority))
         → step (flows_at net at_dp) LsInL2Unknown packet ≡ run_actions (names net) LsInL2Unknown r.actions packet
     done_by r there of_stage each others =
-        step_by net at_dp LsInL2Unknown packet (row_of (unit_of_datapath at_dp) r) (rows-switch net switch r on.among (from_rules_at LsInL2Unknown (switch_rules net at_dp) (drop_rule ∷ unknown_rules unknown) r they_are there))
+        step_by net switch packet on LsInL2Unknown (row_of (unit_of_datapath at_dp) r) (row_of_switch net switch r on.among (from_rules_at LsInL2Unknown (switch_rules net at_dp) (drop_rule ∷ unknown_rules unknown) r they_are there))
         refl of_stage (ap (holds (names net) packet) each) (λ row of takes. by row (of_switch row of))
       where
         by : (row : Row) → (says : Rule) × Contains (drop_rule ∷ unknown_rules unknown) says × (row ≡ row_of (unit_of_datapath at_dp) says) → (row.actions ≡ r.actions) ⊎ (row.priority < r.priority)

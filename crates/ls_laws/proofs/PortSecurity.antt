@@ -31,7 +31,6 @@ use Rattle.net_rows.specs.Unit.{unit_of, unit_of_datapath, row_of}
 use Rattle.net_rows.specs.declared.rule.Rule.{Rule}
 use Rattle.net_rows.proofs.Elements.{one_of, one_of_none, one_first, one_later, any_from, any_gives, Contains-flat_map}
 use Rattle.net_rows.proofs.Sound.{each_passes}
-use Rattle.net_rows.proofs.Units.{rows-switch, rows-port}
 use Rattle.tr_stage.specs.Machine.{run_actions, step}
 use Rattle.tr_stage.specs.Machine.StageEnd.{On, Ends}
 use Rattle.tr_stage.specs.declared.outcome.Outcome.TheVariants.{Deliver, Drop}
@@ -41,7 +40,7 @@ use Rattle.ls_laws.proofs.GuardTerms.{Terms, AreNets, in_meaning, out_meaning}
 use Rattle.ls_laws.proofs.RuleStages.{rules_at, among_rules_at, from_rules_at, is_of_acls, acl_rule_stage}
 use Rattle.ls_laws.proofs.SecurityRules.{Side, IsSide, many_rule, off_rule, let_rule, shut_rule, last_rule, ingress_side, egress_side, ingress_is, egress_is, IsSecRule, sec_rule-gives, off-from, shut-from, let-from}
 use Rattle.ls_laws.proofs.SecurityRules.IsSecRule.{Off, Shut, Lets}
-use Rattle.ls_laws.proofs.Tables.{IsSwitchRule, IsPortRule, IsRule}
+use Rattle.ls_laws.proofs.Tables.{IsSwitchRule, IsPortRule, IsRule, row_of_port, row_of_switch}
 use Rattle.ls_laws.proofs.Takers.{step_by}
 
 -- the networks of the guards of a port of a sound network have addresses of 32 bits
@@ -161,12 +160,12 @@ module _ (side : Side) (is : IsSide side) (net : Network) (switch : Switch) (pac
   done_by_switch : (says : Rule) → Contains (switch_rules net switch.id) says → says.stage ≡ side.stage → holds (names net) packet says.matching ≡ true
       → ((row : Row) → IsTaker row → (row.actions ≡ says.actions) ⊎ (row.priority < says.priority)) → Does says.actions
   done_by_switch says there of_stage takes others =
-      step_by net switch.id side.stage packet (row_of (unit_of_datapath switch.id) says) (rows-switch net switch says on.among there) refl of_stage takes (λ row from does. others row (taker row does from))
+      step_by net switch packet on side.stage (row_of (unit_of_datapath switch.id) says) (row_of_switch net switch says on.among there) refl of_stage takes (λ row from does. others row (taker row does from))
 
   done_by_port : (says : Rule) → Contains (port_rules net port) says → says.stage ≡ side.stage → holds (names net) packet says.matching ≡ true
       → ((row : Row) → IsTaker row → (row.actions ≡ says.actions) ⊎ (row.priority < says.priority)) → Does says.actions
   done_by_port says there of_stage takes others =
-      step_by net switch.id side.stage packet (row_of (unit_of port.switch port.id) says) (rows-port net port says of.0 there) of.1 of_stage takes (λ row from does. others row (taker row does from))
+      step_by net switch packet on side.stage (row_of (unit_of port.switch port.id) says) (row_of_port net port says of.0 there) of.1 of_stage takes (λ row from does. others row (taker row does from))
 
   among_switch_rules : (says : Rule) → Contains (many_rule side ∷ last_rule side ∷ []) says → Contains (switch_rules net switch.id) says
   among_switch_rules says there = from_rules_at side.stage (switch_rules net switch.id) (many_rule side ∷ last_rule side ∷ []) says switch_rules_are there

@@ -3,7 +3,7 @@
 use Rattle.std.proofs.Common.{◌≡◌, ℕ, ◌+◌, Bool, true, false, cond, List, [], ◌∷◌, ◌++◌, map, eqb, sym, ap, refl, ◌∙◌, subst, ◌⊎◌, inl, inr}
 use Rattle.std.specs.Prelude.{◌||◌}
 use Rattle.std.specs.List.{AllByRecursion, Contains, filter, flat_map}
-use Rattle.std.proofs.lemmas.Bool.{false≢true, eq-eqb}
+use Rattle.std.proofs.lemmas.Bool.{false≢true, and_parts, eq-eqb}
 use Rattle.std.proofs.lemmas.List.Elements.{All-contains, All-from_recursion, Contains-append_cases}
 use Rattle.nv_base.specs.declared.ip4.Ip4.{Ip4}
 use Rattle.nv_base.specs.declared.object.ObjId.{ObjId}
@@ -16,20 +16,21 @@ use Rattle.nb_records.specs.declared.switch.Addr.{Addr}
 use Rattle.nb_records.specs.declared.switch.Addr.TheVariants as addr
 use Rattle.nb_records.specs.declared.switch.Guard.{Guard}
 use Rattle.nb_records.specs.declared.switch.Port.{Port}
-use Rattle.nb_model.specs.Belongs.{is_router_kind}
+use Rattle.nb_model.specs.Belongs.{is_router_kind, is_to_router}
 use Rattle.nb_model.specs.Network.{Network}
 use Rattle.nb_model.specs.Readable.{is_priority}
 use Rattle.nb_model.specs.Applies.{is_empty, tracks, balances}
 use Rattle.sb_model.specs.Stage.{stage_place}
 use Rattle.sb_model.specs.declared.stage.Stage.{Stage}
 use Rattle.sb_model.specs.declared.stage.Stage.TheVariants.{LsInCheckPortSec, LsInPreAcl, LsInAclEval, LsInArpRsp, LsInL2Lkup, LsOutPreAcl, LsOutAclEval, LsOutCheckPortSec}
-use Rattle.net_rows.specs.Acls.{switch_acl_rules, first_stage_of, stage_of, ending, tracked_rules, untracking_rules, acl_on_rules}
-use Rattle.net_rows.specs.Build.{port_sec_input, acl_on_input, has_unknown, port_l2_input, switch_rules, port_rules}
+use Rattle.net_rows.specs.Acls.{switch_acl_rules, port_acl_rules, first_stage_of, stage_of, ending, tracked_rules, untracking_rules, acl_on_rules}
+use Rattle.net_rows.specs.Build.{port_sec_input, port_acl_input, acl_rules_of_port, is_untracked, acl_on_input, has_unknown, port_l2_input, switch_rules, port_rules}
 use Rattle.net_rows.specs.LoadBalancers.{switch_lb_rules}
 use Rattle.net_rows.specs.Lookup.{switch_l2_rules, arp_rules, arp_rules_of, lookup_rule, looked_up, host_rules, port_l2_rules}
 use Rattle.net_rows.specs.PortSecurity.{switch_sec_rules, open_rules, closed_rules, guard_rules, guarded_rules, disabled_rules, port_sec_rules}
 use Rattle.net_rows.specs.Unit.{rule}
 use Rattle.net_rows.specs.declared.inputs.AclOnInput.{AclOnInput}
+use Rattle.net_rows.specs.declared.inputs.PortAclInput.{PortAclInput}
 use Rattle.net_rows.specs.declared.inputs.PortL2Input.{PortL2Input}
 use Rattle.net_rows.specs.declared.inputs.PortSecInput.{PortSecInput}
 use Rattle.net_rows.specs.declared.rule.Rule.{Rule}
@@ -85,11 +86,32 @@ is_of_acls LsOutPreAcl = true
 is_of_acls LsOutAclEval = true
 is_of_acls _ = false
 
--- those of them where ACLs decide
+-- those of them where it is asked what is tracked
+abbrev pub is_first : Stage → Bool
+is_first LsInPreAcl = true
+is_first LsOutPreAcl = true
+is_first _ = false
+
+-- those where ACLs decide
 abbrev pub is_of_decisions : Stage → Bool
 is_of_decisions LsInAclEval = true
 is_of_decisions LsOutAclEval = true
 is_of_decisions _ = false
+
+-- those of ports but of port security
+abbrev pub is_later : Stage → Bool
+is_later stage = is_first stage || is_of_addresses stage
+
+-- those of ports before those of addresses
+abbrev pub is_before_addresses : Stage → Bool
+is_before_addresses stage = is_of_security stage || is_first stage
+
+-- those of ports, and those where their switch tracks no connections
+abbrev pub is_of_ports : Stage → Bool
+is_of_ports stage = is_of_security stage || is_later stage
+
+abbrev pub is_of_untracked_ports : Stage → Bool
+is_of_untracked_ports stage = is_of_security stage || is_of_addresses stage
 
 -- ---- the rules of ports
 
@@ -158,17 +180,89 @@ of_port_l2 input = by input.enabled
     by true = every_append OfAddresses (host_rules input) (map (lookup_rule input.name) (looked_up input)) hosts (of_macs input.name (looked_up input))
     by false = tt
 
--- a port has no other rules
-pub port_rule_stage : (net : Network) (port : Port) (says : Rule) → Contains (port_rules net port) says → (is_of_security says.stage || is_of_addresses says.stage) ≡ true
-port_rule_stage net port says there = by (Contains-append_cases (port_sec_rules (port_sec_input port)) (port_l2_rules (port_l2_input net port)) says there)
-  where
-    either_way : (a : Bool) → (a || true) ≡ true
-    either_way true = refl
-    either_way false = refl
+-- and those by which nothing is tracked
+of_port_acl : (input : PortAclInput) → AllByRecursion (λ (says : Rule). is_first says.stage ≡ true) (port_acl_rules input)
+unfolding port_acl_rules
+of_port_acl input = (refl, (refl, tt))
 
-    by : Contains (port_sec_rules (port_sec_input port)) says ⊎ Contains (port_l2_rules (port_l2_input net port)) says → (is_of_security says.stage || is_of_addresses says.stage) ≡ true
-    by (inl at) = rw (each_of OfSecurity (port_sec_rules (port_sec_input port)) says (of_port_sec (port_sec_input port)) at) refl
-    by (inr at) = rw (each_of OfAddresses (port_l2_rules (port_l2_input net port)) says (of_port_l2 (port_l2_input net port)) at) (either_way (is_of_security says.stage))
+either_way : (a : Bool) → (a || true) ≡ true
+either_way true = refl
+either_way false = refl
+
+module _ (net : Network) (port : Port) where
+  -- the rules of a port but those of port security
+  abbrev pub later_rules : List Rule
+  later_rules = acl_rules_of_port net port ++ port_l2_rules (port_l2_input net port)
+
+  -- those by which nothing is tracked are of a port that leads to a router, where its switch tracks
+  pub acl_rules_of_port-gives : (says : Rule) → Contains (acl_rules_of_port net port) says → (is_untracked net port ≡ true) × Contains (port_acl_rules (port_acl_input port)) says
+  acl_rules_of_port-gives says there = by (is_untracked net port) refl there
+    where
+      by : (b : Bool) → is_untracked net port ≡ b → Contains (cond b (port_acl_rules (port_acl_input port)) []) says → (is_untracked net port ≡ true) × Contains (port_acl_rules (port_acl_input port)) says
+      by true is at = (is, at)
+      by false is at = absurd (one_of_none says at)
+
+  module _ (says : Rule) where
+    -- these are of two parts
+    abbrev IsOfLater : Type 0
+    IsOfLater = ((is_untracked net port ≡ true) × (is_first says.stage ≡ true)) ⊎ (is_of_addresses says.stage ≡ true)
+
+    acl_rule_of_port_stage : Contains (acl_rules_of_port net port) says → is_first says.stage ≡ true
+    acl_rule_of_port_stage at =
+        each_of (λ (r : Rule). is_first r.stage ≡ true) (port_acl_rules (port_acl_input port)) says (of_port_acl (port_acl_input port)) (acl_rules_of_port-gives says at).1
+
+    later_part : Contains later_rules says → IsOfLater
+    later_part there = by (Contains-append_cases (acl_rules_of_port net port) (port_l2_rules (port_l2_input net port)) says there)
+      where
+        by : Contains (acl_rules_of_port net port) says ⊎ Contains (port_l2_rules (port_l2_input net port)) says → IsOfLater
+        by (inl at) = inl ((acl_rules_of_port-gives says at).0, acl_rule_of_port_stage at)
+        by (inr at) = inr (each_of OfAddresses (port_l2_rules (port_l2_input net port)) says (of_port_l2 (port_l2_input net port)) at)
+
+    pub later_stage : Contains later_rules says → is_later says.stage ≡ true
+    later_stage there = by (later_part there)
+      where
+        by : IsOfLater → is_later says.stage ≡ true
+        by (inl untracked) = rw untracked.1 refl
+        by (inr addresses) = rw addresses (either_way (is_first says.stage))
+
+    -- a port has no other rules
+    port_rule_part : Contains (port_rules net port) says → (is_of_security says.stage ≡ true) ⊎ Contains later_rules says
+    port_rule_part there = by (Contains-append_cases (port_sec_rules (port_sec_input port)) later_rules says there)
+      where
+        by : Contains (port_sec_rules (port_sec_input port)) says ⊎ Contains later_rules says → (is_of_security says.stage ≡ true) ⊎ Contains later_rules says
+        by (inl at) = inl (each_of OfSecurity (port_sec_rules (port_sec_input port)) says (of_port_sec (port_sec_input port)) at)
+        by (inr at) = inr at
+
+    pub port_rule_stage : Contains (port_rules net port) says → is_of_ports says.stage ≡ true
+    port_rule_stage there = by (port_rule_part there)
+      where
+        by : (is_of_security says.stage ≡ true) ⊎ Contains later_rules says → is_of_ports says.stage ≡ true
+        by (inl security) = rw security refl
+        by (inr at) = rw (later_stage at) (either_way (is_of_security says.stage))
+
+    -- the rules of addresses are after the others
+    pub port_rule_parts : Contains (port_rules net port) says → (is_before_addresses says.stage ≡ true) ⊎ Contains (port_l2_rules (port_l2_input net port)) says
+    port_rule_parts there = by (port_rule_part there)
+      where
+        later : Contains (acl_rules_of_port net port) says ⊎ Contains (port_l2_rules (port_l2_input net port)) says → (is_before_addresses says.stage ≡ true) ⊎ Contains (port_l2_rules (port_l2_input net port)) says
+        later (inl at) = inl (rw (acl_rule_of_port_stage at) (either_way (is_of_security says.stage)))
+        later (inr at) = inr at
+
+        by : (is_of_security says.stage ≡ true) ⊎ Contains later_rules says → (is_before_addresses says.stage ≡ true) ⊎ Contains (port_l2_rules (port_l2_input net port)) says
+        by (inl security) = inl (rw security refl)
+        by (inr at) = later (Contains-append_cases (acl_rules_of_port net port) (port_l2_rules (port_l2_input net port)) says at)
+
+    -- nor has it others where its switch tracks no connections
+    pub untracked_port_stage : tracks net port.switch ≡ false → Contains (port_rules net port) says → is_of_untracked_ports says.stage ≡ true
+    untracked_port_stage none there = by (port_rule_part there)
+      where
+        later : IsOfLater → is_of_untracked_ports says.stage ≡ true
+        later (inl untracked) = absurd (false≢true (sym none ∙ (and_parts (is_to_router port) (tracks net port.switch) untracked.0).1))
+        later (inr addresses) = rw addresses (either_way (is_of_security says.stage))
+
+        by : (is_of_security says.stage ≡ true) ⊎ Contains later_rules says → is_of_untracked_ports says.stage ≡ true
+        by (inl security) = rw security refl
+        by (inr at) = later (later_part at)
 
 -- ---- the rules of ACLs
 

@@ -21,14 +21,14 @@ use Rattle.sb_model.specs.Stage.{stage_place}
 use Rattle.sb_model.specs.declared.stage.Stage.{Stage}
 use Rattle.sb_model.specs.declared.stage.Stage.TheVariants.{LsInCheckPortSec, LsOutCheckPortSec}
 use Rattle.net_rows.specs.Acls.{switch_acl_rules}
-use Rattle.net_rows.specs.Build.{port_sec_input, port_l2_input, port_rules}
-use Rattle.net_rows.specs.Lookup.{switch_l2_rules, port_l2_rules}
+use Rattle.net_rows.specs.Build.{port_sec_input, port_rules}
+use Rattle.net_rows.specs.Lookup.{switch_l2_rules}
 use Rattle.net_rows.specs.PortSecurity.{open_rules, closed_rules, guard_rules, guarded_rules, disabled_rules, port_sec_rules}
 use Rattle.net_rows.specs.Unit.{rule}
 use Rattle.net_rows.specs.declared.rule.Rule.{Rule}
 use Rattle.net_rows.proofs.Elements.{one_of, one_of_none, one_first, one_later, Contains-from_map, Contains-map, Contains-from_flat_map, Contains-flat_map, Contains-from_filter}
 use Rattle.ls_laws.proofs.GuardTerms.{Terms, open_in_terms, closed_in_terms, in_terms, open_out_terms, closed_out_terms, out_terms}
-use Rattle.ls_laws.proofs.RuleStages.{is_at, rules_at, among_rules_at, from_rules_at, the_only, each_of, is_of_addresses, is_of_acls, of_port_l2, rules_where}
+use Rattle.ls_laws.proofs.RuleStages.{is_at, rules_at, among_rules_at, from_rules_at, the_only, is_of_acls, is_later, later_rules, later_stage, rules_where}
 
 -- The stage of port security of a pipeline: the fields of the port and of its MAC, what is done with what may pass, what guards ask for,
 -- what all that is for many or from many meets, and whether a disabled port lets in nothing.
@@ -69,7 +69,7 @@ pub record IsSide (side : Side) : Type 0 where
   pub of_guarded : (name : List ℕ) (guard : Guard) (guards : List Guard)
       → rules_at side.stage (guarded_rules name (guard ∷ guards)) ≡ shut_rule side name ∷ rules_at side.stage (flat_map (guard_rules name) (guard ∷ guards))
   pub of_guard : (name : List ℕ) (guard : Guard) → rules_at side.stage (guard_rules name guard) ≡ map (let_rule side name guard) (side.terms guard)
-  pub no_address : is_of_addresses side.stage ≡ false
+  pub no_other : is_later side.stage ≡ false
   pub no_acl : is_of_acls side.stage ≡ false
   pub plain_port : field_prerequisite side.port ≡ Nothing
   pub plain_mac : field_prerequisite side.mac ≡ Nothing
@@ -90,7 +90,7 @@ ingress_is = record {
   of_disabled = of_disabled;
   of_guarded = λ name guard guards. refl;
   of_guard = λ name guard. of_guard name guard (is_empty guard.nets);
-  no_address = refl;
+  no_other = refl;
   no_acl = refl;
   plain_port = refl;
   plain_mac = refl;
@@ -119,7 +119,7 @@ egress_is = record {
   of_disabled = of_disabled;
   of_guarded = λ name guard guards. refl;
   of_guard = λ name guard. of_guard name guard (is_empty guard.nets);
-  no_address = refl;
+  no_other = refl;
   no_acl = refl;
   plain_port = refl;
   plain_mac = refl;
@@ -189,26 +189,24 @@ module _ (side : Side) (is : IsSide side) (net : Network) (port : Port) where
 
     pub sec_rule-gives : Contains (port_rules net port) says → IsSecRule side port says
     unfolding port_sec_rules
-    sec_rule-gives there = by (Contains-append_cases (port_sec_rules (port_sec_input port)) (port_l2_rules (port_l2_input net port)) says there)
+    sec_rule-gives there = by (Contains-append_cases (port_sec_rules (port_sec_input port)) (later_rules net port) says there)
       where
         of_sec : Contains disabled says ⊎ Contains guarded says → IsSecRule side port says
         of_sec (inl at) = from_disabled at
         of_sec (inr at) = from_guarded at
 
-        by : Contains (port_sec_rules (port_sec_input port)) says ⊎ Contains (port_l2_rules (port_l2_input net port)) says → IsSecRule side port says
+        by : Contains (port_sec_rules (port_sec_input port)) says ⊎ Contains (later_rules net port) says → IsSecRule side port says
         by (inl at) = of_sec (Contains-append_cases disabled guarded says at)
-        by (inr at) =
-            let addresses = each_of (λ (r : Rule). is_of_addresses r.stage ≡ true) (port_l2_rules (port_l2_input net port)) says (of_port_l2 (port_l2_input net port)) at in
-            absurd (false≢true (sym is.no_address ∙ sym (ap is_of_addresses of) ∙ addresses))
+        by (inr at) = absurd (false≢true (sym is.no_other ∙ sym (ap is_later of) ∙ later_stage net port says at))
 
   -- and each of these is a rule of the port
   in_disabled : (says : Rule) → Contains disabled says → Contains (port_rules net port) says
   unfolding port_sec_rules
-  in_disabled says there = Contains-append_left (port_sec_rules (port_sec_input port)) (port_l2_rules (port_l2_input net port)) says (Contains-append_left disabled guarded says there)
+  in_disabled says there = Contains-append_left (port_sec_rules (port_sec_input port)) (later_rules net port) says (Contains-append_left disabled guarded says there)
 
   in_guarded : (says : Rule) → Contains guarded says → Contains (port_rules net port) says
   unfolding port_sec_rules
-  in_guarded says there = Contains-append_left (port_sec_rules (port_sec_input port)) (port_l2_rules (port_l2_input net port)) says (Contains-append_right disabled guarded says there)
+  in_guarded says there = Contains-append_left (port_sec_rules (port_sec_input port)) (later_rules net port) says (Contains-append_right disabled guarded says there)
 
   pub off-from : (side.disables && not port.enabled) ≡ true → Contains (port_rules net port) (off_rule side port.name)
   off-from off =

@@ -22,11 +22,12 @@ use Rattle.sb_rows.proofs.Place.{ordered_tail}
 use Rattle.sb_rows.proofs.Tables.{in_table-from, in_table-gives}
 use Rattle.nb_model.specs.Names.{names}
 use Rattle.nb_model.specs.Network.{Network}
-use Rattle.net_rows.specs.Build.{rows}
+use Rattle.nb_records.specs.declared.switch.Switch.{Switch}
 use Rattle.net_rows.proofs.Elements.{one_of, one_of_none, one_first, one_later}
-use Rattle.net_rows.proofs.Units.{rows-in_order}
+use Rattle.lr_units.specs.Network.{network_rows}
+use Rattle.lr_units.proofs.Whole.{network_in_order}
 use Rattle.tr_stage.specs.Machine.{step, run_actions}
-use Rattle.ls_laws.specs.Steps.{flows_at}
+use Rattle.ls_laws.specs.Steps.{IsOn, flows_at}
 use Rattle.ls_laws.proofs.Tables.{IsRule, table-gives}
 
 -- of rows of one table, the one of the lower priority is after the other
@@ -96,18 +97,19 @@ module _ (known : Lookup) (dp : ObjId) (stage : Stage) (packet : Values) (r : Ro
 
 -- The packet's step does what a row says that takes the packet, where each other row of the table that takes it says the same or has a
 -- lower priority.
-pub step_by : (net : Network) (dp : ObjId) (stage : Stage) (packet : Values) (r : Row) → Contains (rows net) r → r.dp ≡ dp → r.stage ≡ stage → holds (names net) packet r.matching ≡ true
-    → ((x : Row) → IsRule net dp stage x → holds (names net) packet x.matching ≡ true → (x.actions ≡ r.actions) ⊎ (x.priority < r.priority))
-    → step (flows_at net dp) stage packet ≡ run_actions (names net) stage r.actions packet
+pub step_by : (net : Network) (switch : Switch) (packet : Values) → IsOn net switch packet → (stage : Stage) (r : Row) → Contains (network_rows net) r → r.dp ≡ switch.id → r.stage ≡ stage
+    → holds (names net) packet r.matching ≡ true
+    → ((x : Row) → IsRule net switch.id stage x → holds (names net) packet x.matching ≡ true → (x.actions ≡ r.actions) ⊎ (x.priority < r.priority))
+    → step (flows_at net switch.id) stage packet ≡ run_actions (names net) stage r.actions packet
 unfolding step
-step_by net dp stage packet r there of_dp of_stage takes others =
-    rw at.is (ap (λ actions. run_actions (names net) stage actions packet) (by (others at.row (table-gives net dp stage at.row at.among at.in_table) at.takes)))
+step_by net switch packet on stage r there of_dp of_stage takes others =
+    rw at.is (ap (λ actions. run_actions (names net) stage actions packet) (by (others at.row (table-gives net on.sound switch on.among stage at.row at.among at.in_table) at.takes)))
   where
-    at : IsMet (names net) dp stage packet (rows net) r
-    at = met (names net) dp stage packet r (in_table-from dp stage r of_dp of_stage) takes (rows net) (rows-in_order net) there
+    at : IsMet (names net) switch.id stage packet (network_rows net) r
+    at = met (names net) switch.id stage packet r (in_table-from switch.id stage r of_dp of_stage) takes (network_rows net) (network_in_order net) there
 
     by : (at.row.actions ≡ r.actions) ⊎ (at.row.priority < r.priority) → at.row.actions ≡ r.actions
     by (inl same) = same
     by (inr lower) =
-        let of = in_table-gives dp stage at.row at.in_table in
+        let of = in_table-gives switch.id stage at.row at.in_table in
         absurd (false≢true (sym at.not_after ∙ lower_after at.row r (of.0 ∙ sym of_dp) (of.1 ∙ sym of_stage) lower))

@@ -23,7 +23,7 @@ use Rattle.nb_model.specs.Plain.{IsPlain}
 use Rattle.net_meaning.specs.Switches.{rejection, is_request, is_answering, answering, mac_with, port_for, unknown_ports}
 use Rattle.net_meaning.specs.declared.answer.Answer.TheVariants.{Reject}
 use Rattle.net_meaning.specs.declared.cause.Cause.TheVariants.{PortSec, Acl, Unknown, CtFull}
-use Rattle.net_rows.specs.Build.{rows}
+use Rattle.lr_units.specs.Network.{network_rows}
 use Rattle.tr_stage.specs.Machine.{Flows, StageEnd, flows_of, step}
 use Rattle.tr_stage.specs.Machine.StageEnd.{On, Ends}
 use Rattle.tr_stage.specs.declared.outcome.Outcome.TheVariants.{Leave, Deliver, Made, Drop}
@@ -33,7 +33,7 @@ use Rattle.nv_base.specs.Object.{flood_number, unknown_number}
 
 -- the flows of a network at one of its datapaths
 abbrev pub flows_at : Network → ObjId → Flows
-flows_at net dp = flows_of (rows net) (names net) dp
+flows_at net dp = flows_of (network_rows net) (names net) dp
 
 -- the networks and the packets of which the laws speak: on one of the network's switches
 pub record IsOn (net : Network) (switch : Switch) (packet : Values) : Type 0 where

@@ -10,7 +10,7 @@ ghost use Rattle.nb_model.specs.Transactions.{unless, applied, edited};
 ghost use Rattle.nb_store.specs.Undo.{back, changes_nothing};
 ghost use Rattle.nb_words.specs.Fault.{IsFaultOf};
 ghost use Rattle.nb_limits.specs.Ceilings.{AreCeilings};
-ghost use Rattle.nb_check.specs.inner.Going.{Since, going};
+ghost use Rattle.nb_check.specs.inner.Going.{AreSince, no_objects, with_removed};
 ghost use Rattle.nb_check.specs.inner.Undone.{AreTouched, back_all};
 ghost use Rattle.nb_limits.specs.Limitless.{IsSoundButLimits};
 ghost use Rattle.nv_base.specs.Object.{number_limit};
@@ -87,36 +87,8 @@ fn keep(
 }
 
 /// Does what the edits of a line ask for, in order, up to the first that is refused or for which memory runs out, and notes what undoes
-/// each, and which ports are gone then (not from OVN).
+/// each, and which objects are gone then; the answer is the places that they changed (not from OVN).
 pub(crate) fn apply_each(
-    alloc: Global,
-    records: &mut Records,
-    known: &mut Ceilings,
-    edits: Vec<Edit>,
-    undos: &mut Vec<Undo>,
-    gone: &mut Gone,
-) -> Result<(), LineFault>
-    requires sound { IsSound records.old }
-    requires known { AreCeilings records.old known.old }
-    requires readable { AllByRecursion IsReadable edits.items }
-    requires room { records.old.next + length edits.items < number_limit }
-    requires first { gone.old.first ≡ records.old.next }
-    requires none { gone.old.numbers ≡ [] }
-    ensures done { OnOk result (edited records.old edits.items ≡ Ok records.new) }
-    ensures refused { IfErr result (λ fault. IsFaultOf (edited records.old edits.items) fault) }
-    ensures back { back_all undos.new.items records.new ≡ back_all undos.old.items records.old }
-    ensures sound { IsSound records.new }
-    ensures known { OnOk result (AreCeilings records.new known.new) }
-    ensures gone { OnOk result (Since records.old records.new gone.new.numbers) }
-{
-    for edit in edits {
-        apply_next(alloc, records, known, edit, undos, gone)?;
-    }
-    Ok(())
-}
-
-/// Does what the edits of a line ask for, as `apply_each`, and answers the places that they changed.
-pub(crate) fn apply_and_tell(
     alloc: Global,
     records: &mut Records,
     known: &mut Ceilings,
@@ -129,20 +101,22 @@ pub(crate) fn apply_and_tell(
     requires readable { AllByRecursion IsReadable edits.items }
     requires room { records.old.next + length edits.items < number_limit }
     requires first { gone.old.first ≡ records.old.next }
-    requires none { gone.old.numbers ≡ [] }
+    requires none { gone.old.objects ≡ no_objects }
     ensures done { OnOk result (edited records.old edits.items ≡ Ok records.new) }
     ensures refused { IfErr result (λ fault. IsFaultOf (edited records.old edits.items) fault) }
     ensures back { back_all undos.new.items records.new ≡ back_all undos.old.items records.old }
     ensures sound { IsSound records.new }
     ensures known { OnOk result (AreCeilings records.new known.new) }
-    ensures gone { OnOk result (Since records.old records.new gone.new.numbers) }
+    ensures gone { OnOk result (AreSince records.old records.new gone.new.objects) }
     ensures touched { IfOk result (λ places. AreTouched undos.new.items places) }
 {
-    apply_each(alloc, records, known, edits, undos, gone)?;
+    for edit in edits {
+        apply_next(alloc, records, known, edit, undos, gone)?;
+    }
     Ok(touched(alloc, undos)?)
 }
 
-// Does what one edit more asks for, and notes what undoes it and which ports it removes. Where it is refused or memory runs out, nothing changes.
+// Does what one edit more asks for, and notes what undoes it and which objects it removes. Where it is refused or memory runs out, nothing changes.
 fn apply_next(
     alloc: Global,
     records: &mut Records,
@@ -161,7 +135,7 @@ fn apply_next(
     ensures back { back_all undos.new.items records.new ≡ back_all undos.old.items records.old }
     ensures sound { IsSound records.new }
     ensures known { OnOk result (AreCeilings records.new known.new) }
-    ensures gone { OnOk result (gone.new.numbers ≡ gone.old.numbers ++ going gone.old.first records.old edit) }
+    ensures gone { OnOk result (gone.new.objects ≡ with_removed gone.old.first records.old edit gone.old.objects) }
     ensures first { gone.new.first ≡ gone.old.first }
 {
     gone.note(records, &edit)?;

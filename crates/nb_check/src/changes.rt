@@ -6,8 +6,19 @@ use nv_base::{Items, ObjId};
 pub struct Changes {
     /// Whether there may be a change: where not, the network is as before.
     pub any: bool,
-    /// The numbers of the ports of switches that were there before the line, and are no more there after it.
-    pub gone: Items<ObjId>,
+    /// The objects that were there before the line, and are no more there after it.
+    pub gone: GoneObjects,
     /// The places of the records that may have changed, come or gone, in the order of places, each once.
     pub touched: Items<Place>,
+}
+
+/// The numbers of objects that are gone, of those kinds of which packets leave something for later ones.
+#[derive(Drop)]
+pub struct GoneObjects {
+    /// Ports of switches.
+    pub ports: Items<ObjId>,
+    /// Ports of routers.
+    pub router_ports: Items<ObjId>,
+    /// Routers.
+    pub routers: Items<ObjId>,
 }

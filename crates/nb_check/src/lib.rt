@@ -6,5 +6,5 @@ mod changes;
 mod gone;
 mod tables;
 
-pub use changes::Changes;
+pub use changes::{Changes, GoneObjects};
 pub use tables::Tables;

@@ -6,7 +6,7 @@ ghost use Rattle.nb_model.specs.Belongs.{is_among};
 ghost use Rattle.nb_model.specs.Effect.{effect};
 ghost use Rattle.nb_model.specs.Network.{empty_network};
 ghost use Rattle.nb_model.specs.Readable.{IsReadable};
-ghost use Rattle.nb_model.specs.Sound.{IsSound, port_ids};
+ghost use Rattle.nb_model.specs.Sound.{IsSound, port_ids, router_ids, router_port_ids};
 ghost use Rattle.nb_model.specs.Tests.{refusal};
 ghost use Rattle.nb_model.specs.Transactions.{applied, edited};
 ghost use Rattle.nb_store.specs.Touched.{AreSameBut, PlacesRise};
@@ -16,7 +16,7 @@ ghost use Rattle.nb_words.specs.Fault.{IsFaultOf};
 ghost use Rattle.nv_base.specs.Object.{number_limit};
 ghost use Rattle.nv_base.specs.declared.object.ObjId.{ObjId};
 
-use crate::apply::{apply, apply_and_tell, change_nothing, undo_all};
+use crate::apply::{apply, apply_each, change_nothing, undo_all};
 use crate::changes::Changes;
 use crate::gone::Gone;
 use nb_limits::{Ceilings, amount};
@@ -103,15 +103,17 @@ impl Tables {
 
     /// Does what all edits of a line ask for, each of the network that those before it leave; at the first that is
     /// refused the line is refused as that one (not from OVN: ovn-nbctl(8) runs the commands of one call as one
-    /// transaction). Then, or where memory runs out, none is done. The answer is whether there may be a change, which ports of
-    /// switches are gone, and at which places records may have changed.
-    #[tactic(auto, using(crate::proofs::Undone::nothing_undone, crate::proofs::Undone::touched_alone, crate::proofs::Going::gone_since))]
+    /// transaction). Then, or where memory runs out, none is done. The answer is whether there may be a change, which
+    /// objects are gone, and at which places records may have changed.
+    #[tactic(auto, using(crate::proofs::Undone::nothing_undone, crate::proofs::Undone::touched_alone))]
     pub fn apply_all(&mut self, alloc: Global, edits: Items<Edit>) -> Result<Changes, LineFault>
         requires readable { AllByRecursion IsReadable edits }
         requires room { self.old.next + length edits < number_limit }
         ensures done { OnOk result (edited self.old edits ≡ Ok self.new) }
         ensures unchanged { IfOk result (λ changes. changes.any ≡ false → self.new ≡ self.old) }
-        ensures gone { IfOk result (λ changes. (n : ObjId) → is_among n changes.gone ≡ is_gone (port_ids self.old) (port_ids self.new) n) }
+        ensures gone_ports { IfOk result (λ changes. (n : ObjId) → is_among n changes.gone.ports ≡ is_gone (port_ids self.old) (port_ids self.new) n) }
+        ensures gone_router_ports { IfOk result (λ changes. (n : ObjId) → is_among n changes.gone.router_ports ≡ is_gone (router_port_ids self.old) (router_port_ids self.new) n) }
+        ensures gone_routers { IfOk result (λ changes. (n : ObjId) → is_among n changes.gone.routers ≡ is_gone (router_ids self.old) (router_ids self.new) n) }
         ensures touched { IfOk result (λ changes. AreSameBut changes.touched self.old self.new) }
         ensures rising { IfOk result (λ changes. PlacesRise changes.touched) }
         ensures refused { IfErr result (λ fault. IsFaultOf (edited self.old edits) fault) }
@@ -121,7 +123,7 @@ impl Tables {
         let mut gone = Gone::new(alloc, &self.records);
         let before = self.known;
         let edits = edits.into_items();
-        match apply_and_tell(
+        match apply_each(
             alloc,
             &mut self.records,
             &mut self.known,
@@ -131,7 +133,7 @@ impl Tables {
         ) {
             Ok(touched) => Ok(Changes {
                 any: !change_nothing(&undos),
-                gone: gone.numbers,
+                gone: gone.objects,
                 touched,
             }),
             Err(fault) => {

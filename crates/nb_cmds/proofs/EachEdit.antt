@@ -6,7 +6,7 @@ use Rattle.nb_records.specs.declared.edit.Edit.{Edit}
 use Rattle.nb_words.specs.Commands.{read_commands}
 use Rattle.nb_words.specs.declared.command.Command.{Command}
 use Rattle.nb_model.proofs.Reading.{goes_on, goes_on_anyway}
-use Rattle.nb_cmds.specs.Built.{edit_of}
+use Rattle.nb_edit.specs.Commands.{read_command}
 use Rattle.nb_cmds.specs.Lines.{task, beside, edit_beside, edits, sole, said, read_line}
 use Rattle.nb_cmds.specs.Queries.{no_other_option, asked}
 use Rattle.nb_cmds.specs.declared.line.Line.{Line}
@@ -16,7 +16,7 @@ use Rattle.nb_cmds.specs.declared.task.Task.TheVariants as task
 
 -- it holds of the edit that the command asks for, if it edits
 abbrev pub HoldsAs : (Edit → Type 0) → Command → Task → Type 0
-HoldsAs P c (task.Edit verb) = IfOk (edit_of verb c) P
+HoldsAs P c (task.Edit verb) = IfOk (read_command c) P
 HoldsAs P c (task.Query question) = Unit {0}
 
 -- it holds of each edit that the line asks for
@@ -43,7 +43,7 @@ module _ (P : Edit → Type 0) (given : (c : Command) → IfOk (task c) (HoldsAs
       goes_on P (AllByRecursion P) (edit_beside c) _ (beside_given c) (λ e is. edits_given (before ++ e ∷ []) commands (one_more P before e are is))
 
   sole_given : (c : Command) (t : Task) → HoldsAs P c t → IfOk (sole c t) (HoldsOfEach P)
-  sole_given c (task.Edit verb) holds = goes_on P (HoldsOfEach P) (edit_of verb c) _ holds (λ e is. (is, tt))
+  sole_given c (task.Edit verb) holds = goes_on P (HoldsOfEach P) (read_command c) _ holds (λ e is. (is, tt))
   sole_given c (task.Query question) holds = goes_on_anyway (HoldsOfEach P) (asked question c) _ (λ q. tt)
 
   said_given : (commands : List Command) → IfOk (said commands) (HoldsOfEach P)

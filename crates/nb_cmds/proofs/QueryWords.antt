@@ -7,12 +7,11 @@ use Rattle.nb_records.specs.declared.refusal.Refusal.TheVariants.{WrongWords}
 use Rattle.nb_words.specs.Commands.{read_commands}
 use Rattle.nb_words.specs.declared.command.Command.{Command}
 use Rattle.nb_words.specs.declared.word.Word.{Word}
-use Rattle.nb_edit.specs.Commands.{option_count}
+use Rattle.nb_edit.specs.Commands.{option_count, read_command}
 use Rattle.nb_read.specs.Readings.{object_name}
 use Rattle.nb_model.proofs.Reading.{goes_on, goes_on_anyway, not_refused}
 use Rattle.nb_model.proofs.WordReadings.{object_name_given}
 use Rattle.pkt_core.specs.Packet.{IsPacket}
-use Rattle.nb_cmds.specs.Built.{edit_of}
 use Rattle.nb_cmds.specs.Lines.{task, edits, sole, said, read_line}
 use Rattle.nb_cmds.specs.Microflows.{micro_of}
 use Rattle.nb_cmds.specs.Queries.{asked, minimal_after, no_other_option, query_of, trace, trace_of, traced}
@@ -68,12 +67,18 @@ query_given question.CtList options number (name ∷ word ∷ words) = tt
 query_given question.CtFlush options number [] = tt
 query_given question.CtFlush options number (name ∷ []) = tt
 query_given question.CtFlush options number (name ∷ word ∷ words) = tt
+query_given question.NbrList options number [] = tt
+query_given question.NbrList options number (name ∷ []) = tt
+query_given question.NbrList options number (name ∷ word ∷ words) = tt
+query_given question.NbrFlush options number [] = tt
+query_given question.NbrFlush options number (name ∷ []) = tt
+query_given question.NbrFlush options number (name ∷ word ∷ words) = tt
 query_given question.Dump options number [] = tt
 query_given question.Dump options number (name ∷ []) = tt
 query_given question.Dump options number (name ∷ word ∷ words) = tt
 
 sole_given : (c : Command) (t : Task) → IfOk (sole c t) AsksWellRead
-sole_given c (task.Edit verb) = goes_on_anyway AsksWellRead (edit_of verb c) _ (λ e. tt)
+sole_given c (task.Edit verb) = goes_on_anyway AsksWellRead (read_command c) _ (λ e. tt)
 sole_given c (task.Query asks) =
     goes_on IsWellRead AsksWellRead (asked asks c) _
     (goes_on_anyway IsWellRead (no_other_option asks c) _ (λ none. query_given asks (option_count c.words) (c.first + option_count c.words) (drop (option_count c.words) c.words)))

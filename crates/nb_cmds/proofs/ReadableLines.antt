@@ -1,17 +1,12 @@
 -- The edits that a line asks for are readable.
-use Rattle.std.proofs.Common.{◌≡◌, ◌+◌, ℕ, List, Option, Some, None, Result, Ok, Err, IfOk, refl, take}
+use Rattle.std.proofs.Common.{◌≡◌, ℕ, List, Result, Ok, Err, IfOk, refl}
 use Rattle.std.specs.List.{AllByRecursion}
 use Rattle.nb_records.specs.declared.edit.Edit.{Edit}
 use Rattle.nb_records.specs.declared.refusal.Refusal.{Refusal}
-use Rattle.nb_records.specs.declared.refusal.Refusal.TheVariants.{NotInProfile}
-use Rattle.nb_words.specs.Commands.{command}
 use Rattle.nb_words.specs.declared.command.Command.{Command}
 use Rattle.nb_edit.specs.Commands.{read_command}
-use Rattle.nb_edit.specs.declared.verb.Verb.{Verb}
 use Rattle.nb_model.specs.Readable.{IsReadable}
 use Rattle.nb_cmds.proofs.CommandReadings.{command_readable}
-use Rattle.nb_model.proofs.Reading.{goes_on_anyway}
-use Rattle.nb_cmds.specs.Built.{unbuilt_word, built}
 use Rattle.nb_cmds.specs.Lines.{task, read_line}
 use Rattle.nb_cmds.specs.declared.line.Line.TheVariants as line
 use Rattle.nb_cmds.specs.declared.task.Task.{Task}
@@ -25,15 +20,11 @@ command_given c = by (read_command c) refl
     by (Ok e) is = command_readable c e is
     by (Err refusal) is = tt
 
-built_given : (c : Command) (place : Option ℕ) → IfOk (built c place) IsReadable
-built_given c None = command_given c
-built_given c (Some place) = goes_on_anyway IsReadable (read_command (command c.first (take (place + 1) c.words))) (λ e. Err (NotInProfile (c.first + place))) (λ e. tt)
-
 task_given : (c : Command) → IfOk (task c) (HoldsAs IsReadable c)
 task_given c = by (task c)
   where
     holds : (t : Task) → HoldsAs IsReadable c t
-    holds (task.Edit verb) = built_given c (unbuilt_word verb c.words)
+    holds (task.Edit verb) = command_given c
     holds (task.Query question) = tt
 
     by : (r : Result Task Refusal) → IfOk r (HoldsAs IsReadable c)

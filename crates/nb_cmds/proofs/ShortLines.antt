@@ -13,9 +13,8 @@ use Rattle.nb_words.specs.Words.{words_of}
 use Rattle.nb_words.specs.declared.command.Command.{Command}
 use Rattle.nb_words.specs.declared.word.Word.{Word}
 use Rattle.nb_words.proofs.Counts.{no_more_words}
-use Rattle.nb_edit.specs.Commands.{option_count}
+use Rattle.nb_edit.specs.Commands.{option_count, read_command}
 use Rattle.nb_model.proofs.Reading.{both_ways, goes_on, goes_on_anyway, not_refused}
-use Rattle.nb_cmds.specs.Built.{edit_of}
 use Rattle.nb_cmds.specs.Lines.{task, task_by, beside, edit_beside, edits, sole, said, read_line}
 use Rattle.nb_cmds.specs.Queries.{asked}
 use Rattle.nb_cmds.specs.declared.line.Line.{Line}
@@ -62,7 +61,7 @@ edits_each before (c ∷ commands) = goes_on_anyway (λ list. length list ≡ le
 
 module _ (n : ℕ) where
   sole_few : (c : Command) (t : Task) → 1 ≤ n → IfOk (sole c t) (AsksFew n)
-  sole_few c (task.Edit verb) few = goes_on_anyway (AsksFew n) (edit_of verb c) _ (λ e. few)
+  sole_few c (task.Edit verb) few = goes_on_anyway (AsksFew n) (read_command c) _ (λ e. few)
   sole_few c (task.Query question) few = goes_on_anyway (AsksFew n) (asked question c) _ (λ q. tt)
 
   edits_few : (c : Command) (commands : List Command) → AreFew n (c ∷ commands) → IfOk (edits [] (c ∷ commands)) (λ list. length list ≤ n)

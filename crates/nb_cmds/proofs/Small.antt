@@ -1,10 +1,10 @@
 -- Small commands.
-use Rattle.std.proofs.Common.{◌≡◌, ◌≤◌, ◌<◌, ◌^◌, ◌+◌, ◌&&◌, Bool, true, false, ℕ, zero, suc, List, [], ◌∷◌, length, take, drop, nat_lt, arith, refl}
+use Rattle.std.proofs.Common.{◌≡◌, ◌<◌, ◌^◌, ◌+◌, ◌&&◌, Bool, true, false, ℕ, zero, suc, List, [], ◌∷◌, length, take, drop, nat_lt, refl}
 use Rattle.std.specs.List.{list_all}
-use Rattle.std.proofs.lemmas.Bool.{lt-ltb, ltb-true}
+use Rattle.std.proofs.lemmas.Bool.{ltb-true}
 use Rattle.nb_words.specs.declared.word.Word.{Word}
 use Rattle.nb_words.specs.declared.command.Command.{Command}
-use Rattle.nb_words.specs.Commands.{command, is_short, is_small}
+use Rattle.nb_words.specs.Commands.{is_short, is_small}
 
 both : (a b : Bool) → (a && b) ≡ true → (a ≡ true) × (b ≡ true)
 both true b e = (refl, e)
@@ -26,21 +26,6 @@ front_short (suc n) [] short = refl
 front_short (suc n) (word ∷ words) short =
     let parts = both (is_short word) (list_all is_short words) short in
     all (is_short word) (list_all is_short (take n words)) parts.0 (front_short n words parts.1)
-
-front_fewer : (n : ℕ) (words : List Word) → length (take n words) ≤ length words
-front_fewer zero words = omega arith
-front_fewer (suc n) [] = omega arith
-front_fewer (suc n) (word ∷ words) = let rest = front_fewer n words in omega arith
-
-less : (first n m limit : ℕ) → n ≤ m → first + m < limit → first + n < limit
-less first n m limit few small = omega arith
-
--- the first words of a small command are a small one
-pub front_is_small : (n : ℕ) (c : Command) → is_small c ≡ true → is_small (command c.first (take n c.words)) ≡ true
-front_is_small n c small =
-    all (nat_lt (c.first + length (take n c.words)) (2 ^ 32)) (list_all is_short (take n c.words))
-    (lt-ltb (c.first + length (take n c.words)) (2 ^ 32) (less c.first (length (take n c.words)) (length c.words) (2 ^ 32) (front_fewer n c.words) (has_small_numbers c small)))
-    (front_short n c.words ((both (nat_lt (c.first + length c.words) (2 ^ 32)) (list_all is_short c.words) small).1))
 
 pub all_are_short : (c : Command) → is_small c ≡ true → list_all is_short c.words ≡ true
 all_are_short c small = (both (nat_lt (c.first + length c.words) (2 ^ 32)) (list_all is_short c.words) small).1

@@ -8,8 +8,7 @@ use Rattle.nb_words.specs.Commands.{read_commands}
 use Rattle.nb_words.specs.declared.command.Command.{Command}
 use Rattle.nb_words.specs.declared.word.Word.{Word}
 use Rattle.nb_read.specs.Then.{and_then}
-use Rattle.nb_edit.specs.Commands.{option_count}
-use Rattle.nb_cmds.specs.Built.{edit_of}
+use Rattle.nb_edit.specs.Commands.{option_count, read_command}
 use Rattle.nb_cmds.specs.Queries.{no_other_option, asked}
 use Rattle.nb_cmds.specs.Tasks.{task_of}
 use Rattle.nb_cmds.specs.declared.line.Line.{Line}
@@ -28,7 +27,7 @@ task c = task_by (c.first + option_count c.words) (slice_get c.words (option_cou
 
 -- the edit that a command asks for beside others: no query stands there
 abbrev pub beside : Command → Task → Result edit.Edit Refusal
-beside c (Edit verb) = edit_of verb c
+beside c (Edit verb) = read_command c
 beside c (Query question) = and_then (no_other_option question c) (λ none. Err WrongWords)
 
 unfoldable pub edit_beside : Command → Result edit.Edit Refusal
@@ -41,7 +40,7 @@ edits before (c ∷ commands) = and_then (edit_beside c) (λ e. edits (before ++
 
 -- what a command says that is alone in its line
 abbrev pub sole : Command → Task → Result Line Refusal
-sole c (Edit verb) = and_then (edit_of verb c) (λ e. Ok (line.Edits (e ∷ [])))
+sole c (Edit verb) = and_then (read_command c) (λ e. Ok (line.Edits (e ∷ [])))
 sole c (Query question) = and_then (asked question c) (λ q. Ok (line.Query q))
 
 abbrev pub alone : Command → Result Line Refusal

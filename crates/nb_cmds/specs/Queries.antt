@@ -9,7 +9,7 @@ use Rattle.nb_edit.specs.Commands.{option_count}
 use Rattle.nb_read.specs.Readings.{object_name}
 use Rattle.nb_cmds.specs.Microflows.{micro_of}
 use Rattle.nb_cmds.specs.declared.query.Query.{Query}
-use Rattle.nb_cmds.specs.declared.query.Query.TheVariants.{FlowList, Trace, CtList, CtFlush, Dump}
+use Rattle.nb_cmds.specs.declared.query.Query.TheVariants.{FlowList, Trace, CtList, CtFlush, NbrList, NbrFlush, Dump}
 use Rattle.nb_cmds.specs.Tasks.{is_minimal, takes}
 use Rattle.nb_cmds.specs.declared.task.Question.{Question}
 use Rattle.nb_cmds.specs.declared.task.Question.TheVariants as question
@@ -50,6 +50,8 @@ query_of question.FlowList options number (name ∷ datapath ∷ []) = and_then 
 query_of question.Trace options number (name ∷ words) = trace options (number + 1) words
 query_of question.CtList options number (name ∷ []) = Ok CtList
 query_of question.CtFlush options number (name ∷ []) = Ok CtFlush
+query_of question.NbrList options number (name ∷ []) = Ok NbrList
+query_of question.NbrFlush options number (name ∷ []) = Ok NbrFlush
 query_of question.Dump options number (name ∷ []) = Ok Dump
 query_of _ options number words = Err WrongWords
 

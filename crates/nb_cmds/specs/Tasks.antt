@@ -3,19 +3,21 @@ use Rattle.std.specs.Prelude.{ℕ, Bool, false, List, [], ◌∷◌, Option, cod
 use Rattle.std.specs.List.{find}
 use Rattle.std.specs.Str.{bytes_eq}
 use Rattle.nb_edit.specs.Forms.{form}
-use Rattle.nb_edit.specs.declared.verb.Verb.TheVariants.{LsAdd, LsDel, LspAdd, LspDel, LspSetAddresses, LspSetPortSecurity, LspSetEnabled, AclAdd, AclDel, PgAdd, PgSetPorts, PgDel, AsAdd, AsSet, AsDel}
+use Rattle.nb_edit.specs.declared.verb.Verb.TheVariants.{LsAdd, LsDel, LspAdd, LspDel, LspSetAddresses, LspSetPortSecurity, LspSetType, LspSetOptions, LspSetEnabled, LrAdd, LrDel, LrpAdd, LrpDel, LrpSetEnabled, LrRouteAdd, LrRouteDel, AclAdd, AclDel, PgAdd, PgSetPorts, PgDel, AsAdd, AsSet, AsDel, SmbAdd, SmbDel}
 use Rattle.nb_words.specs.declared.word.Word.{Word}
 use Rattle.nb_cmds.specs.declared.task.Question.{Question}
-use Rattle.nb_cmds.specs.declared.task.Question.TheVariants.{FlowList, Trace, CtList, CtFlush, Dump}
+use Rattle.nb_cmds.specs.declared.task.Question.TheVariants.{FlowList, Trace, CtList, CtFlush, NbrList, NbrFlush, Dump}
 use Rattle.nb_cmds.specs.declared.task.Task.{Task}
 use Rattle.nb_cmds.specs.declared.task.Task.TheVariants.{Edit, Query}
 
 -- all that is built: commands that edit, then queries
 unfoldable pub tasks : List Task
 tasks =
-    Edit LsAdd ∷ Edit LsDel ∷ Edit LspAdd ∷ Edit LspDel ∷ Edit LspSetAddresses ∷ Edit LspSetPortSecurity ∷ Edit LspSetEnabled ∷
-    Edit AclAdd ∷ Edit AclDel ∷ Edit PgAdd ∷ Edit PgSetPorts ∷ Edit PgDel ∷ Edit AsAdd ∷ Edit AsSet ∷ Edit AsDel ∷
-    Query FlowList ∷ Query Trace ∷ Query CtList ∷ Query CtFlush ∷ Query Dump ∷ []
+    Edit LsAdd ∷ Edit LsDel ∷ Edit LspAdd ∷ Edit LspDel ∷ Edit LspSetAddresses ∷ Edit LspSetPortSecurity ∷ Edit LspSetType ∷ Edit LspSetOptions ∷ Edit LspSetEnabled ∷
+    Edit LrAdd ∷ Edit LrDel ∷ Edit LrpAdd ∷ Edit LrpDel ∷ Edit LrpSetEnabled ∷ Edit LrRouteAdd ∷ Edit LrRouteDel ∷
+    Edit AclAdd ∷ Edit AclDel ∷ Edit PgAdd ∷ Edit PgSetPorts ∷ Edit PgDel ∷
+    Edit AsAdd ∷ Edit AsSet ∷ Edit AsDel ∷ Edit SmbAdd ∷ Edit SmbDel ∷
+    Query FlowList ∷ Query Trace ∷ Query CtList ∷ Query CtFlush ∷ Query NbrList ∷ Query NbrFlush ∷ Query Dump ∷ []
 
 -- the name of a command, or of a query
 abbrev pub task_name : Task → List ℕ
@@ -24,6 +26,8 @@ task_name (Query FlowList) = codes "lflow-list"
 task_name (Query Trace) = codes "trace"
 task_name (Query CtList) = codes "ct-list"
 task_name (Query CtFlush) = codes "ct-flush"
+task_name (Query NbrList) = codes "nbr-list"
+task_name (Query NbrFlush) = codes "nbr-flush"
 task_name (Query Dump) = codes "dump"
 
 -- this is its name

@@ -17,8 +17,7 @@ pub fn lines_ask_for_readable_edits()
     ensures { (text : List ℕ) (list : List Edit) → read_line text ≡ Ok (Edits list) → AllByRecursion IsReadable list }
 {}
 
-/// Each edit that a line asks for is one of switches, of their ports, of ACLs, address sets or port groups: the others are not
-/// built.
+/// No edit that a line asks for is of NAT rules or load balancers: these are not built.
 #[tactic(auto, using(crate::proofs::BuiltLines::line_built))]
 pub fn lines_ask_for_built_edits()
     ensures { (text : List ℕ) (list : List Edit) → read_line text ≡ Ok (Edits list) → AllByRecursion IsBuilt list }

@@ -1,7 +1,6 @@
 //! What a line of the script says: edits, or a query; and what the names of commands and queries ask for.
 #![tactic(auto)]
 
-mod built;
 mod laws;
 mod line;
 mod microflow;

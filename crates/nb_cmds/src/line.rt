@@ -5,10 +5,9 @@ ghost use Rattle.nb_words.specs.Commands.{is_small};
 ghost use Rattle.nb_words.specs.Fault.{IsFaultOf};
 ghost use Rattle.nb_cmds.specs.Lines.{task, edit_beside, edits, alone, said, read_line};
 
-use crate::built::edit_of;
 use crate::query::{Query, asked, no_other_option};
 use crate::task::{Task, task_of};
-use nb_edit::option_count;
+use nb_edit::{option_count, read_command};
 use nb_records::{Edit, Refusal};
 use nb_words::{Command, LineFault, read_commands};
 use nv_base::{Items, OutOfMemory};
@@ -51,7 +50,7 @@ fn edit_beside(alloc: Global, command: &Command) -> Result<Edit, LineFault>
     ensures refused { IfErr result (λ fault. IsFaultOf (edit_beside command.now) fault) }
 {
     match task(command)? {
-        Task::Edit(verb) => edit_of(alloc, verb, command),
+        Task::Edit(_) => read_command(alloc, command),
         Task::Query(question) => {
             no_other_option(question, command)?;
             Err(LineFault::Refused(Refusal::WrongWords))
@@ -88,8 +87,8 @@ fn alone(alloc: Global, command: &Command) -> Result<Line, LineFault>
     ensures refused { IfErr result (λ fault. IsFaultOf (alone command.now) fault) }
 {
     match task(command)? {
-        Task::Edit(verb) => {
-            let edit = edit_of(alloc, verb, command)?;
+        Task::Edit(_) => {
+            let edit = read_command(alloc, command)?;
             Ok(one_edit(alloc, edit)?)
         }
         Task::Query(question) => {

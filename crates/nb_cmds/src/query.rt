@@ -33,6 +33,10 @@ pub enum Query {
     CtList,
     /// `ct-flush`: from now on none is tracked (modelled on `dpctl/flush-conntrack` of ovs-appctl(8)).
     CtFlush,
+    /// `nbr-list`: what routers have learnt of their neighbours (modelled on the table MAC_Binding of ovn-sb(5)).
+    NbrList,
+    /// `nbr-flush`: from now on they know none (modelled on the table MAC_Binding of ovn-sb(5)).
+    NbrFlush,
     /// `dump`: the network (not from OVN).
     Dump,
 }
@@ -157,6 +161,8 @@ fn query_of(
         (Question::Trace, [_, words @ ..]) => trace(alloc, options, number + 1, words),
         (Question::CtList, [_]) => Ok(Query::CtList),
         (Question::CtFlush, [_]) => Ok(Query::CtFlush),
+        (Question::NbrList, [_]) => Ok(Query::NbrList),
+        (Question::NbrFlush, [_]) => Ok(Query::NbrFlush),
         (Question::Dump, [_]) => Ok(Query::Dump),
         _ => Err(LineFault::Refused(Refusal::WrongWords)),
     }

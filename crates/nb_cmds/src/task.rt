@@ -16,6 +16,10 @@ pub enum Question {
     CtList,
     /// `ct-flush`, modelled on `dpctl/flush-conntrack` of ovs-appctl(8).
     CtFlush,
+    /// `nbr-list`, modelled on the table MAC_Binding of ovn-sb(5).
+    NbrList,
+    /// `nbr-flush`, modelled on the table MAC_Binding of ovn-sb(5).
+    NbrFlush,
     /// `dump`, which is not from OVN.
     Dump,
 }
@@ -30,14 +34,23 @@ pub enum Task {
 }
 
 // The table.
-static TASKS: [Task; 20] = [
+static TASKS: [Task; 33] = [
     Task::Edit(Verb::LsAdd),
     Task::Edit(Verb::LsDel),
     Task::Edit(Verb::LspAdd),
     Task::Edit(Verb::LspDel),
     Task::Edit(Verb::LspSetAddresses),
     Task::Edit(Verb::LspSetPortSecurity),
+    Task::Edit(Verb::LspSetType),
+    Task::Edit(Verb::LspSetOptions),
     Task::Edit(Verb::LspSetEnabled),
+    Task::Edit(Verb::LrAdd),
+    Task::Edit(Verb::LrDel),
+    Task::Edit(Verb::LrpAdd),
+    Task::Edit(Verb::LrpDel),
+    Task::Edit(Verb::LrpSetEnabled),
+    Task::Edit(Verb::LrRouteAdd),
+    Task::Edit(Verb::LrRouteDel),
     Task::Edit(Verb::AclAdd),
     Task::Edit(Verb::AclDel),
     Task::Edit(Verb::PgAdd),
@@ -46,17 +59,21 @@ static TASKS: [Task; 20] = [
     Task::Edit(Verb::AsAdd),
     Task::Edit(Verb::AsSet),
     Task::Edit(Verb::AsDel),
+    Task::Edit(Verb::SmbAdd),
+    Task::Edit(Verb::SmbDel),
     Task::Query(Question::FlowList),
     Task::Query(Question::Trace),
     Task::Query(Question::CtList),
     Task::Query(Question::CtFlush),
+    Task::Query(Question::NbrList),
+    Task::Query(Question::NbrFlush),
     Task::Query(Question::Dump),
 ];
 
 impl Task {
     /// All that is built.
     #[tactic(auto, unfolding(crate::specs::Tasks::tasks))]
-    pub fn all() -> &'static [Task; 20]
+    pub fn all() -> &'static [Task; 33]
         ensures { result.now ≡ tasks }
     {
         &TASKS
@@ -72,6 +89,8 @@ impl Task {
             Task::Query(Question::Trace) => "trace",
             Task::Query(Question::CtList) => "ct-list",
             Task::Query(Question::CtFlush) => "ct-flush",
+            Task::Query(Question::NbrList) => "nbr-list",
+            Task::Query(Question::NbrFlush) => "nbr-flush",
             Task::Query(Question::Dump) => "dump",
         }
     }
@@ -104,6 +123,11 @@ pub(crate) fn takes(question: Question, word: &Word) -> bool
 {
     match question {
         Question::Trace => is_minimal(word),
-        Question::FlowList | Question::CtList | Question::CtFlush | Question::Dump => false,
+        Question::FlowList
+        | Question::CtList
+        | Question::CtFlush
+        | Question::NbrList
+        | Question::NbrFlush
+        | Question::Dump => false,
     }
 }

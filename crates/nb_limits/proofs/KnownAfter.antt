@@ -1,31 +1,50 @@
 -- What is known of a network after an edit is so.
-use Rattle.std.proofs.Common.{◌≡◌, ℕ, ◌≤◌, Bool, true, false, cond, not, nat_lt, List, [], ◌∷◌, Option, Some, None, arith, refl, subst, length}
+use Rattle.std.proofs.Common.{◌≡◌, ℕ, ◌+◌, ◌*◌, ◌≤◌, ◌++◌, map, Bool, true, false, cond, not, nat_lt, List, [], ◌∷◌, Option, Some, None, arith, refl, sym, ap, subst, length}
 use Rattle.std.proofs.lemmas.Bool.Decides.{nat_tests}
-use Rattle.std.specs.Prelude.{find, option_map}
+use Rattle.std.specs.Prelude.{IsTrue, find, is_some, option_map, unwrap_or}
 use Rattle.std.specs.List.{AllByRecursion}
+use Rattle.std.specs.Str.{bytes_eq}
 use Rattle.expr_core.specs.Formula.{Formula}
 use Rattle.expr_core.specs.Text.{typed_text}
 use Rattle.expr_core.specs.declared.typed.TypedAtom.{TypedAtom}
 use Rattle.nv_base.specs.declared.object.ObjId.{ObjId}
 use Rattle.nb_records.specs.declared.acl.Acl.{Acl}
+use Rattle.nb_records.specs.declared.balancer.Lb.{Lb}
+use Rattle.nb_records.specs.declared.balancer.Proto.TheVariants.{Tcp}
+use Rattle.nb_records.specs.declared.router.Router.{Router}
+use Rattle.nb_records.specs.declared.router.RouterPort.{RouterPort}
+use Rattle.nb_records.specs.declared.switch.Addr.{Addr}
+use Rattle.nb_records.specs.declared.switch.Port.{Port}
+use Rattle.nb_records.specs.declared.switch.PortKind.{PortKind}
+use Rattle.nb_records.specs.declared.switch.PortKind.TheVariants as port_kind
+use Rattle.nb_records.specs.declared.switch.Switch.{Switch}
 use Rattle.nb_records.specs.declared.edit.Edit.{Edit}
 use Rattle.nb_records.specs.declared.edit.Edit.TheVariants as edit
 use Rattle.nb_records.specs.declared.refusal.Kind.{Kind}
 use Rattle.nb_records.specs.declared.refusal.Kind.TheVariants as kind
 use Rattle.nb_records.specs.declared.refusal.Refusal.TheVariants.{Limit}
-use Rattle.nb_model.specs.Amounts.{amount, bound, kinds}
+use Rattle.nb_model.specs.Amounts.{amount, bound, kinds, total, ip_count}
 use Rattle.nb_model.specs.Applies.{switches_of_acl}
-use Rattle.nb_model.specs.Belongs.{owner_id}
-use Rattle.nb_model.specs.Effect.{effect, where_there, add_acl, new_vip}
-use Rattle.nb_model.specs.Network.{Network, next_number}
-use Rattle.nb_model.specs.Sound.{IsSound}
+use Rattle.nb_model.specs.Belongs.{owner_id, is_router_kind}
+use Rattle.nb_model.specs.Effect.{effect, each_where, where_there, add_acl, delete_port, new_vip, set_port, set_router_lbs, set_switch_lbs, with_number}
+use Rattle.nb_model.specs.Network.{Network, lb_id, lb_named, next_number, port_named}
+use Rattle.nb_model.specs.Readable.{are_apart}
+use Rattle.nb_model.specs.Sound.{AreNumbered, IsSound, Refer}
 use Rattle.nb_model.proofs.RisesEdits.{edit_falls}
+use Rattle.nb_model.proofs.Totals.{le_self}
+use Rattle.nb_store.proofs.PlacedRecords.{apart_first, rises}
+use Rattle.nv_table.specs.Table.{record_of}
 use Rattle.nb_limits.specs.declared.ceilings.Ceilings.{Ceilings}
 use Rattle.nb_limits.specs.Ceilings.{IsCeiling, AreCeilings}
-use Rattle.nb_limits.specs.inner.KnownAfter.{raised, with_acl, reach, known_after}
+use Rattle.nb_limits.specs.inner.KnownAfter.{raised, with_acl, reach, own_vips, vips_after, with_lb, peer_named, where_unnamed, without_kind, without_port, raised_by, with_addresses, known_after}
+use Rattle.nb_limits.specs.inner.Within.{up_to}
 use Rattle.nb_limits.specs.Limitless.{IsSoundButLimits}
 use Rattle.nb_limits.proofs.Fitting.{vip_fits, backends_fit}
+use Rattle.nb_limits.proofs.NewPorts.{port_fits}
+use Rattle.nb_limits.proofs.NewVips.{apart_last, new_alone, switch_more, router_more}
+use Rattle.nb_limits.proofs.PortNeighbours.{IsHosts, addresses_bring, hosts_leave}
 use Rattle.nb_limits.proofs.Raised.{more_switches, more_text, reached, raised_ceiling}
+use Rattle.nb_limits.proofs.Sums.{told}
 
 pub but_limits : (net : Network) → IsSound net → IsSoundButLimits net
 but_limits net sound = record { numbered = sound.numbered; named = sound.named; refers = sound.refers; apart = sound.apart; readable = sound.readable }
@@ -64,20 +83,61 @@ fits limit before after less low = grind (arith, nat_tests, less, low)
 module _ (net : Network) (known : Ceilings) (are : AreCeilings net known) where
   -- where none of the kinds rises
   kept : (after : Network) → amount after kind.AclSwitch ≤ amount net kind.AclSwitch → amount after kind.MatchText ≤ amount net kind.MatchText → amount after kind.Vip ≤ amount net kind.Vip
-      → amount after kind.Backend ≤ amount net kind.Backend → AreCeilings after known
-  kept after a b c d = record {
+      → amount after kind.Backend ≤ amount net kind.Backend → amount after kind.Neighbour ≤ amount net kind.Neighbour
+      → amount after kind.VipDatapath ≤ amount net kind.VipDatapath → AreCeilings after known
+  kept after a b c d e f = record {
     acl_switches = falls 65536 (amount net kind.AclSwitch) (amount after kind.AclSwitch) known.acl_switches a are.acl_switches;
     match_text = falls 67108864 (amount net kind.MatchText) (amount after kind.MatchText) known.match_text b are.match_text;
     vips = λ is. fits 64 (amount net kind.Vip) (amount after kind.Vip) c (are.vips is);
     backends = λ is. fits 64 (amount net kind.Backend) (amount after kind.Backend) d (are.backends is);
+    neighbours = falls 262144 (amount net kind.Neighbour) (amount after kind.Neighbour) known.neighbours e are.neighbours;
+    vip_datapaths = falls 16384 (amount net kind.VipDatapath) (amount after kind.VipDatapath) known.vip_datapaths f are.vip_datapaths;
   }
+
+  -- where there may be more neighbours
+  kept_but : (after : Network) (most : Option ℕ) → IsCeiling 262144 (amount after kind.Neighbour) most → amount after kind.AclSwitch ≤ amount net kind.AclSwitch
+      → amount after kind.MatchText ≤ amount net kind.MatchText → amount after kind.Vip ≤ amount net kind.Vip → amount after kind.Backend ≤ amount net kind.Backend
+      → amount after kind.VipDatapath ≤ amount net kind.VipDatapath → AreCeilings after (record known { neighbours = most })
+  kept_but after most within a b c d f = record {
+    acl_switches = falls 65536 (amount net kind.AclSwitch) (amount after kind.AclSwitch) known.acl_switches a are.acl_switches;
+    match_text = falls 67108864 (amount net kind.MatchText) (amount after kind.MatchText) known.match_text b are.match_text;
+    vips = λ is. fits 64 (amount net kind.Vip) (amount after kind.Vip) c (are.vips is);
+    backends = λ is. fits 64 (amount net kind.Backend) (amount after kind.Backend) d (are.backends is);
+    neighbours = within;
+    vip_datapaths = falls 16384 (amount net kind.VipDatapath) (amount after kind.VipDatapath) known.vip_datapaths f are.vip_datapaths;
+  }
+
+  -- where a load balancer is attached to one datapath more
+  one_attached : (after : ObjId → Network) (found : Option ObjId)
+      → ((n : ObjId) → amount (after n) kind.VipDatapath ≤ amount net kind.VipDatapath + own_vips (record_of (λ (lb : Lb). lb.id) n net.lbs) * 1)
+      → amount (where_there found after net) kind.AclSwitch ≤ amount net kind.AclSwitch → amount (where_there found after net) kind.MatchText ≤ amount net kind.MatchText
+      → amount (where_there found after net) kind.Vip ≤ amount net kind.Vip → amount (where_there found after net) kind.Backend ≤ amount net kind.Backend
+      → amount (where_there found after net) kind.Neighbour ≤ amount net kind.Neighbour → AreCeilings (where_there found after net) (with_lb net known found)
+  one_attached after None rise a b c d e = are
+  one_attached after (Some n) rise a b c d e = record {
+    acl_switches = falls 65536 (amount net kind.AclSwitch) (amount (after n) kind.AclSwitch) known.acl_switches a are.acl_switches;
+    match_text = falls 67108864 (amount net kind.MatchText) (amount (after n) kind.MatchText) known.match_text b are.match_text;
+    vips = λ is. fits 64 (amount net kind.Vip) (amount (after n) kind.Vip) c (are.vips is);
+    backends = λ is. fits 64 (amount net kind.Backend) (amount (after n) kind.Backend) d (are.backends is);
+    neighbours = falls 262144 (amount net kind.Neighbour) (amount (after n) kind.Neighbour) known.neighbours e are.neighbours;
+    vip_datapaths = raised_ceiling 16384 (amount net kind.VipDatapath) (amount (after n) kind.VipDatapath) known.vip_datapaths (own_vips (record_of (λ (lb : Lb). lb.id) n net.lbs)) 1 1
+        are.vip_datapaths (rise n) (le_self 1);
+  }
+
+  -- where there is a VIP more
+  one_vip : AreNumbered net → Refer net → (changed : Network) (new : Lb) → new.id ≡ next_number net → (found : Option Lb)
+      → IsCeiling 16384 (amount (cond (is_some found) changed (record net { lbs = net.lbs ++ new ∷ []; next = net.next + 1 })) kind.VipDatapath) (vips_after found known.vip_datapaths)
+  one_vip numbered refers changed new is_new None =
+      falls 16384 (amount net kind.VipDatapath) (amount (record net { lbs = net.lbs ++ new ∷ []; next = net.next + 1 }) kind.VipDatapath) known.vip_datapaths (new_alone net numbered refers new is_new) are.vip_datapaths
+  one_vip numbered refers changed new is_new (Some lb) = tt
 
   -- where there is an ACL more
   one_acl : IsSoundButLimits net → (acl : ObjId → Acl) (matching : Formula TypedAtom) → ((owner : ObjId) → (acl owner).owner ≡ owner) → ((owner : ObjId) → (acl owner).matching ≡ matching) → (found : Option ObjId)
       → amount (where_there found (λ owner. add_acl net (acl owner)) net) kind.Vip ≤ amount net kind.Vip → amount (where_there found (λ owner. add_acl net (acl owner)) net) kind.Backend ≤ amount net kind.Backend
-      → AreCeilings (where_there found (λ owner. add_acl net (acl owner)) net) (with_acl net known found matching)
-  one_acl limitless acl matching owns says None c d = are
-  one_acl limitless acl matching owns says (Some owner) c d =
+      → amount (where_there found (λ owner. add_acl net (acl owner)) net) kind.Neighbour ≤ amount net kind.Neighbour
+      → amount (where_there found (λ owner. add_acl net (acl owner)) net) kind.VipDatapath ≤ amount net kind.VipDatapath → AreCeilings (where_there found (λ owner. add_acl net (acl owner)) net) (with_acl net known found matching)
+  one_acl limitless acl matching owns says None c d e f = are
+  one_acl limitless acl matching owns says (Some owner) c d e f =
       let low = subst (λ (n : ObjId). length (switches_of_acl net (acl owner)) ≤ reach net n) (owns owner) (reached net limitless (acl owner)) in
       record {
         acl_switches = raised_ceiling 65536 (amount net kind.AclSwitch) (amount (add_acl net (acl owner)) kind.AclSwitch) known.acl_switches 1 (length (switches_of_acl net (acl owner))) (reach net owner)
@@ -87,7 +147,42 @@ module _ (net : Network) (known : Ceilings) (are : AreCeilings net known) where
             are.match_text (more_text net (acl owner)) low);
         vips = λ is. fits 64 (amount net kind.Vip) (amount (add_acl net (acl owner)) kind.Vip) c (are.vips is);
         backends = λ is. fits 64 (amount net kind.Backend) (amount (add_acl net (acl owner)) kind.Backend) d (are.backends is);
+        neighbours = falls 262144 (amount net kind.Neighbour) (amount (add_acl net (acl owner)) kind.Neighbour) known.neighbours e are.neighbours;
+        vip_datapaths = falls 16384 (amount net kind.VipDatapath) (amount (add_acl net (acl owner)) kind.VipDatapath) known.vip_datapaths f are.vip_datapaths;
       }
+
+  -- where a port is gone
+  one_less : (name : List ℕ) → IsTrue (are_apart bytes_eq (map (λ (p : Port). p.name) net.ports)) → IsCeiling 262144 (amount (delete_port net name) kind.Neighbour) (without_port (port_named net name) known.neighbours)
+  one_less name apart = by (port_named net name) refl
+    where
+      less : IsHosts (port_named net name) → IsCeiling 262144 (amount (delete_port net name) kind.Neighbour) known.neighbours
+      less host = falls 262144 (amount net kind.Neighbour) (amount (delete_port net name) kind.Neighbour) known.neighbours (hosts_leave net name apart host) are.neighbours
+
+      of_kind : (port : Port) (own : PortKind) → port.kind ≡ own → port_named net name ≡ Some port → IsCeiling 262144 (amount (delete_port net name) kind.Neighbour) (without_kind own known.neighbours)
+      of_kind port port_kind.Host is found = less (subst IsHosts (sym found) (ap is_router_kind is))
+      of_kind port port_kind.Router is found = tt
+
+      by : (found : Option Port) → port_named net name ≡ found → IsCeiling 262144 (amount (delete_port net name) kind.Neighbour) (without_port found known.neighbours)
+      by None is = less (subst IsHosts (sym is) tt)
+      by (Some port) is = of_kind port port.kind refl is
+
+  -- where a port has other addresses
+  one_addressed : (name : List ℕ) (list : List Addr) → IsTrue (are_apart bytes_eq (map (λ (p : Port). p.name) net.ports))
+      → IsCeiling 262144 (amount (set_port net name (λ p. record p { addresses = list })) kind.Neighbour) (with_addresses net list known.neighbours)
+  one_addressed name list apart = by (up_to 262144 (total ip_count list)) refl
+    where
+      by : (more : Option ℕ) → up_to 262144 (total ip_count list) ≡ more
+          → IsCeiling 262144 (amount (set_port net name (λ p. record p { addresses = list })) kind.Neighbour) (raised_by 262144 known.neighbours more (length net.router_ports))
+      by None is = tt
+      by (Some more) is =
+          subst (λ n. IsCeiling 262144 (amount (set_port net name (λ p. record p { addresses = list })) kind.Neighbour) (raised 262144 known.neighbours n (length net.router_ports)))
+          (sym (told 262144 (total ip_count list) more (sym is)).0)
+          (raised_ceiling 262144 (amount net kind.Neighbour) (amount (set_port net name (λ p. record p { addresses = list })) kind.Neighbour) known.neighbours (total ip_count list) (length net.router_ports) (length net.router_ports)
+          are.neighbours (addresses_bring net name list apart) (le_self (length net.router_ports)))
+
+-- no two ports have one name
+ports_apart : (net : Network) → IsSound net → IsTrue (are_apart bytes_eq (map (λ (p : Port). p.name) net.ports))
+ports_apart net sound = apart_first bytes_eq (map (λ (p : Port). p.name) net.ports) (map (λ (p : RouterPort). p.name) net.router_ports) sound.named.ports
 
 few : (limit n : ℕ) → not (nat_lt limit n) ≡ true → nat_lt limit n ≡ false
 few limit n is = by (nat_lt limit n) is
@@ -100,7 +195,7 @@ pub known_holds : (net : Network) (known : Ceilings) (given : Edit) → IsSound 
 known_holds net known (edit.AclAdd name way priority matching verdict may of) sound are =
     let given = edit.AclAdd name way priority matching verdict may of in
     one_acl net known are (but_limits net sound) (λ owner. record { id = next_number net; owner = owner; way = way; priority = priority; matching = matching; verdict = verdict }) matching (λ owner. refl) (λ owner. refl)
-    (owner_id net of name) (edit_falls net given sound kind.Vip refl) (edit_falls net given sound kind.Backend refl)
+    (owner_id net of name) (edit_falls net given sound kind.Vip refl) (edit_falls net given sound kind.Backend refl) (edit_falls net given sound kind.Neighbour refl) (edit_falls net given sound kind.VipDatapath refl)
 known_holds net known (edit.PgSetPorts name ports) sound are =
     let given = edit.PgSetPorts name ports in
     record {
@@ -108,6 +203,8 @@ known_holds net known (edit.PgSetPorts name ports) sound are =
       match_text = tt;
       vips = λ is. fits 64 (amount net kind.Vip) (amount (effect net given) kind.Vip) (edit_falls net given sound kind.Vip refl) (are.vips is);
       backends = λ is. fits 64 (amount net kind.Backend) (amount (effect net given) kind.Backend) (edit_falls net given sound kind.Backend refl) (are.backends is);
+      neighbours = falls 262144 (amount net kind.Neighbour) (amount (effect net given) kind.Neighbour) known.neighbours (edit_falls net given sound kind.Neighbour refl) are.neighbours;
+      vip_datapaths = falls 16384 (amount net kind.VipDatapath) (amount (effect net given) kind.VipDatapath) known.vip_datapaths (edit_falls net given sound kind.VipDatapath refl) are.vip_datapaths;
     }
 known_holds net known (edit.LbAdd name at backends proto) sound are =
     let given = edit.LbAdd name at backends proto in
@@ -116,10 +213,52 @@ known_holds net known (edit.LbAdd name at backends proto) sound are =
       match_text = falls 67108864 (amount net kind.MatchText) (amount (effect net given) kind.MatchText) known.match_text (edit_falls net given sound kind.MatchText refl) are.match_text;
       vips = λ is. vip_fits net name (new_vip at backends) proto sound.named (vips_within net sound) is;
       backends = λ is. backends_fit net name (new_vip at backends) proto (backends_within net sound) (few 64 (length backends) is);
+      neighbours = falls 262144 (amount net kind.Neighbour) (amount (effect net given) kind.Neighbour) known.neighbours (edit_falls net given sound kind.Neighbour refl) are.neighbours;
+      vip_datapaths = one_vip net known are sound.numbered sound.refers (record net { lbs = each_where (λ lb. bytes_eq lb.name name) (λ lb. record lb { vips = lb.vips ++ new_vip at backends ∷ [] }) net.lbs })
+          (record { id = next_number net; name = name; proto = unwrap_or proto Tcp; vips = new_vip at backends ∷ [] }) refl (lb_named net name);
     }
-known_holds net known (edit.LspSetEnabled port true) sound are = let given = edit.LspSetEnabled port true in
-    kept net known are (effect net given) (edit_falls net given sound kind.AclSwitch refl) (edit_falls net given sound kind.MatchText refl) (edit_falls net given sound kind.Vip refl) (edit_falls net given sound kind.Backend refl)
-known_holds net known (edit.LspSetEnabled port false) sound are = let given = edit.LspSetEnabled port false in
-    kept net known are (effect net given) (edit_falls net given sound kind.AclSwitch refl) (edit_falls net given sound kind.MatchText refl) (edit_falls net given sound kind.Vip refl) (edit_falls net given sound kind.Backend refl)
+known_holds net known (edit.LsLbAdd owner name may) sound are =
+    let given = edit.LsLbAdd owner name may in
+    one_attached net known are (λ number. set_switch_lbs net owner (with_number number)) (lb_id net name)
+    (λ n. switch_more net (rises (λ (lb : Lb). lb.id) net.lbs sound.numbered.order.lbs) owner n (apart_first bytes_eq (map (λ (x : Switch). x.name) net.switches) (map (λ (x : Router). x.name) net.routers) sound.named.datapaths))
+    (edit_falls net given sound kind.AclSwitch refl) (edit_falls net given sound kind.MatchText refl) (edit_falls net given sound kind.Vip refl) (edit_falls net given sound kind.Backend refl) (edit_falls net given sound kind.Neighbour refl)
+known_holds net known (edit.LrLbAdd owner name may) sound are =
+    let given = edit.LrLbAdd owner name may in
+    one_attached net known are (λ number. set_router_lbs net owner (with_number number)) (lb_id net name)
+    (λ n. router_more net (rises (λ (lb : Lb). lb.id) net.lbs sound.numbered.order.lbs) owner n (apart_last bytes_eq (map (λ (x : Switch). x.name) net.switches) (map (λ (x : Router). x.name) net.routers) sound.named.datapaths))
+    (edit_falls net given sound kind.AclSwitch refl) (edit_falls net given sound kind.MatchText refl) (edit_falls net given sound kind.Vip refl) (edit_falls net given sound kind.Backend refl) (edit_falls net given sound kind.Neighbour refl)
+known_holds net known (edit.LrpAdd router port mac nets may) sound are =
+    let given = edit.LrpAdd router port mac nets may in
+    kept_but net known are (effect net given) (where_unnamed (peer_named net port) known.neighbours) (port_fits net router port mac nets may known.neighbours are.neighbours)
+    (edit_falls net given sound kind.AclSwitch refl) (edit_falls net given sound kind.MatchText refl) (edit_falls net given sound kind.Vip refl) (edit_falls net given sound kind.Backend refl) (edit_falls net given sound kind.VipDatapath refl)
+known_holds net known (edit.LsDel name may) sound are =
+    let given = edit.LsDel name may in
+    kept_but net known are (effect net given) None tt
+    (edit_falls net given sound kind.AclSwitch refl) (edit_falls net given sound kind.MatchText refl) (edit_falls net given sound kind.Vip refl) (edit_falls net given sound kind.Backend refl) (edit_falls net given sound kind.VipDatapath refl)
+known_holds net known (edit.LspDel port may) sound are =
+    let given = edit.LspDel port may in
+    kept_but net known are (effect net given) (without_port (port_named net port) known.neighbours)
+    (one_less net known are port (ports_apart net sound))
+    (edit_falls net given sound kind.AclSwitch refl) (edit_falls net given sound kind.MatchText refl) (edit_falls net given sound kind.Vip refl) (edit_falls net given sound kind.Backend refl) (edit_falls net given sound kind.VipDatapath refl)
+known_holds net known (edit.LspSetAddresses port list) sound are =
+    let given = edit.LspSetAddresses port list in
+    kept_but net known are (effect net given) (with_addresses net list known.neighbours)
+    (one_addressed net known are port list (ports_apart net sound))
+    (edit_falls net given sound kind.AclSwitch refl) (edit_falls net given sound kind.MatchText refl) (edit_falls net given sound kind.Vip refl) (edit_falls net given sound kind.Backend refl) (edit_falls net given sound kind.VipDatapath refl)
+known_holds net known (edit.LspSetType port own) sound are =
+    let given = edit.LspSetType port own in
+    kept_but net known are (effect net given) None tt
+    (edit_falls net given sound kind.AclSwitch refl) (edit_falls net given sound kind.MatchText refl) (edit_falls net given sound kind.Vip refl) (edit_falls net given sound kind.Backend refl) (edit_falls net given sound kind.VipDatapath refl)
+known_holds net known (edit.LspSetOptions port name) sound are =
+    let given = edit.LspSetOptions port name in
+    kept_but net known are (effect net given) None tt
+    (edit_falls net given sound kind.AclSwitch refl) (edit_falls net given sound kind.MatchText refl) (edit_falls net given sound kind.Vip refl) (edit_falls net given sound kind.Backend refl) (edit_falls net given sound kind.VipDatapath refl)
+known_holds net known (edit.LspSetEnabled port true) sound are =
+    let given = edit.LspSetEnabled port true in
+    kept_but net known are (effect net given) None tt
+    (edit_falls net given sound kind.AclSwitch refl) (edit_falls net given sound kind.MatchText refl) (edit_falls net given sound kind.Vip refl) (edit_falls net given sound kind.Backend refl) (edit_falls net given sound kind.VipDatapath refl)
+known_holds net known (edit.LspSetEnabled port false) sound are =
+    let given = edit.LspSetEnabled port false in
+    kept net known are (effect net given) (edit_falls net given sound kind.AclSwitch refl) (edit_falls net given sound kind.MatchText refl) (edit_falls net given sound kind.Vip refl) (edit_falls net given sound kind.Backend refl) (edit_falls net given sound kind.Neighbour refl) (edit_falls net given sound kind.VipDatapath refl)
 known_holds net known other sound are =
-    kept net known are (effect net other) (edit_falls net other sound kind.AclSwitch refl) (edit_falls net other sound kind.MatchText refl) (edit_falls net other sound kind.Vip refl) (edit_falls net other sound kind.Backend refl)
+    kept net known are (effect net other) (edit_falls net other sound kind.AclSwitch refl) (edit_falls net other sound kind.MatchText refl) (edit_falls net other sound kind.Vip refl) (edit_falls net other sound kind.Backend refl) (edit_falls net other sound kind.Neighbour refl) (edit_falls net other sound kind.VipDatapath refl)

@@ -8,7 +8,10 @@ pub mod Fitting
 pub mod Greatest
 pub mod KnownAfter
 pub mod Neighbours
+pub mod NewPorts
+pub mod NewVips
 pub mod Noted
+pub mod PortNeighbours
 pub mod Raised
 pub mod Rest
 pub mod Sums

@@ -30,7 +30,7 @@ use Rattle.nb_limits.proofs.Counted.{found_list, of_number}
 use Rattle.nb_limits.proofs.Sums.{told}
 
 -- the total of one more
-total_last : {X : Type 0} (f : X → ℕ) (xs : List X) (x : X) → total f (xs ++ x ∷ []) ≡ total f xs + f x
+pub total_last : {X : Type 0} (f : X → ℕ) (xs : List X) (x : X) → total f (xs ++ x ∷ []) ≡ total f xs + f x
 total_last f [] x = total_cons f x [] ∙ turned (f x)
   where
     turned : (n : ℕ) → n + 0 ≡ 0 + n

@@ -16,3 +16,5 @@ pub record AreCeilings (net : Network) (known : Ceilings) : Type 0 where
   pub match_text : IsCeiling (bound kind.MatchText) (amount net kind.MatchText) known.match_text
   pub vips : known.vips_fit ≡ true → nat_lt (bound kind.Vip) (amount net kind.Vip) ≡ false
   pub backends : known.backends_fit ≡ true → nat_lt (bound kind.Backend) (amount net kind.Backend) ≡ false
+  pub vip_datapaths : IsCeiling (bound kind.VipDatapath) (amount net kind.VipDatapath) known.vip_datapaths
+  pub neighbours : IsCeiling (bound kind.Neighbour) (amount net kind.Neighbour) known.neighbours

@@ -7,15 +7,16 @@ ghost use Rattle.nb_model.specs.Effect.{effect};
 ghost use Rattle.nb_model.specs.Network.{Network, empty_network};
 ghost use Rattle.nb_model.specs.Sound.{IsSound};
 ghost use Rattle.nb_limits.specs.Ceilings.{AreCeilings};
-ghost use Rattle.nb_limits.specs.inner.KnownAfter.{raised, reach, with_acl, has_vip_room, known_after};
+ghost use Rattle.nb_limits.specs.inner.KnownAfter.{raised, reach, with_acl, has_vip_room, own_vips, vips_after, with_lb, where_unnamed, without_port, without_kind, with_addresses, known_after};
 ghost use Rattle.nb_limits.specs.Limitless.{IsSoundButLimits};
 
 use crate::acl_limits::{acl_switches, match_text, switch_count};
-use crate::balancer_limits::{backend_count, vip_count};
+use crate::balancer_limits::{backend_count, vip_count, vip_datapaths};
 use crate::bounds::bound;
+use crate::neighbour_limits::{ip_counts, neighbours};
 use crate::within::add_times;
 use expr_core::{Typed, put_tree};
-use nb_records::{Backend, Edit, Kind, Lb};
+use nb_records::{Addr, Backend, Edit, Kind, Lb, Port, PortKind};
 use nb_store::Records;
 use nv_base::{ObjId, OutOfMemory};
 use std::alloc::Global;
@@ -31,6 +32,10 @@ pub struct Ceilings {
     pub(crate) vips_fit: bool,
     /// No VIP has more backends than it may have.
     pub(crate) backends_fit: bool,
+    /// Router ports know at most so many neighbours.
+    pub(crate) neighbours: Option<u64>,
+    /// There are at most so many VIPs, each counted once for each datapath that has its load balancer.
+    pub(crate) vip_datapaths: Option<u64>,
 }
 
 impl Ceilings {
@@ -43,6 +48,8 @@ impl Ceilings {
             match_text: Some(0),
             vips_fit: true,
             backends_fit: true,
+            neighbours: Some(0),
+            vip_datapaths: Some(0),
         }
     }
 
@@ -55,6 +62,8 @@ impl Ceilings {
             match_text: None,
             vips_fit: false,
             backends_fit: false,
+            neighbours: None,
+            vip_datapaths: None,
         }
     }
 
@@ -98,6 +107,29 @@ impl Ceilings {
             Edit::LbAdd { lb, backends, .. } => Ok(Ceilings {
                 vips_fit: has_vip_room(records.lb_named(lb)),
                 backends_fit: do_fit(backends.as_slice()),
+                vip_datapaths: vips_after(records.lb_named(lb), self.vip_datapaths),
+                ..self
+            }),
+            Edit::LsLbAdd { lb, .. } | Edit::LrLbAdd { lb, .. } => {
+                Ok(self.with_lb(records, records.lb_id(lb)))
+            }
+            Edit::LrpAdd { port, .. } => Ok(Ceilings {
+                neighbours: where_unnamed(records.peer_named(port), self.neighbours),
+                ..self
+            }),
+            Edit::LspDel { port, .. } => Ok(Ceilings {
+                neighbours: without_port(records.port_named(port), self.neighbours),
+                ..self
+            }),
+            Edit::LspSetAddresses { addresses, .. } => Ok(Ceilings {
+                neighbours: with_addresses(records, addresses.as_slice(), self.neighbours),
+                ..self
+            }),
+            Edit::LsDel { .. }
+            | Edit::LspSetType { .. }
+            | Edit::LspSetOptions { .. }
+            | Edit::LspSetEnabled { enabled: true, .. } => Ok(Ceilings {
+                neighbours: None,
                 ..self
             }),
             _ => Ok(self),
@@ -169,6 +201,49 @@ impl Ceilings {
         over
     }
 
+    /// Whether router ports know more neighbours than they may. They are counted only where nothing is known.
+    pub(crate) fn is_neighbour_over(&mut self, records: &Records) -> bool
+        requires limitless { IsSoundButLimits records.now }
+        requires known { AreCeilings records.now self.old }
+        ensures over { result ≡ nat_lt (bound kind.Neighbour) (amount records.now kind.Neighbour) }
+        ensures known { AreCeilings records.now self.new }
+    {
+        if self.neighbours.is_some() {
+            return false;
+        }
+        self.neighbours = neighbours(records, u64::from(bound(Kind::Neighbour)));
+        self.neighbours.is_none()
+    }
+
+    /// Whether there are more VIPs than there may be, each counted once for each datapath that has its load balancer. They are counted
+    /// only where nothing is known.
+    pub(crate) fn is_vip_datapath_over(&mut self, records: &Records) -> bool
+        requires limitless { IsSoundButLimits records.now }
+        requires known { AreCeilings records.now self.old }
+        ensures over { result ≡ nat_lt (bound kind.VipDatapath) (amount records.now kind.VipDatapath) }
+        ensures known { AreCeilings records.now self.new }
+    {
+        if self.vip_datapaths.is_some() {
+            return false;
+        }
+        self.vip_datapaths = vip_datapaths(records, u64::from(bound(Kind::VipDatapath)));
+        self.vip_datapaths.is_none()
+    }
+
+    // What is known once the load balancer of this number, if there is one, is attached to one datapath more.
+    fn with_lb(self, records: &Records, number: Option<ObjId>) -> Ceilings
+        ensures { result ≡ with_lb records.now self number }
+    {
+        let Some(number) = number else {
+            return self;
+        };
+        let more = own_vips(records.lbs().get(number));
+        Ceilings {
+            vip_datapaths: raised(self.vip_datapaths, more, 1, Kind::VipDatapath),
+            ..self
+        }
+    }
+
     // What is known after one more ACL with this match, if its owner is there.
     fn with_acl(
         self,
@@ -227,6 +302,63 @@ fn has_room(lb: &Lb) -> bool
     ensures { result ≡ nat_lt (length lb.now.vips) (bound kind.Vip) }
 {
     (lb.vips.as_slice().len() as u64) < u64::from(bound(Kind::Vip))
+}
+
+// How many VIPs the load balancer has, if it is there.
+fn own_vips(lb: Option<&Lb>) -> u64
+    ensures { result ≡ own_vips (option_copied lb.entry) }
+{
+    match lb {
+        Some(lb) => lb.vips.as_slice().len() as u64,
+        None => 0,
+    }
+}
+
+// What is known of the VIPs of datapaths after a VIP more of this load balancer, or of a new one, which no datapath has.
+fn vips_after(lb: Option<&Lb>, known: Option<u64>) -> Option<u64>
+    ensures { result ≡ vips_after (option_copied lb.entry) known }
+{
+    match lb {
+        Some(_) => None,
+        None => known,
+    }
+}
+
+// What is known of neighbours after a router port more, which brings none where no port names it.
+fn where_unnamed(peer: Option<&Port>, known: Option<u64>) -> Option<u64>
+    ensures { result ≡ where_unnamed (option_copied peer.entry) known }
+{
+    match peer {
+        Some(_) => None,
+        None => known,
+    }
+}
+
+// What is known of neighbours without this port, if it is there: where it is a host's, there are no more.
+fn without_port(port: Option<&Port>, known: Option<u64>) -> Option<u64>
+    ensures { result ≡ without_port (option_copied port.entry) known }
+{
+    match port {
+        Some(port) => without_kind(port.kind, known),
+        None => known,
+    }
+}
+
+fn without_kind(kind: PortKind, known: Option<u64>) -> Option<u64>
+    ensures { result ≡ without_kind kind known }
+{
+    match kind {
+        PortKind::Router => None,
+        PortKind::Host => known,
+    }
+}
+
+// What is known of neighbours once a port has these addresses: each router port knows no more than all of them besides.
+fn with_addresses(records: &Records, addresses: &[Addr], known: Option<u64>) -> Option<u64>
+    ensures { result ≡ with_addresses records.now addresses.now known }
+{
+    let more = ip_counts(addresses, u64::from(bound(Kind::Neighbour)))?;
+    raised(known, more, records.router_ports().count(), Kind::Neighbour)
 }
 
 // Whether a VIP may have these backends.

@@ -80,6 +80,8 @@ fn is_over(
         Kind::Vip => Ok(known.is_vip_over(records)),
         Kind::Backend => Ok(known.is_backend_over(records)),
         Kind::MatchText => known.is_match_text_over(alloc, records),
+        Kind::Neighbour => Ok(known.is_neighbour_over(records)),
+        Kind::VipDatapath => Ok(known.is_vip_datapath_over(records)),
         _ => Ok(amount_within(alloc, records, kind)?.is_none()),
     }
 }

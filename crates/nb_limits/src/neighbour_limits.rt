@@ -89,8 +89,8 @@ fn net_count(port: Option<&RouterPort>) -> u64
     }
 }
 
-// How many IPv4 addresses there are in addresses.
-fn ip_counts(addresses: &[Addr], bound: u64) -> Option<u64>
+/// How many IPv4 addresses there are in addresses, where they are within the bound.
+pub(crate) fn ip_counts(addresses: &[Addr], bound: u64) -> Option<u64>
     ensures { result ≡ up_to bound (total ip_count addresses.now) }
 {
     let mut sum = 0;

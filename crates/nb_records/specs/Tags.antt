@@ -4,6 +4,7 @@ use Rattle.std.specs.List.{flat_map}
 use Rattle.nv_base.specs.declared.ip4.Ip4.{Ip4}
 use Rattle.nv_base.specs.declared.object.ObjId.{ObjId}
 use Rattle.std.specs.declared.cmp.Ordering.{Ordering}
+use Rattle.expr_digest.specs.Digest.{digest}
 use Rattle.nb_records.specs.contracts.tag.TagOrd.TheImpl as tag_ord
 use Rattle.nb_records.specs.declared.acl.Acl.{Acl}
 use Rattle.nb_records.specs.declared.balancer.Lb.{Lb}
@@ -104,7 +105,7 @@ lb_tags lb = named_tags lb.name []
 
 -- what an ACL says of its owner
 abbrev pub acl_rule : Acl → Rule
-acl_rule a = rule.Acl a.way a.priority
+acl_rule a = rule.Acl a.way a.priority (digest a.matching)
 
 -- the tags of an ACL
 abbrev pub acl_tags : Acl → List Tag

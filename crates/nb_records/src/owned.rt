@@ -4,6 +4,7 @@ ghost use Rattle.nv_table.specs.Table.{order_at};
 ghost use Rattle.nb_records.specs.Tags.{tag_cmp, owned_tags, route_rule, acl_rule, nat_rule};
 
 use crate::{Acl, Binding, Nat, NatKind, Route, Rule, Tag};
+use expr_digest::digest_of;
 use nv_base::{Items, ObjId, OutOfMemory};
 use nv_table::Record;
 use std::alloc::Global;
@@ -49,6 +50,7 @@ fn acl_rule(acl: &Acl) -> Rule
     Rule::Acl {
         way: acl.way,
         priority: acl.priority,
+        digest: digest_of(&acl.matching),
     }
 }
 
@@ -153,7 +155,12 @@ impl Record for Acl {
     }
 
     fn compare_tag(&self, place: usize, tag: &Tag) -> Ordering {
-        compare_owned(self.owner, acl_rule(self), place, tag)
+        // The rule is made where it is compared: its digest goes through the whole match.
+        if place == 0 {
+            Tag::Of(self.owner).cmp(tag)
+        } else {
+            Tag::Says(self.owner, acl_rule(self)).cmp(tag)
+        }
     }
 
     fn weight(&self) -> (u64, u64) {

@@ -6,13 +6,24 @@ use nv_base::{Ip4, Name, ObjId};
 #[derive(Clone, Copy, PartialEq, Eq, PartialOrd, Ord)]
 pub enum Rule {
     /// A route of this policy, for the addresses of this prefix.
-    Route { by: RouteBy, base: Ip4, len: u8 },
+    Route {
+        by: RouteBy,
+        base: Ip4,
+        len: u8,
+    },
     /// An `snat` rule for the addresses of this prefix.
-    Snat { base: Ip4, len: u8 },
+    Snat {
+        base: Ip4,
+        len: u8,
+    },
     /// A NAT rule of another kind, at this external address.
     Dnat(Ip4),
-    /// An ACL of this direction and priority. Many may say this: they differ in their matches.
-    Acl { way: Way, priority: u16 },
+    /// An ACL of this direction and priority, whose match has this digest. Several may say this: they differ in their matches.
+    Acl {
+        way: Way,
+        priority: u16,
+        digest: u64,
+    },
     /// A static binding of this address.
     Binding(Ip4),
 }

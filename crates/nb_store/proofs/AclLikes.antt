@@ -9,6 +9,7 @@ use Rattle.std.specs.List.{AllByRecursion}
 use Rattle.std.specs.Str.{bytes_eq}
 use Rattle.expr_check.specs.Printed.{IsPrintable}
 use Rattle.expr_check.proofs.Passed.{apart}
+use Rattle.expr_digest.specs.Digest.{digest}
 use Rattle.expr_core.specs.Formula.{Formula}
 use Rattle.expr_core.specs.Text.{typed_text}
 use Rattle.expr_core.specs.declared.role.Role.{Role}
@@ -161,62 +162,100 @@ one_way To To is = refl
 one_way From To is = absurd (cc)
 one_way To From is = absurd (cc)
 
-three_of_four : (o w p b : Bool) → IsTrue (o && (w && (p && b))) → IsTrue (o && (w && p))
-three_of_four true true p b is = (and_parts p b is).0
-three_of_four true false p b is = is
-three_of_four false w p b is = is
+-- what two tests that agree on all of a list find in it
+same_among : {R : Type 0} (P : R → Type 0) (p q : R → Bool) → ((r : R) → P r → p r ≡ q r) → (rs : List R) → AllByRecursion P rs → find p rs ≡ find q rs
+same_among P p q agree [] all = refl
+same_among P p q agree (r ∷ rs) all = ap (λ b. cond b (Some r) (find p rs)) (agree r all.0) ∙ ap (λ o. cond (q r) (Some r) o) (same_among P p q agree rs all.1)
 
-four_of_five : (f o w p b : Bool) → IsTrue (f && (o && (w && (p && b)))) → IsTrue (f && (o && (w && p)))
-four_of_five true o w p b is = three_of_four o w p b is
-four_of_five false o w p b is = is
+equal : (a b : ℕ) → a ≡ b → IsTrue (a == b)
+equal a b is = grind (arith, nat_tests, is)
 
-last_of_four : (o w p b : Bool) → IsTrue (o && (w && p)) → (o && (w && (p && b))) ≡ b
-last_of_four true true true b is = refl
-last_of_four true true false b is = absurd (cc)
-last_of_four true false p b is = absurd (cc)
-last_of_four false w p b is = absurd (cc)
+last_of_four : (o w p d b : Bool) → IsTrue (o && (w && (p && d))) → (o && (w && (p && b))) ≡ b
+last_of_four true true true d b is = refl
+last_of_four true true false d b is = absurd (cc)
+last_of_four true false p d b is = absurd (cc)
+last_of_four false w p d b is = absurd (cc)
 
--- The ACL of an owner, a direction, a priority and a match, looked for among those of the first three.
-module _ (owner : ObjId) (way : Way) (priority : ℕ) (matching : Formula TypedAtom) (after : Option ObjId) (acls : List Acl) where
+-- The ACL of an owner, a direction, a priority and a match, looked for among those of the first three whose matches have its digest.
+module _ (owner : ObjId) (way : Way) (priority : ℕ) (matching : Formula TypedAtom) (number : ℕ) (is_digest : number ≡ digest matching) (after : Option ObjId) (acls : List Acl) where
   abbrev says : Acl → Bool
-  says a = same owner a.owner && (same_way way a.way && (priority == a.priority))
+  says a = same owner a.owner && (same_way way a.way && ((priority == a.priority) && (number == digest a.matching)))
 
   abbrev like : Acl → Bool
   like a = same owner a.owner && (same_way way a.way && ((priority == a.priority) && bytes_eq (typed_text matching) (typed_text a.matching)))
 
-  narrow : (a : Acl) → IsTrue (like a) → IsTrue (says a)
-  narrow a is = three_of_four (same owner a.owner) (same_way way a.way) (priority == a.priority) (bytes_eq (typed_text matching) (typed_text a.matching)) is
+  abbrev both : Acl → Bool
+  both a = like a && says a
 
-  narrow_left : (a : Acl) → IsTrue (is_after after a.id && like a) → IsTrue (is_after after a.id && says a)
-  narrow_left a is = four_of_five (is_after after a.id) (same owner a.owner) (same_way way a.way) (priority == a.priority) (bytes_eq (typed_text matching) (typed_text a.matching)) is
+  abbrev Readable : Acl → Type 0
+  Readable a = IsPrintable (role_of a.way) a.matching
 
-  pub none_like : None ≡ find (λ a. is_after after a.id && says a) acls → None ≡ find (λ a. is_after after a.id && like a) acls
-  none_like none = sym (none_narrow (λ a. is_after after a.id && says a) (λ a. is_after after a.id && like a) narrow_left acls (sym none))
+  both_says : (a : Acl) → IsTrue (both a) → IsTrue (says a)
+  both_says a is = (and_parts (like a) (says a) is).1
 
-  module _ (acl : Acl) (found : Some acl ≡ find (λ a. is_after after a.id && says a) acls) (rise : NumbersRise (λ (a : Acl). a.id) acls) (printed : IsPrintable (role_of way) matching)
-      (readable : AllByRecursion (λ (a : Acl). IsPrintable (role_of a.way) a.matching) acls) (alike : Bool) (tells : IsTrue alike ↔ (matching ≡ acl.matching)) where
-    holds : IsTrue (is_after after acl.id && says acl)
-    holds = found_holds (λ a. is_after after a.id && says a) acls acl (sym found)
+  both_left : (a : Acl) → IsTrue (is_after after a.id && both a) → IsTrue (is_after after a.id && says a)
+  both_left a is = by (is_after after a.id) is
+    where
+      by : (b : Bool) → IsTrue (b && both a) → IsTrue (b && says a)
+      by true is = both_says a is
+      by false is = is
 
-    said : IsTrue (says acl)
-    said = (and_parts (is_after after acl.id) (says acl) holds).1
+  module _ (printed : IsPrintable (role_of way) matching) (readable : AllByRecursion Readable acls) where
+    -- one match has one digest
+    like_says : (a : Acl) → Readable a → IsTrue (like a) → IsTrue (says a)
+    like_says a own is =
+        let of_owner = and_parts (same owner a.owner) (same_way way a.way && ((priority == a.priority) && bytes_eq (typed_text matching) (typed_text a.matching))) is in
+        let of_way = and_parts (same_way way a.way) ((priority == a.priority) && bytes_eq (typed_text matching) (typed_text a.matching)) of_owner.1 in
+        let of_rule = and_parts (priority == a.priority) (bytes_eq (typed_text matching) (typed_text a.matching)) of_way.1 in
+        let way_is : way ≡ a.way = one_way way a.way of_way.0 in
+        let one : matching ≡ a.matching =
+        apart (role_of way) matching a.matching printed (subst (λ (w : Way). IsPrintable (role_of w) a.matching) (sym way_is) own) ((bytes_eq-Decides (typed_text matching) (typed_text a.matching)).0 of_rule.1) in
+        let of_digest = equal number (digest a.matching) (is_digest ∙ ap digest one) in
+        λ i. of_owner.0 i && (of_way.0 i && (of_rule.0 i && of_digest i))
 
-    way_is : way ≡ acl.way
-    way_is = one_way way acl.way (and_parts (same_way way acl.way) (priority == acl.priority) (and_parts (same owner acl.owner) (same_way way acl.way && (priority == acl.priority)) said).1).0
+    both_like : (a : Acl) → Readable a → both a ≡ like a
+    both_like a own = by (like a) (like_says a own)
+      where
+        by : (b : Bool) → (IsTrue b → IsTrue (says a)) → (b && says a) ≡ b
+        by true so = so refl
+        by false so = refl
 
-    like_is : like acl ≡ alike
-    like_is =
-        last_of_four (same owner acl.owner) (same_way way acl.way) (priority == acl.priority) (bytes_eq (typed_text matching) (typed_text acl.matching)) said
-        ∙ written_alike (role_of way) matching acl.matching printed
-        (subst (λ (w : Way). IsPrintable (role_of w) acl.matching) (sym way_is) (found_all (λ (a : Acl). IsPrintable (role_of a.way) a.matching) (λ a. is_after after a.id && says a) acl acls (sym found) readable)) alike tells
+    found_as : (low : Option ObjId) → find (λ a. is_after low a.id && both a) acls ≡ find (λ a. is_after low a.id && like a) acls
+    found_as low = same_among Readable (λ a. is_after low a.id && both a) (λ a. is_after low a.id && like a) (λ a own. ap (λ b. is_after low a.id && b) (both_like a own)) acls readable
 
-    pub found_like : alike ≡ true → Some acl ≡ find (λ a. is_after after a.id && like a) acls
-    found_like is =
-        sym (found_narrow (λ a. is_after after a.id && says a) (λ a. is_after after a.id && like a) narrow_left acl acls (sym found)
-        (ap (λ b. b && like acl) (and_parts (is_after after acl.id) (says acl) holds).0 ∙ like_is ∙ is))
+    pub none_like : None ≡ find (λ a. is_after after a.id && says a) acls → None ≡ find (λ a. is_after after a.id && like a) acls
+    none_like none = sym (none_narrow (λ a. is_after after a.id && says a) (λ a. is_after after a.id && both a) both_left acls (sym none)) ∙ found_as after
 
-    pub others_like : alike ≡ false → find (λ a. is_after (Some acl.id) a.id && like a) acls ≡ find (λ a. is_after after a.id && like a) acls
-    others_like other = next_like (λ (a : Acl). a.id) after says like narrow acl acls (sym found) (like_is ∙ other) rise
+    module _ (acl : Acl) (found : Some acl ≡ find (λ a. is_after after a.id && says a) acls) (rise : NumbersRise (λ (a : Acl). a.id) acls) (alike : Bool)
+        (tells : IsTrue alike ↔ (matching ≡ acl.matching)) where
+      holds : IsTrue (is_after after acl.id && says acl)
+      holds = found_holds (λ a. is_after after a.id && says a) acls acl (sym found)
+
+      said : IsTrue (says acl)
+      said = (and_parts (is_after after acl.id) (says acl) holds).1
+
+      own_readable : Readable acl
+      own_readable = found_all Readable (λ a. is_after after a.id && says a) acl acls (sym found) readable
+
+      way_is : way ≡ acl.way
+      way_is =
+          let of_owner = and_parts (same owner acl.owner) (same_way way acl.way && ((priority == acl.priority) && (number == digest acl.matching))) said in
+          one_way way acl.way (and_parts (same_way way acl.way) ((priority == acl.priority) && (number == digest acl.matching)) of_owner.1).0
+
+      both_is : both acl ≡ alike
+      both_is =
+          both_like acl own_readable
+          ∙ last_of_four (same owner acl.owner) (same_way way acl.way) (priority == acl.priority) (number == digest acl.matching) (bytes_eq (typed_text matching) (typed_text acl.matching)) said
+          ∙ written_alike (role_of way) matching acl.matching printed (subst (λ (w : Way). IsPrintable (role_of w) acl.matching) (sym way_is) own_readable) alike tells
+
+      pub found_like : alike ≡ true → Some acl ≡ find (λ a. is_after after a.id && like a) acls
+      found_like is =
+          sym (found_narrow (λ a. is_after after a.id && says a) (λ a. is_after after a.id && both a) both_left acl acls (sym found)
+          (ap (λ b. b && both acl) (and_parts (is_after after acl.id) (says acl) holds).0 ∙ both_is ∙ is))
+          ∙ found_as after
+
+      pub others_like : alike ≡ false → find (λ a. is_after (Some acl.id) a.id && like a) acls ≡ find (λ a. is_after after a.id && like a) acls
+      others_like other = sym (found_as (Some acl.id)) ∙ next_like (λ (a : Acl). a.id) after says both both_says acl acls (sym found) (both_is ∙ other) rise ∙ found_as after
 
   pub fewer_acls : (acl : Acl) → Some acl ≡ find (λ a. is_after after a.id && says a) acls → NumbersRise (λ (a : Acl). a.id) acls
       → length (filter (λ (a : Acl). is_after (Some acl.id) a.id) acls) < length (filter (λ (a : Acl). is_after after a.id) acls)

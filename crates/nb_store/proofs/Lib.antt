@@ -7,6 +7,7 @@ pub mod Peering
 pub mod Pieces
 pub mod PlaceOrder
 pub mod PlacedRecords
+pub mod PortNames
 pub mod Reached
 pub mod Steps
 pub mod Touched

@@ -1,5 +1,5 @@
 -- Of the groups that list a port, the first from the number of a group on is that group exactly where it lists the port.
-use Rattle.std.proofs.Common.{◌≡◌, ℕ, ◌<◌, Bool, true, false, cond, ◌==◌, ◌-◌, ◌&&◌, List, [], ◌∷◌, Option, Some, None, refl, sym, ap, ◌∙◌, subst, arith}
+use Rattle.std.proofs.Common.{◌≡◌, ℕ, ◌<◌, Bool, true, false, cond, ◌==◌, ◌-◌, ◌&&◌, List, [], ◌∷◌, Some, None, refl, sym, ap, ◌∙◌, subst, arith}
 use Rattle.std.specs.Prelude.{find}
 use Rattle.std.specs.List.{AllByRecursion}
 use Rattle.std.specs.Str.{bytes_eq}
@@ -8,7 +8,7 @@ use Rattle.nv_base.specs.declared.object.ObjId.{ObjId}
 use Rattle.nb_records.specs.declared.sets.Group.{Group}
 use Rattle.nb_model.specs.Belongs.{is_among}
 use Rattle.nb_model.specs.Names.{group_has, ports_of_group}
-use Rattle.nb_model.specs.Network.{Network, same, group_named}
+use Rattle.nb_model.specs.Network.{Network, group_named}
 use Rattle.nv_table.specs.Table.{is_after, NumbersRise}
 use Rattle.nb_store.specs.inner.Listed.{before, is_it}
 

@@ -6,6 +6,7 @@ use Rattle.std.specs.List.{flat_map, list_any}
 use Rattle.std.specs.Ordering.{is_eq, nat_cmp, ordering_then}
 use Rattle.std.specs.declared.cmp.Ordering.{Ordering}
 use Rattle.std.specs.declared.cmp.Ordering.TheVariants.{Less, Equal, Greater}
+use Rattle.expr_digest.specs.Digest.{digest}
 use Rattle.nb_records.specs.contracts.acl.WayOrd.TheImpl as way_ord
 use Rattle.nb_records.specs.contracts.router.RouteByOrd.TheImpl as route_by_ord
 use Rattle.nv_base.specs.Block.{Block}
@@ -94,13 +95,16 @@ says_route a b by own p q =
     ∙ all_of (is_eq (nat_cmp a.0 b.0)) (is_eq by_cmp) (is_eq blocks_cmp)
     ∙ (λ i. same_object a b i && policies by own i && blocks p q i)
 
-pub says_acl : (a b : ObjId) (way own : Way) (p q : ℕ) → list_any (λ tag. is_eq (tag_cmp (Says a (rule.Acl way p)) tag)) (owned_tags b (rule.Acl own q)) ≡ (same a b && (same_way way own && (p == q)))
-says_acl a b way own p q =
+pub says_acl : (a b : ObjId) (way own : Way) (p q d e : ℕ)
+    → list_any (λ tag. is_eq (tag_cmp (Says a (rule.Acl way p d)) tag)) (owned_tags b (rule.Acl own q e)) ≡ (same a b && (same_way way own && ((p == q) && (d == e))))
+says_acl a b way own p q d e =
     let way_cmp = (way_ord.ghosts).cmp way own in
+    let last_cmp = ordering_then (nat_cmp p q) (nat_cmp d e) in
     or_false _ false refl
-    ∙ eq_then (nat_cmp a.0 b.0) (ordering_then way_cmp (nat_cmp p q))
-    ∙ ap (λ e. is_eq (nat_cmp a.0 b.0) && e) (eq_then way_cmp (nat_cmp p q))
-    ∙ (λ i. same_object a b i && (ways way own i && unsigned_tied p q i))
+    ∙ eq_then (nat_cmp a.0 b.0) (ordering_then way_cmp last_cmp)
+    ∙ ap (λ c. is_eq (nat_cmp a.0 b.0) && c) (eq_then way_cmp last_cmp)
+    ∙ ap (λ c. is_eq (nat_cmp a.0 b.0) && (is_eq way_cmp && c)) (eq_then (nat_cmp p q) (nat_cmp d e))
+    ∙ (λ i. same_object a b i && (ways way own i && (unsigned_tied p q i && unsigned_tied d e i)))
 
 pub says_binding : (a b : ObjId) (p q : Ip4) → list_any (λ tag. is_eq (tag_cmp (Says a (rule.Binding p)) tag)) (owned_tags b (rule.Binding q)) ≡ (same a b && (p.0 == q.0))
 says_binding a b p q = or_false _ false refl ∙ eq_then (nat_cmp a.0 b.0) (nat_cmp p.0 q.0) ∙ (λ i. same_object a b i && unsigned_tied p.0 q.0 i)
@@ -183,11 +187,14 @@ route_saying router by prefix rs = find (λ s. same router s.router && same_poli
 pub route_saying_found : (router : ObjId) (by : RouteBy) (prefix : Block) (rs : List Route) → find (λ s. has_tag route_tags (tag_cmp (Says router (rule.Route by prefix.base prefix.len))) s) rs ≡ route_saying router by prefix rs
 route_saying_found router by prefix rs = same_found _ _ (λ (s : Route). says_route router s.router by s.by prefix s.prefix) rs
 
-abbrev pub acl_saying : ObjId → Way → ℕ → Option ObjId → List Acl → Option Acl
-acl_saying owner way priority after rs = find (λ s. is_after after s.id && (same owner s.owner && (same_way way s.way && (priority == s.priority)))) rs
+abbrev pub acl_saying : ObjId → Way → ℕ × ℕ → Option ObjId → List Acl → Option Acl
+acl_saying owner way says after rs = find (λ s. is_after after s.id && (same owner s.owner && (same_way way s.way && ((says.0 == s.priority) && (says.1 == digest s.matching))))) rs
 
-pub acl_saying_found : (owner : ObjId) (way : Way) (priority : ℕ) (after : Option ObjId) (rs : List Acl) → find (λ s. is_after after s.id && has_tag acl_tags (tag_cmp (Says owner (rule.Acl way priority))) s) rs ≡ acl_saying owner way priority after rs
-acl_saying_found owner way priority after rs = found_by (λ (s : Acl). s.id) acl_tags (tag_cmp (Says owner (rule.Acl way priority))) (λ s. same owner s.owner && (same_way way s.way && (priority == s.priority))) after (λ s. says_acl owner s.owner way s.way priority s.priority) rs
+pub acl_saying_found : (owner : ObjId) (way : Way) (says : ℕ × ℕ) (after : Option ObjId) (rs : List Acl)
+    → find (λ s. is_after after s.id && has_tag acl_tags (tag_cmp (Says owner (rule.Acl way says.0 says.1))) s) rs ≡ acl_saying owner way says after rs
+acl_saying_found owner way says after rs =
+    found_by (λ (s : Acl). s.id) acl_tags (tag_cmp (Says owner (rule.Acl way says.0 says.1))) (λ s. same owner s.owner && (same_way way s.way && ((says.0 == s.priority) && (says.1 == digest s.matching)))) after
+    (λ s. says_acl owner s.owner way s.way says.0 s.priority says.1 (digest s.matching)) rs
 
 abbrev pub binding_saying : ObjId → Ip4 → List Binding → Option Binding
 binding_saying port addr rs = find (λ s. same port s.port && (addr.0 == s.addr.0)) rs

@@ -1,5 +1,5 @@
 -- A group lists a port that has an address, asked of the ports that have it, and not of those that are listed.
-use Rattle.std.proofs.Common.{◌≡◌, ℕ, ◌<◌, Bool, true, false, cond, ◌==◌, ◌&&◌, ◌||◌, List, [], ◌∷◌, ◌++◌, length, map, Option, Some, None, refl, sym, ap, ◌∙◌, subst, arith}
+use Rattle.std.proofs.Common.{◌≡◌, ℕ, ◌<◌, Bool, true, false, cond, ◌==◌, ◌&&◌, ◌||◌, List, [], ◌∷◌, ◌++◌, length, map, Option, Some, None, refl, sym, ap, ◌∙◌, arith}
 use Rattle.std.specs.Prelude.{find, nat_le, is_some}
 use Rattle.std.specs.Bool.{IsTrue}
 use Rattle.std.specs.Cmp.{unsigned_tied}
@@ -7,7 +7,6 @@ use Rattle.std.specs.List.{AllByRecursion, flat_map, list_any}
 use Rattle.std.specs.Ordering.{is_eq}
 use Rattle.std.proofs.lemmas.Bool.{and_parts}
 use Rattle.std.proofs.lemmas.Bool.Decides.{nat_tests}
-use Rattle.std.proofs.lemmas.List.Folds.{list_any-append}
 use Rattle.nv_base.specs.declared.ip4.Ip4.{Ip4}
 use Rattle.nv_base.specs.declared.object.ObjId.{ObjId}
 use Rattle.nb_records.specs.Tags.{tag_cmp, port_tags, peer_tags, ips_of, ip_tags, most_told}
@@ -18,7 +17,7 @@ use Rattle.nb_records.specs.declared.switch.PortKind.TheVariants as kind
 use Rattle.nb_records.specs.declared.tag.Tag.{Tag}
 use Rattle.nb_records.specs.declared.tag.Tag.TheVariants.{Names, Has, HasMany}
 use Rattle.nb_model.specs.Belongs.{is_among}
-use Rattle.nb_model.specs.Names.{group_has, group_has_address, has_address, ports_of_group}
+use Rattle.nb_model.specs.Names.{group_has_address, has_address, ports_of_group}
 use Rattle.nb_model.specs.Network.{Network, group_named}
 use Rattle.nb_model.proofs.RecordLists.{found_holds}
 use Rattle.nv_table.specs.Table.{NumbersRise, has_tag, is_after, record_of}

@@ -1,11 +1,11 @@
 -- Undoing changes leaves what is at no place that they changed.
-use Rattle.std.proofs.Common.{ℕ, ◌≡◌, ◌==◌, zero, suc, nat_lt, not, Bool, true, false, cond, ◌⊎◌, arith, List, [], ◌∷◌, Option, Some, None, Contains, refl, sym, ap, ◌∙◌, subst}
+use Rattle.std.proofs.Common.{ℕ, ◌≡◌, ◌==◌, zero, suc, nat_lt, not, Bool, true, false, cond, arith, List, [], ◌∷◌, Some, None, Contains, refl, sym, ap, ◌∙◌, subst}
 use Rattle.std.proofs.lemmas.Bool.{eqb-true}
 use Rattle.std.specs.List.{filter_map}
 use Rattle.nv_base.specs.declared.object.ObjId.{ObjId}
 use Rattle.nb_model.specs.Network.{Network}
 use Rattle.nv_table.specs.Table.{has_number, record_of, with_record, without_number, with_exchanged}
-use Rattle.nb_store.specs.Undo.{restored, removed, undone, back_steps}
+use Rattle.nb_store.specs.Undo.{restored, removed, back_steps}
 use Rattle.nb_store.specs.Touched.{place_of, touched_by, AgreeBut, AreSameBut}
 use Rattle.nb_store.specs.declared.step.Object.{Object}
 use Rattle.nb_store.specs.declared.step.Object.TheVariants as object

@@ -2,6 +2,7 @@
 //! goes over all of them.
 ghost use Rattle.std.specs.Prelude.{◌≡◌, ◌&&◌, ◌==◌, not, if◌then◌else◌, find};
 ghost use Rattle.std.specs.Option.{option_copied};
+ghost use Rattle.expr_digest.specs.Digest.{digest as digest_of};
 ghost use Rattle.nb_model.specs.Belongs.{is_among, same_policy, same_block, same_way, is_snat};
 ghost use Rattle.nb_model.specs.Network.{same};
 ghost use Rattle.nb_records.specs.declared.tag.Rule.TheVariants as rule;
@@ -90,18 +91,23 @@ impl Records {
         self.routes.tagged(&Tag::Says(router, rule), None)
     }
 
-    /// The first ACL of an owner of this direction and priority, above a number where one is given.
-    pub fn acl_saying(
+    /// The first ACL of an owner of this direction and priority whose match has this digest, above a number where one is given.
+    pub(crate) fn acl_saying(
         &self,
         owner: ObjId,
         way: Way,
         priority: u16,
+        digest: u64,
         after: Option<ObjId>,
     ) -> Option<&Acl>
-        ensures { option_copied result ≡ find (λ acl. is_after after acl.id && (same owner acl.owner && (same_way way acl.way && (priority == acl.priority)))) self.now.acls }
+        ensures { option_copied result ≡ find (λ acl. is_after after acl.id && (same owner acl.owner && (same_way way acl.way && ((priority == acl.priority) && (digest == digest_of acl.matching))))) self.now.acls }
     {
-        self.acls
-            .tagged(&Tag::Says(owner, Rule::Acl { way, priority }), after)
+        let rule = Rule::Acl {
+            way,
+            priority,
+            digest,
+        };
+        self.acls.tagged(&Tag::Says(owner, rule), after)
     }
 
     /// The static binding of a router port for this address.

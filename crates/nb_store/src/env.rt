@@ -1,8 +1,9 @@
 //! What matches look up in the tables.
-ghost use Rattle.std.specs.Prelude.{◌≡◌, ◌==◌, ◌&&◌, find, refl};
+ghost use Rattle.std.specs.Prelude.{◌≡◌, ◌==◌, ◌&&◌, ℕ, List, Some, find, refl};
 ghost use Rattle.std.specs.List.{list_any};
 ghost use Rattle.std.specs.Option.{option_copied};
 ghost use Rattle.nb_model.specs.Addresses.{size_of};
+ghost use Rattle.nb_model.specs.Network.{port_id, router_port_id};
 ghost use Rattle.nb_model.specs.Names.{names, is_member, group_has, group_has_address};
 ghost use Rattle.nb_records.specs.Tags.{ips_of, port_tags};
 ghost use Rattle.nb_store.specs.inner.Listed.{before, is_it, lists, has_ip};
@@ -10,6 +11,7 @@ ghost use Rattle.nv_table.specs.Table.{has_tag, is_after, NumbersRise};
 
 use crate::records::Records;
 use expr_core::Env;
+use expr_ports::PortNames;
 use nb_records::{Addr, Group, HasValue, Member, Port, Tag};
 use nv_base::{Name, ObjId, Prefix};
 use nv_map::Probe;
@@ -46,7 +48,34 @@ impl Env for Records {
     ghost multicast_is_no_port = { λ _. (refl, refl) };
 }
 
+// A number is that of a port of a switch or of a router, whose names are found by it.
+impl PortNames for Records {
+    fn port_names(&self, port: ObjId) -> (Option<&Name>, Option<&Name>) {
+        (self.port_name(port), self.router_port_name(port))
+    }
+}
+
 impl Records {
+    // The name of the port of a switch that has the number.
+    fn port_name(&self, port: ObjId) -> Option<&Name>
+        ensures { (name : List ℕ) → port_id self.now name ≡ Some port → option_copied result ≡ Some name }
+    {
+        match self.ports.get(port) {
+            Some(port) => Some(&port.name),
+            None => None,
+        }
+    }
+
+    // The name of the port of a router that has the number.
+    fn router_port_name(&self, port: ObjId) -> Option<&Name>
+        ensures { (name : List ℕ) → router_port_id self.now name ≡ Some port → option_copied result ≡ Some name }
+    {
+        match self.router_ports.get(port) {
+            Some(port) => Some(&port.name),
+            None => None,
+        }
+    }
+
     // Whether the port is in the group of this name.
     fn group_has(&self, name: &[u8], port: ObjId) -> bool
         ensures { result ≡ group_has self.now name.now port }

@@ -11,6 +11,7 @@ ghost use Rattle.nv_table.specs.Table.{NumbersRise};
 
 use crate::records::Records;
 use expr_core::Typed;
+use expr_digest::digest_of;
 use nb_records::Way;
 use nv_base::{Kept, ObjId};
 
@@ -22,8 +23,9 @@ impl Records {
         requires readable { AllByRecursion (λ acl. IsPrintable (role_of acl.way) acl.matching) self.now.acls }
         ensures { result ≡ option_map (λ acl. acl.id) (acl_like self.now owner way (priority, matching.now)) }
     {
+        let digest = digest_of(matching);
         let mut after = None;
-        while let Some(acl) = self.acl_saying(owner, way, priority, after) {
+        while let Some(acl) = self.acl_saying(owner, way, priority, digest, after) {
             if is_same(matching, &acl.matching) {
                 return Some(acl.id);
             }

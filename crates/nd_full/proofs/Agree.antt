@@ -11,7 +11,7 @@ use Rattle.sb_rows.specs.Row.{row_cmp, put_rows, AgreeAsOne, AreApart, HasTypedM
 use Rattle.sb_rows.proofs.AllAtOnce.{apart_moves, put_members, put_rows_move, put_rows_ordered, told_by_members}
 use Rattle.sb_rows.proofs.Order.{row_cmp_total}
 use Rattle.net_rows.proofs.Elements.{All-from_members}
-use Rattle.nd_full.specs.inner.Members.{HaveSameRows}
+use Rattle.nd_router.specs.Members.{HaveSameRows}
 
 -- rows that are apart and agree are one
 one_of_apart : (rows : List Row) → AreApart rows → AgreeAsOne rows

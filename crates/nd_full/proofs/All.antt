@@ -13,7 +13,7 @@ use Rattle.nb_model.specs.Network.{Network, same}
 use Rattle.nb_model.specs.Sound.{IsSound}
 use Rattle.nb_model.specs.Applies.{applies, tracks}
 use Rattle.net_rows.specs.Acls.{acl_on_rules, switch_acl_rules}
-use Rattle.net_rows.specs.Build.{acl_on_input, acl_on_rows, acl_rows, all_rows, port_l2_input, port_rows, port_sec_input, switch_acl_input, switch_l2_input, switch_rows}
+use Rattle.net_rows.specs.Build.{acl_on_input, acl_on_rows, acl_rows, acl_rules_of_port, all_rows, port_l2_input, port_rows, port_sec_input, switch_acl_input, switch_l2_input, switch_rows}
 use Rattle.net_rows.specs.LoadBalancers.{switch_lb_rules}
 use Rattle.net_rows.specs.Lookup.{port_l2_rules, switch_l2_rules}
 use Rattle.net_rows.specs.PortSecurity.{port_sec_rules, switch_sec_rules}
@@ -27,12 +27,16 @@ use Rattle.net_rows.proofs.Sound.{each_passes}
 use Rattle.sb_model.specs.declared.row.Row.{Row}
 use Rattle.sb_rows.specs.Row.{put_rows}
 use Rattle.sb_rows.proofs.AllAtOnce.{put_members}
+use Rattle.lr_units.specs.Build.{router_rows}
+use Rattle.lr_units.specs.Network.{rows_of_units}
+use Rattle.nd_full.specs.inner.Between.{rows_of_each}
 use Rattle.nd_full.specs.inner.Made.{acl_unit, acl_units, datapath_rows, port_units, rows_at, switch_units}
-use Rattle.nd_full.specs.inner.Members.{HaveSameRows}
+use Rattle.nd_router.specs.Members.{HaveSameRows}
+use Rattle.nd_router.proofs.All.{on_each}
 use Rattle.nd_full.specs.inner.Owners.{acls_of, AreOwners, ports_on}
-use Rattle.nd_full.proofs.Any.{kept_passes}
+use Rattle.nd_router.proofs.Any.{kept_passes}
 use Rattle.nd_full.proofs.Applied.{applies_to, has_owner}
-use Rattle.nd_full.proofs.Same.{same_both, same_equal, same_itself, same_pieces, same_split, same_through, same_unit, same_turned_round}
+use Rattle.nd_router.proofs.Same.{same_both, same_equal, same_itself, same_pieces, same_split, same_through, same_unit, same_turned_round}
 
 -- the rules of two parts of a unit
 two_parts : (unit : Unit) (first second : List Rule) (rest : List Row) → HaveSameRows rest (said_by unit second) → HaveSameRows (unit_rows unit first ++ rest) (said_by unit (first ++ second))
@@ -56,8 +60,9 @@ module _ (net : Network) where
   unfolding port_rows
   same_port port =
       let unit = unit_of port.switch port.id in
+      let acl = acl_rules_of_port net port in
       let lookup = port_l2_rules (port_l2_input net port) in
-      two_parts unit (port_sec_rules (port_sec_input port)) lookup (unit_rows unit lookup) (same_unit unit lookup)
+      two_parts unit (port_sec_rules (port_sec_input port)) (acl ++ lookup) (unit_rows unit acl ++ unit_rows unit lookup) (two_parts unit acl lookup (unit_rows unit lookup) (same_unit unit lookup))
 
   same_acl : (acl : Acl) (switch : Switch) → HaveSameRows (acl_unit switch.id (tracks net switch.id) acl) (acl_on_rows net acl switch)
   unfolding acl_on_rows
@@ -189,14 +194,20 @@ module _ (net : Network) where
       (same_both of_switches of_switches (of_acls ++ of_ports) (of_ports ++ of_acls) (same_itself of_switches) (same_turned_round of_acls of_ports)))
 
   -- what is made datapath by datapath are the rows of the network's units
-  pub made_all : IsSound net → (none all : List Row) → none ≡ [] → HaveSameRows all (none ++ flat_map (datapath_rows net) net.switches) → HaveSameRows all (all_rows net)
-  made_all sound none all is_none same =
+  made_all : IsSound net → HaveSameRows (flat_map (datapath_rows net) net.switches) (all_rows net)
+  made_all sound =
       let on : Switch → List Row = λ switch. flat_map (port_units net) (ports_on net switch.id) in
       let switches = flat_map (rows_at net) net.switches in
-      same_through all (flat_map (datapath_rows net) net.switches) (all_rows net) (subst (λ rows. HaveSameRows all (rows ++ flat_map (datapath_rows net) net.switches)) is_none same)
-      (same_through (flat_map (datapath_rows net) net.switches) (switches ++ flat_map on net.switches) (all_rows net) (same_split (rows_at net) on net.switches)
+      same_through (flat_map (datapath_rows net) net.switches) (switches ++ flat_map on net.switches) (all_rows net) (same_split (rows_at net) on net.switches)
       (same_through (switches ++ flat_map on net.switches) (switches ++ flat_map (port_units net) net.ports) (all_rows net)
-      (same_both switches switches (flat_map on net.switches) (flat_map (port_units net) net.ports) (same_itself switches) (same_ports sound)) same_all))
+      (same_both switches switches (flat_map on net.switches) (flat_map (port_units net) net.ports) (same_itself switches) (same_ports sound)) same_all)
+
+  -- and with those on each router they are the rows of all units
+  pub made_network : IsSound net → (none all : List Row) → none ≡ [] → HaveSameRows all (none ++ (flat_map (datapath_rows net) net.switches ++ rows_of_each net net.routers)) → HaveSameRows all (rows_of_units net)
+  made_network sound none all is_none same =
+      let switches = flat_map (datapath_rows net) net.switches in
+      same_through all (switches ++ rows_of_each net net.routers) (rows_of_units net) (subst (λ rows. HaveSameRows all (rows ++ (switches ++ rows_of_each net net.routers))) is_none same)
+      (same_both switches (all_rows net) (rows_of_each net net.routers) (router_rows net) (made_all sound) (on_each net sound))
 
   -- the rows of a datapath, those of its ports first, put in row order
   pub made_of_datapath : (switch : Switch) (none of_ports all : List Row) → none ≡ [] → of_ports ≡ none ++ flat_map (port_units net) (ports_on net switch.id) → HaveSameRows all (of_ports ++ rows_at net switch)

@@ -1,7 +1,6 @@
 pub mod Agree
 pub mod All
 pub mod Applied
-pub mod Any
-pub mod Same
+pub mod Between
 pub mod Sound
 pub mod Unguarded

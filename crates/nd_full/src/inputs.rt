@@ -4,14 +4,15 @@ ghost use Rattle.std.specs.List.{list_any};
 ghost use Rattle.nb_model.specs.Sound.{IsSound};
 ghost use Rattle.nv_table.specs.Table.{record_of};
 ghost use Rattle.nb_model.specs.Applies.{is_empty, is_related};
+ghost use Rattle.nb_model.specs.Belongs.{is_to_router};
 ghost use Rattle.nb_model.specs.Ports.{takes_unknown};
-ghost use Rattle.net_rows.specs.Build.{peer_mac, port_l2_input, port_sec_input, switch_acl_input};
+ghost use Rattle.net_rows.specs.Build.{peer_mac, port_acl_input, port_l2_input, port_sec_input, switch_acl_input};
 ghost use Rattle.nd_full.specs.inner.Made.{has_related, input_on};
 ghost use Rattle.nd_full.specs.inner.Owners.{AreOwners};
 
-use nb_records::{Acl, Addr, Port, Switch, Verdict};
+use nb_records::{Acl, Addr, Port, PortKind, Switch, Verdict};
 use nb_store::Records;
-use net_rows::{AclOnInput, PortL2Input, PortSecInput, SwitchAclInput};
+use net_rows::{AclOnInput, PortAclInput, PortL2Input, PortSecInput, SwitchAclInput};
 use nv_base::{Kept, Mac, Name, ObjId, OutOfMemory};
 use std::alloc::Global;
 
@@ -93,6 +94,23 @@ pub(crate) fn port_sec_input(alloc: Global, port: &Port) -> Result<PortSecInput,
         name: port.name.copy(alloc)?,
         enabled: port.enabled,
         security: port.security.copy(alloc)?,
+    })
+}
+
+/// Whether a port leads to a router.
+pub(crate) fn is_to_router(port: &Port) -> bool
+    ensures { result ≡ is_to_router port.now }
+{
+    matches!(port.kind, PortKind::Router)
+}
+
+/// The input of a port in the stages of ACLs.
+pub(crate) fn port_acl_input(alloc: Global, port: &Port) -> Result<PortAclInput, OutOfMemory>
+    ensures { IfOk result (λ input. input ≡ port_acl_input port.now) }
+{
+    Ok(PortAclInput {
+        dp: port.switch,
+        name: port.name.copy(alloc)?,
     })
 }
 

@@ -6,6 +6,7 @@ mod inputs;
 mod made;
 mod owners;
 mod ports;
+mod routers;
 mod switches;
 
 pub use build::full;

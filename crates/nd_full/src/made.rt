@@ -1,6 +1,6 @@
 //! The rows of units, as makers give them.
 ghost use Rattle.std.specs.Prelude.{◌≡◌, [], ◌++◌, OnOk};
-ghost use Rattle.net_rows.specs.Acls.{switch_acl_rules};
+ghost use Rattle.net_rows.specs.Acls.{port_acl_rules, switch_acl_rules};
 ghost use Rattle.net_rows.specs.LoadBalancers.{switch_lb_rules};
 ghost use Rattle.net_rows.specs.Lookup.{switch_l2_rules, port_l2_rules};
 ghost use Rattle.net_rows.specs.PortSecurity.{switch_sec_rules, port_sec_rules};
@@ -9,12 +9,12 @@ ghost use Rattle.nd_full.specs.inner.Made.{acl_unit, switch_units};
 
 use crate::inputs::acl_on_input;
 use inc_table::Maker;
-use ls_acl::{AclOn, SwitchAcl};
+use ls_acl::{AclOn, PortAcl, SwitchAcl};
 use ls_l2::{PortL2, SwitchL2};
 use ls_lb::SwitchLb;
 use ls_sec::{PortSec, SwitchSec};
 use nb_records::Acl;
-use net_rows::{PortL2Input, PortSecInput, SwitchAclInput, SwitchL2Input, UnitMaker};
+use net_rows::{PortAclInput, PortL2Input, PortSecInput, SwitchAclInput, SwitchL2Input, UnitMaker};
 use nv_base::{ObjId, OutOfMemory};
 use sb_rows::NewRows;
 use std::alloc::Global;
@@ -29,6 +29,7 @@ pub(crate) struct MadeRows {
     switch_lb: UnitMaker<SwitchLb>,
     switch_l2: UnitMaker<SwitchL2>,
     port_sec: UnitMaker<PortSec>,
+    port_acl: UnitMaker<PortAcl>,
     port_l2: UnitMaker<PortL2>,
     acl_on: UnitMaker<AclOn>,
 }
@@ -58,6 +59,7 @@ impl MadeRows {
             switch_lb: UnitMaker::new(SwitchLb),
             switch_l2: UnitMaker::new(SwitchL2),
             port_sec: UnitMaker::new(PortSec),
+            port_acl: UnitMaker::new(PortAcl),
             port_l2: UnitMaker::new(PortL2),
             acl_on: UnitMaker::new(AclOn),
         }
@@ -135,6 +137,19 @@ impl MadeRows {
         ensures { OnOk result (self.new ≡ self.old ++ unit_rows (unit_of input.now.dp port) (port_sec_rules input.now)) }
     {
         let rows = self.port_sec.make(alloc, &port, input)?;
+        self.rows.append(rows)
+    }
+
+    /// The rows of a port in the stages of ACLs come after the others.
+    pub(crate) fn add_port_acl(
+        &mut self,
+        alloc: Global,
+        port: ObjId,
+        input: &PortAclInput,
+    ) -> Result<(), OutOfMemory>
+        ensures { OnOk result (self.new ≡ self.old ++ unit_rows (unit_of input.now.dp port) (port_acl_rules input.now)) }
+    {
+        let rows = self.port_acl.make(alloc, &port, input)?;
         self.rows.append(rows)
     }
 

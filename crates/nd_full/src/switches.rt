@@ -1,40 +1,39 @@
 //! The rows of a switch, and of the ACLs that apply to it.
-ghost use Rattle.std.specs.Prelude.{◌≡◌, Some, ◌++◌, OnOk};
+ghost use Rattle.std.specs.Prelude.{◌≡◌, ◌++◌, OnOk};
 ghost use Rattle.nb_model.specs.Sound.{IsSound};
-ghost use Rattle.nv_table.specs.Table.{record_of};
-ghost use Rattle.net_rows.specs.Build.{has_unknown};
+ghost use Rattle.net_rows.specs.Build.{has_unknown, switch_acl_input};
 ghost use Rattle.nd_full.specs.inner.Made.{acl_units, rows_at};
-ghost use Rattle.nd_full.specs.inner.Members.{HaveSameRows};
+ghost use Rattle.nd_router.specs.Members.{HaveSameRows};
+ghost use Rattle.nd_full.specs.inner.Owners.{AreOwners};
 
-use crate::inputs::switch_acl_input;
 use crate::made::MadeRows;
-use crate::owners::owners_on;
 use nb_records::Switch;
 use nb_store::Records;
-use net_rows::SwitchL2Input;
+use net_rows::{SwitchAclInput, SwitchL2Input};
 use nv_base::{ObjId, OutOfMemory};
 use std::alloc::Global;
 
-/// The rows of a switch, and of each ACL on it, come to the others. `unknown` says whether an enabled port of it has the address
-/// `unknown`.
+/// The rows of a switch, and of each ACL of the owners whose ACLs apply to it, come to the others. `unknown` says whether an enabled port
+/// of it has the address `unknown`.
 pub(crate) fn add_rows_of_switch(
     alloc: Global,
     made: &mut MadeRows,
     records: &Records,
     switch: &Switch,
+    owners: &[ObjId],
+    acl: &SwitchAclInput,
     unknown: bool,
 ) -> Result<(), OutOfMemory>
     requires sound { IsSound records.now }
-    requires there { record_of (λ x. x.id) switch.now.id records.now.switches ≡ Some switch.now }
+    requires owners { AreOwners records.now switch.now.id owners.now }
+    requires acl { acl.now ≡ switch_acl_input records.now switch.now.id }
     requires unknown { unknown ≡ has_unknown records.now switch.now.id }
     ensures { OnOk result (HaveSameRows made.new (made.old ++ rows_at records.now switch.now)) }
 {
-    let owners = owners_on(alloc, records, switch.id)?;
-    let acl_input = switch_acl_input(records, switch, &owners);
-    let l2_input = SwitchL2Input { unknown };
-    made.add_switch(alloc, switch.id, &acl_input, &l2_input)?;
-    for owner in &owners {
-        add_rows_of_acls(alloc, made, records, switch.id, acl_input.tracks, *owner)?;
+    let lookup = SwitchL2Input { unknown };
+    made.add_switch(alloc, switch.id, acl, &lookup)?;
+    for owner in owners {
+        add_rows_of_acls(alloc, made, records, switch.id, acl.tracks, *owner)?;
     }
     Ok(())
 }

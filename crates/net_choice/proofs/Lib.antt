@@ -1,7 +1,11 @@
 pub mod Applied
+pub mod Direct
 pub mod First
 pub mod Kept
+pub mod Longest
+pub mod NamedPorts
 pub mod NoGroups
 pub mod Order
+pub mod Said
 pub mod Sound
 pub mod Through

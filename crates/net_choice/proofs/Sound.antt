@@ -1,5 +1,6 @@
 -- The numbers of the records of a sound network rise.
 use Rattle.nb_records.specs.declared.acl.Acl.{Acl}
+use Rattle.nb_records.specs.declared.router.RouterPort.{RouterPort}
 use Rattle.nb_records.specs.declared.sets.Group.{Group}
 use Rattle.nb_records.specs.declared.switch.Port.{Port}
 use Rattle.nb_model.specs.Network.{Network}
@@ -16,3 +17,6 @@ module _ (net : Network) (sound : IsSound net) where
 
   pub groups_rise : NumbersRise (λ (g : Group). g.id) net.groups
   groups_rise = rises (λ (g : Group). g.id) net.groups sound.numbered.order.groups
+
+  pub router_ports_rise : NumbersRise (λ (p : RouterPort). p.id) net.router_ports
+  router_ports_rise = rises (λ (p : RouterPort). p.id) net.router_ports sound.numbered.order.router_ports

@@ -83,3 +83,14 @@ module _ {R : Type 0} (number : R → ObjId) (p : R → Bool) where
     -- with the next one it goes on
     pub fold_next : (x : R) → NumbersRise number rs → Some x ≡ next after rs → (more : B) → more ≡ f so_far x → fold f more (left (Some (number x)) rs) ≡ whole
     fold_next x rise found more with_it = ap (λ b. fold f b (left (Some (number x)) rs)) with_it ∙ ap (fold f so_far) (sym (next_left after x rs rise (sym found))) ∙ is
+
+  -- the first of those that are left that passes another test: the next one, where it does, or one of those after it
+  module _ (q : R → Bool) (after : Option ObjId) (rs : List R) (whole : Option R) (is : find q (left after rs) ≡ whole) where
+    pub find_whole : None ≡ next after rs → None ≡ whole
+    find_whole none = ap (find q) (sym (none_left after rs (sym none))) ∙ is
+
+    pub find_here : (x : R) → NumbersRise number rs → Some x ≡ next after rs → q x ≡ true → Some x ≡ whole
+    find_here x rise found passes = ap (λ b. cond b (Some x) (find q (left (Some (number x)) rs))) (sym passes) ∙ ap (find q) (sym (next_left after x rs rise (sym found))) ∙ is
+
+    pub find_next : (x : R) → NumbersRise number rs → Some x ≡ next after rs → q x ≡ false → find q (left (Some (number x)) rs) ≡ whole
+    find_next x rise found fails = ap (λ b. cond b (Some x) (find q (left (Some (number x)) rs))) (sym fails) ∙ ap (find q) (sym (next_left after x rs rise (sym found))) ∙ is

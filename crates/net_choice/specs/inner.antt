@@ -1,2 +1,3 @@
--- What private contracts and proofs cite. The clauses of the public call cite none of it.
+-- What private contracts and proofs cite. The clauses of the public calls cite none of it.
 pub mod Acls
+pub mod Routes

@@ -2,5 +2,8 @@
 #![tactic(auto)]
 
 mod acls;
+mod exits;
+mod routes;
 
 pub use acls::acl_first;
+pub use routes::{Hop, route_of};

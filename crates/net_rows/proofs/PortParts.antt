@@ -9,7 +9,7 @@ use Rattle.expr_core.specs.declared.comparison.Right.TheVariants as right
 use Rattle.expr_core.specs.declared.typed.TypedAtom.{TypedAtom}
 use Rattle.expr_core.specs.declared.typed.TypedAtom.TheVariants.{Compare}
 use Rattle.sb_model.specs.declared.stage.Stage.{Stage}
-use Rattle.sb_model.specs.declared.stage.Stage.TheVariants.{LsInCheckPortSec, LsInArpRsp, LsInL2Lkup}
+use Rattle.sb_model.specs.declared.stage.Stage.TheVariants.{LsInCheckPortSec, LsInPreAcl, LsInArpRsp, LsInL2Lkup, LsOutPreAcl}
 use Rattle.net_rows.specs.declared.rule.Rule.{Rule}
 
 -- ---- stages
@@ -23,19 +23,25 @@ abbrev pub is_arp : Stage → Bool
 is_arp LsInArpRsp = true
 is_arp other = false
 
--- ARP replies and the lookup
-abbrev pub is_later : Stage → Bool
-is_later LsInArpRsp = true
-is_later LsInL2Lkup = true
-is_later other = false
+-- the part that a stage is of: 0 of port security, 1 of ACLs, 2 of ARP replies and the lookup
+abbrev pub part : Stage → ℕ
+part LsInPreAcl = 1
+part LsOutPreAcl = 1
+part LsInArpRsp = 2
+part LsInL2Lkup = 2
+part other = 0
 
 -- a rule of port security
 abbrev pub IsOfSecurity : Rule → Type 0
-IsOfSecurity r = is_later r.stage ≡ false
+IsOfSecurity r = part r.stage ≡ 0
+
+-- a rule of ACLs
+abbrev pub IsOfAcls : Rule → Type 0
+IsOfAcls r = part r.stage ≡ 1
 
 -- a rule of a later stage
 abbrev pub IsLater : Rule → Type 0
-IsLater r = is_later r.stage ≡ true
+IsLater r = part r.stage ≡ 2
 
 -- ---- numbers
 

@@ -1,6 +1,6 @@
 -- The rows of ACLs (ovn-northd(8), 'from-lport ACLs' and 'to-lport ACLs'; stages, registers and priorities are not from OVN).
 use Rattle.std.specs.Prelude.{ℕ, ◌+◌, Bool, true, false, if◌then◌else◌, List, [], ◌∷◌, ◌++◌}
-use Rattle.nv_base.specs.declared.field.Field.TheVariants.{CtMarkBlocked, Reg0}
+use Rattle.nv_base.specs.declared.field.Field.TheVariants.{CtMarkBlocked, Inport, Outport, Reg0}
 use Rattle.expr_core.specs.Formula.{Formula}
 use Rattle.expr_core.specs.Formula.Formula.{Leaf, Not}
 use Rattle.expr_core.specs.declared.part.Bits.TheVariants.{Whole, Bit}
@@ -16,11 +16,12 @@ use Rattle.nb_records.specs.declared.acl.Verdict.TheVariants.{Allow, AllowRelate
 use Rattle.nb_records.specs.declared.acl.Way.{Way}
 use Rattle.nb_records.specs.declared.acl.Way.TheVariants.{From, To}
 use Rattle.nb_model.specs.Readable.{is_priority}
-use Rattle.sb_model.specs.Make.{takes_each, is_predicate, in_decimal, bit_is_set, all_of, one_of, steps, goes_on, drops, turns_back}
+use Rattle.sb_model.specs.Make.{takes_each, is_predicate, is_port, in_decimal, bit_is_set, all_of, one_of, steps, goes_on, drops, turns_back}
 use Rattle.sb_model.specs.declared.stage.Stage.{Stage}
 use Rattle.sb_model.specs.declared.stage.Stage.TheVariants.{LsInPreAcl, LsInPreStateful, LsInAclEval, LsInStateful, LsOutPreAcl, LsOutPreStateful, LsOutAclEval, LsOutStateful}
 use Rattle.net_rows.specs.Unit.{rule}
 use Rattle.net_rows.specs.declared.inputs.AclOnInput.{AclOnInput}
+use Rattle.net_rows.specs.declared.inputs.PortAclInput.{PortAclInput}
 use Rattle.net_rows.specs.declared.inputs.SwitchAclInput.{SwitchAclInput}
 use Rattle.net_rows.specs.declared.rule.Rule.{Rule}
 use Rattle.sb_model.specs.Stage.{last_table}
@@ -74,6 +75,12 @@ switch_acl_rules input =
     ++ in_both LsInAclEval LsOutAclEval 0 takes_each (passes input.tracks)
     ++ in_both LsInStateful LsOutStateful 0 takes_each goes_on
     ++ (if input.tracks then tracking_rules input.balances else [])
+
+-- ---- the rules of a port that leads to a router, on a switch that tracks
+
+-- what comes in by it and what goes out by it is not tracked
+unfoldable pub port_acl_rules : PortAclInput → List Rule
+port_acl_rules input = rule LsInPreAcl 110 (is_port Inport input.name) goes_on ∷ rule LsOutPreAcl 110 (is_port Outport input.name) goes_on ∷ []
 
 -- ---- the rules of an ACL on a switch
 

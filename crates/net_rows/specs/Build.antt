@@ -1,23 +1,24 @@
 -- The full build: the rows of the units of a network (modelled on ovn-northd(8)).
-use Rattle.std.specs.Prelude.{ℕ, Bool, ◌&&◌, List, [], ◌++◌, Option, option_map}
+use Rattle.std.specs.Prelude.{ℕ, Bool, ◌&&◌, if◌then◌else◌, List, [], ◌++◌, Option, option_map}
 use Rattle.std.specs.List.{flat_map, list_any}
 use Rattle.nv_base.specs.declared.object.ObjId.{ObjId}
 use Rattle.nb_records.specs.declared.acl.Acl.{Acl}
 use Rattle.nb_records.specs.declared.switch.Port.{Port}
 use Rattle.nb_records.specs.declared.switch.Switch.{Switch}
 use Rattle.nb_model.specs.Applies.{switches_of_acl}
-use Rattle.nb_model.specs.Belongs.{peer_router_port}
+use Rattle.nb_model.specs.Belongs.{is_to_router, peer_router_port}
 use Rattle.nb_model.specs.Network.{Network}
 use Rattle.sb_model.specs.declared.row.Row.{Row}
 use Rattle.sb_rows.specs.Row.{put_rows}
 use Rattle.nb_model.specs.Applies.{tracks, balances}
 use Rattle.nb_model.specs.Ports.{is_open, takes_unknown}
-use Rattle.net_rows.specs.Acls.{switch_acl_rules, acl_on_rules}
+use Rattle.net_rows.specs.Acls.{switch_acl_rules, port_acl_rules, acl_on_rules}
 use Rattle.net_rows.specs.LoadBalancers.{switch_lb_rules}
 use Rattle.net_rows.specs.Lookup.{switch_l2_rules, port_l2_rules}
 use Rattle.net_rows.specs.PortSecurity.{switch_sec_rules, port_sec_rules}
 use Rattle.net_rows.specs.Unit.{unit_of, unit_of_datapath, said_by}
 use Rattle.net_rows.specs.declared.inputs.AclOnInput.{AclOnInput}
+use Rattle.net_rows.specs.declared.inputs.PortAclInput.{PortAclInput}
 use Rattle.net_rows.specs.declared.inputs.PortL2Input.{PortL2Input}
 use Rattle.net_rows.specs.declared.inputs.PortSecInput.{PortSecInput}
 use Rattle.net_rows.specs.declared.inputs.SwitchAclInput.{SwitchAclInput}
@@ -31,6 +32,13 @@ port_sec_input port = record { dp = port.switch; name = port.name; enabled = por
 
 abbrev pub switch_acl_input : Network → ObjId → SwitchAclInput
 switch_acl_input net switch = record { tracks = tracks net switch; balances = balances net switch }
+
+abbrev pub port_acl_input : Port → PortAclInput
+port_acl_input port = record { dp = port.switch; name = port.name }
+
+-- what comes and goes by the port is not tracked: it leads to a router, and its switch tracks connections
+abbrev pub is_untracked : Network → Port → Bool
+is_untracked net port = is_to_router port && tracks net port.switch
 
 abbrev pub acl_on_input : Network → Acl → ObjId → AclOnInput
 acl_on_input net acl switch = record { way = acl.way; priority = acl.priority; matching = acl.matching; verdict = acl.verdict; tracks = tracks net switch }
@@ -57,9 +65,13 @@ abbrev pub switch_rules : Network → ObjId → List Rule
 switch_rules net switch =
     switch_sec_rules ++ (switch_acl_rules (switch_acl_input net switch) ++ (switch_lb_rules ++ switch_l2_rules (switch_l2_input net switch)))
 
+-- the rules of a port in the stages of ACLs
+abbrev pub acl_rules_of_port : Network → Port → List Rule
+acl_rules_of_port net port = if is_untracked net port then port_acl_rules (port_acl_input port) else []
+
 -- the rules of the units of a port
 abbrev pub port_rules : Network → Port → List Rule
-port_rules net port = port_sec_rules (port_sec_input port) ++ port_l2_rules (port_l2_input net port)
+port_rules net port = port_sec_rules (port_sec_input port) ++ (acl_rules_of_port net port ++ port_l2_rules (port_l2_input net port))
 
 unfoldable pub switch_rows : Network → Switch → List Row
 switch_rows net switch = said_by (unit_of_datapath switch.id) (switch_rules net switch.id)

@@ -22,6 +22,14 @@ pub struct SwitchAclInput {
     pub balances: bool,
 }
 
+/// The stages of ACLs of a switch port that leads to a router, where its switch tracks connections. The key is the port.
+#[derive(Drop, PartialEq, Eq)]
+pub struct PortAclInput {
+    /// The number of its switch.
+    pub dp: ObjId,
+    pub name: Name,
+}
+
 /// An ACL on a switch to which it applies. The key is both.
 #[derive(Drop, PartialEq, Eq)]
 pub struct AclOnInput {

@@ -1,7 +1,7 @@
 ghost use Rattle.std.specs.Prelude.{◌≡◌, IfOk};
 ghost use Rattle.net_rows.specs.inner.Exact as tells;
 
-use crate::{AclOnInput, PortL2Input, PortSecInput, SwitchAclInput, SwitchL2Input};
+use crate::{AclOnInput, PortAclInput, PortL2Input, PortSecInput, SwitchAclInput, SwitchL2Input};
 use nv_base::{Kept, OutOfMemory};
 use std::alloc::Global;
 
@@ -23,6 +23,17 @@ impl Kept for SwitchAclInput {
 
     fn copy(&self, _alloc: Global) -> Result<Self, OutOfMemory> {
         Ok(*self)
+    }
+}
+
+impl Kept for PortAclInput {
+    ghost exact = { tells.port_acl };
+
+    fn copy(&self, alloc: Global) -> Result<Self, OutOfMemory> {
+        Ok(PortAclInput {
+            dp: self.dp,
+            name: self.name.copy(alloc)?,
+        })
     }
 }
 

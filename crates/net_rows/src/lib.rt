@@ -8,7 +8,9 @@ mod laws;
 mod maker;
 mod rule;
 
-pub use inputs::{AclOnInput, PortL2Input, PortSecInput, SwitchAclInput, SwitchL2Input};
+pub use inputs::{
+    AclOnInput, PortAclInput, PortL2Input, PortSecInput, SwitchAclInput, SwitchL2Input,
+};
 pub use laws::{
     rows_are_those_of_the_units, rows_of_sound_networks_are_apart, rows_of_sound_networks_are_typed,
 };

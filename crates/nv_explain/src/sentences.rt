@@ -236,7 +236,7 @@ pub(crate) static PLACES: [(&str, &str); 28] = [
     ("OWNER", "the name of a switch or of a port group"),
     (
         "ADDRESS",
-        "`unknown`, or a MAC and its IPv4 addresses as one word, in quotes",
+        "`unknown`, `router`, or a MAC and its IPv4 addresses as one word, in quotes",
     ),
     (
         "GUARD",
@@ -276,16 +276,18 @@ pub(crate) static PLACES: [(&str, &str); 28] = [
 ];
 
 /// The forms of queries, in the order of `nb_cmds::Question`.
-pub(crate) static QUERIES: [&str; 5] = [
-    "lflow-list [SWITCH]",
-    "[--minimal] trace SWITCH MICROFLOW",
+pub(crate) static QUERIES: [&str; 7] = [
+    "lflow-list [DATAPATH]",
+    "[--minimal] trace DATAPATH MICROFLOW",
     "ct-list",
     "ct-flush",
+    "nbr-list",
+    "nbr-flush",
     "dump",
 ];
 
 /// What the datapath of a query is.
-pub(crate) static DATAPATH: &str = "SWITCH, the name of a switch";
+pub(crate) static DATAPATH: &str = "DATAPATH, the name of a switch or of a router";
 
 /// What a name of an object is.
 pub(crate) static OBJECT_NAME: &str =
@@ -354,7 +356,6 @@ pub(crate) enum Slip {
     PortForDatapath,
     MayExist,
     IfExists,
-    RouterAddress,
     Ipv6,
     Comma,
     Capitals,
@@ -362,7 +363,7 @@ pub(crate) enum Slip {
 }
 
 /// What a slip looks like, and the hint.
-pub(crate) static SLIPS: [(&str, &str); 25] = [
+pub(crate) static SLIPS: [(&str, &str); 24] = [
     (
         "`ls-add sw0 # the first one`",
         "a comment stands on a line of its own: after other words `#` begins a word",
@@ -421,7 +422,7 @@ pub(crate) static SLIPS: [(&str, &str); 25] = [
         "write to-lport: the ACLs of packets that go to ports, in the egress pipeline",
     ),
     (
-        "`lr-add r0`",
+        "`lb-add lb0 10.0.0.1 10.0.0.2`",
         "the command is one of ovn-nbctl that a script cannot use yet",
     ),
     (
@@ -430,7 +431,7 @@ pub(crate) static SLIPS: [(&str, &str); 25] = [
     ),
     (
         "`trace p1 'inport == \"p1\"'`",
-        "this is the name of a port: a query names the datapath, which is the switch that has it",
+        "this is the name of a port: a query names the datapath, which is the switch or the router that has it",
     ),
     (
         "`ls-add sw0` a second time",
@@ -439,10 +440,6 @@ pub(crate) static SLIPS: [(&str, &str); 25] = [
     (
         "`ls-del sw0` a second time",
         "with --if-exists before the command it is no refusal that the object is not there",
-    ),
-    (
-        "`lsp-set-addresses p1 router`",
-        "routers are not built yet: write the MAC and the addresses of the router port",
     ),
     (
         "`lsp-set-addresses p1 '00:00:00:00:00:01 fe80::1'`",

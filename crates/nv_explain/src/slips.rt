@@ -257,17 +257,12 @@ fn is_acl_option(text: &[u8]) -> bool {
 }
 
 fn not_in_profile(command: &Command, text: &[u8]) -> Option<Slip> {
-    match text {
-        b"router" => Some(Slip::RouterAddress),
-        _ => {
-            if is_acl_option(text) && matches!(verb_in(command), Some(Verb::AclAdd)) {
-                Some(Slip::AclOption)
-            } else if !text.starts_with(b"-") && text.contains(&b':') {
-                Some(Slip::Ipv6)
-            } else {
-                None
-            }
-        }
+    if is_acl_option(text) && matches!(verb_in(command), Some(Verb::AclAdd)) {
+        Some(Slip::AclOption)
+    } else if !text.starts_with(b"-") && text.contains(&b':') {
+        Some(Slip::Ipv6)
+    } else {
+        None
     }
 }
 

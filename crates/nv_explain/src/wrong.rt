@@ -71,7 +71,11 @@ fn most_of(question: Question) -> usize {
     match question {
         Question::FlowList => 1,
         Question::Trace => 2,
-        Question::CtList | Question::CtFlush | Question::Dump => 0,
+        Question::CtList
+        | Question::CtFlush
+        | Question::NbrList
+        | Question::NbrFlush
+        | Question::Dump => 0,
     }
 }
 

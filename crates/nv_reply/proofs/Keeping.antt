@@ -25,6 +25,8 @@ query_keeps P session (query.FlowList (Some name)) here = answered_keeps P sessi
 query_keeps P session (query.Trace minimal dp micro) here = answered_keeps P session (traced_port session.network dp micro.inport) _ here (λ port found. here)
 query_keeps P session query.CtList here = here
 query_keeps P session query.CtFlush here = here
+query_keeps P session query.NbrList here = here
+query_keeps P session query.NbrFlush here = here
 query_keeps P session query.Dump here = here
 
 -- what holds of the network, and after the edits of the line, if it asks for edits and none is refused

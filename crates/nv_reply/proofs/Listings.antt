@@ -6,15 +6,15 @@ use Rattle.std.proofs.lemmas.List.{append-nil}
 use Rattle.nv_base.specs.declared.object.ObjId.{ObjId}
 use Rattle.nv_io.specs.State.{SinkState}
 use Rattle.nv_io.specs.declared.sink.SinkFailed.{SinkFailed}
-use Rattle.nb_records.specs.declared.switch.Switch.{Switch}
-use Rattle.nv_table.specs.Table.{NumbersRise, record_after}
+use Rattle.nb_model.specs.Network.{Network}
 use Rattle.sb_model.specs.declared.row.Row.{Row}
 use Rattle.sb_rows.specs.Row.{rows_of}
 use Rattle.sb_rows.specs.Listing.{datapath_listing, is_asked_for, listing}
-use Rattle.nv_table.proofs.Through.{left_after, all_left, none_left, one_left}
 use Rattle.nv_reply.specs.declared.stop.Stop.{Stop}
 use Rattle.nv_reply.specs.declared.stop.Stop.TheVariants.{OutOfMemory}
 use Rattle.nv_reply.specs.Reply.{datapaths}
+use Rattle.nv_reply.specs.inner.Left.{left}
+use Rattle.nv_reply.proofs.Datapaths.{all_at_first}
 use Rattle.nv_io.specs.Writing.{Wrote, PutFailed}
 use Rattle.nv_reply.specs.Stops.{StopsWithin}
 use Rattle.nv_io.proofs.Writing.{wrote_nothing, wrote_after}
@@ -81,48 +81,48 @@ module _ (rows : List Row) (only : Option ObjId) where
     listed_all : (k l : K) (all : List Datapath) → Listed k l all [] → Wrote gives state k l (listing rows all only)
     listed_all k l all (listed, whole, wrote) = subst (λ d. Wrote gives state k l (listing rows d only)) (sym (whole ∙ append-nil listed)) wrote
 
-    module _ (switches : List Switch) where
-      -- the switches after the last one
-      abbrev left : Option ObjId → List Datapath
-      left last = datapaths (left_after (λ (s : Switch). s.id) last switches)
+    module _ (net : Network) where
+      -- all datapaths
+      abbrev all : List Datapath
+      all = datapaths net.switches net.routers
 
-      -- all but some, and but the switches after the last of them, were listed
+      -- all but some, and but those after the last of them, were listed
       abbrev pub ListedTo : K → K → List Datapath → Option ObjId → Type 0
-      ListedTo old new some last = Listed old new (datapaths switches) (some ++ left last)
+      ListedTo old new some last = Listed old new all (some ++ left last net)
 
       pub listed_first : (k : K) → ListedTo k k [] None
-      listed_first k = ([], sym (ap datapaths (all_left (λ (s : Switch). s.id) switches)), wrote_nothing gives state k)
+      listed_first k = ([], sym (all_at_first net), wrote_nothing gives state k)
 
       module _ (k l : K) (some : List Datapath) (last : Option ObjId) (so_far : ListedTo k l some last) where
         -- memory ran out
-        pub listed_memory : StopsWithin (Wrote gives state k l) (PutFailed gives state k l) (listing rows (datapaths switches) only) OutOfMemory
-        listed_memory = listed_stop k l (datapaths switches) (some ++ left last) so_far l [] (some ++ left last) OutOfMemory refl (stopped_first gives state l [])
+        pub listed_memory : StopsWithin (Wrote gives state k l) (PutFailed gives state k l) (listing rows all only) OutOfMemory
+        listed_memory = listed_stop k l all (some ++ left last net) so_far l [] (some ++ left last net) OutOfMemory refl (stopped_first gives state l [])
 
-        module _ (switch : Switch) (rise : NumbersRise (λ (s : Switch). s.id) switches) (found : record_after (λ (s : Switch). s.id) last switches ≡ Some switch) where
-          -- with the switch after the last
+        module _ (d : Datapath) (next : left last net ≡ d ∷ left (Some d.0) net) where
+          -- with the one after the last
           abbrev more : List Datapath
-          more = some ++ (switch.id, switch.name) ∷ []
+          more = some ++ d ∷ []
 
-          with_one : some ++ left last ≡ more ++ left (Some switch.id)
-          with_one = ap (λ rest. some ++ datapaths rest) (one_left (λ (s : Switch). s.id) last switches switch rise found) ∙ sym (append_assoc some ((switch.id, switch.name) ∷ []) (left (Some switch.id)))
+          with_one : some ++ left last net ≡ more ++ left (Some d.0) net
+          with_one = ap (λ rest. some ++ rest) next ∙ sym (append_assoc some (d ∷ []) (left (Some d.0) net))
 
-          pub listed_more : (m : K) (others : List Datapath) → ListedOf l m more others → ListedTo k m others (Some switch.id)
+          pub listed_more : (m : K) (others : List Datapath) → ListedOf l m more others → ListedTo k m others (Some d.0)
           listed_more m others (part, parts, wrote) =
-              listed_next k l (datapaths switches) (some ++ left last) so_far m part (others ++ left (Some switch.id))
-              (with_one ∙ ap (λ these. these ++ left (Some switch.id)) parts ∙ append_assoc part others (left (Some switch.id))) wrote
+              listed_next k l all (some ++ left last net) so_far m part (others ++ left (Some d.0) net)
+              (with_one ∙ ap (λ these. these ++ left (Some d.0) net) parts ∙ append_assoc part others (left (Some d.0) net)) wrote
 
           pub stopped_more : (m : K) (stop : Stop) → StopsWithin (Wrote gives state l m) (PutFailed gives state l m) (listing rows more only) stop
-              → StopsWithin (Wrote gives state k m) (PutFailed gives state k m) (listing rows (datapaths switches) only) stop
-          stopped_more m stop stops = listed_stop k l (datapaths switches) (some ++ left last) so_far m more (left (Some switch.id)) stop with_one stops
+              → StopsWithin (Wrote gives state k m) (PutFailed gives state k m) (listing rows all only) stop
+          stopped_more m stop stops = listed_stop k l all (some ++ left last net) so_far m more (left (Some d.0) net) stop with_one stops
 
-        module _ (none : record_after (λ (s : Switch). s.id) last switches ≡ None) where
-          -- no switch is after the last
-          with_none : some ++ left last ≡ some ++ []
-          with_none = ap (λ rest. some ++ datapaths rest) (none_left (λ (s : Switch). s.id) last switches none)
+        module _ (none : left last net ≡ []) where
+          -- none is after the last
+          with_none : some ++ left last net ≡ some ++ []
+          with_none = ap (λ rest. some ++ rest) none
 
-          pub listed_end : (m : K) → Wrote gives state l m (listing rows some only) → Wrote gives state k m (listing rows (datapaths switches) only)
-          listed_end m wrote = listed_all k m (datapaths switches) (listed_next k l (datapaths switches) (some ++ left last) so_far m some [] with_none wrote)
+          pub listed_end : (m : K) → Wrote gives state l m (listing rows some only) → Wrote gives state k m (listing rows all only)
+          listed_end m wrote = listed_all k m all (listed_next k l all (some ++ left last net) so_far m some [] with_none wrote)
 
           pub stopped_end : (m : K) (stop : Stop) → StopsWithin (Wrote gives state l m) (PutFailed gives state l m) (listing rows some only) stop
-              → StopsWithin (Wrote gives state k m) (PutFailed gives state k m) (listing rows (datapaths switches) only) stop
-          stopped_end m stop stops = listed_stop k l (datapaths switches) (some ++ left last) so_far m some [] stop with_none stops
+              → StopsWithin (Wrote gives state k m) (PutFailed gives state k m) (listing rows all only) stop
+          stopped_end m stop stops = listed_stop k l all (some ++ left last net) so_far m some [] stop with_none stops

@@ -66,7 +66,7 @@ reply_next session line =
     reply_keeps (λ after. after.next ≤ session.network.next + length line) session line (omega arith) (λ list net said done.
     omega (arith, line_short line list said, IfOk-at_ok (λ (after : Network). after.next ≤ session.network.next + length list) done (edited_next session.network list)))
 
-reply_sound : (session : Session) (line : List ℕ) → IsSound session.network → session.network.next + length line < number_limit → IsSound (reply session line).after.network
+pub reply_sound : (session : Session) (line : List ℕ) → IsSound session.network → session.network.next + length line < number_limit → IsSound (reply session line).after.network
 reply_sound session line sound room =
     reply_keeps IsSound session line sound (λ list net said done.
     IfOk-at_ok IsSound done (edited_sound session.network list sound (line_readable line list said) (omega (arith, line_short line list said, room))))
@@ -77,7 +77,7 @@ lines_sound session (line ∷ lines) sound room =
     let bytes = sum_by-cons length line lines in
     lines_sound (reply session line).after lines (reply_sound session line sound (omega (arith, bytes, room))) (omega (arith, bytes, room, reply_next session line))
 
-empty_sound : IsSound empty_network
+pub empty_sound : IsSound empty_network
 empty_sound = record {
   numbered = record {
     order = record {
@@ -127,7 +127,7 @@ pub plain_edited : (old new : Network) (list : List Edit) → IsPlain old → Al
 plain_edited old new list plain built done = IfOk-at_ok IsPlain done (edited_plain old list plain built)
 
 -- a line leaves a plain network plain
-reply_plain : (session : Session) (line : List ℕ) → IsPlain session.network → IsPlain (reply session line).after.network
+pub reply_plain : (session : Session) (line : List ℕ) → IsPlain session.network → IsPlain (reply session line).after.network
 reply_plain session line plain =
     reply_keeps IsPlain session line plain (λ list net said done.
     plain_edited session.network net list plain (line_built line list said) done)

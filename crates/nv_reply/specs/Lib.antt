@@ -1,6 +1,7 @@
 pub mod Answer
 pub mod Connections
 pub mod Events
+pub mod Neighbours
 pub mod Reply
 pub mod Session
 pub mod Stops

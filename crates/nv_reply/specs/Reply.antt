@@ -3,23 +3,26 @@ use Rattle.std.specs.Prelude.{ℕ, Bool, true, false, ◌||◌, List, [], ◌∷
 use Rattle.nv_base.specs.declared.object.ObjId.{ObjId}
 use Rattle.pkt_core.specs.Packet.{Values}
 use Rattle.ct_core.specs.State.{State, with_conns}
+use Rattle.ct_state.specs.Work.{with_nbrs}
 use Rattle.nb_records.specs.declared.refusal.Refusal.{Refusal}
 use Rattle.nb_records.specs.declared.refusal.Refusal.TheVariants.{NoSuchObject, NotOnDatapath}
+use Rattle.nb_records.specs.declared.router.Router.{Router}
 use Rattle.nb_records.specs.declared.switch.Switch.{Switch}
 use Rattle.nb_records.specs.Refusal.{refusal_line}
 use Rattle.nb_cmds.specs.Lines.{read_line}
 use Rattle.nb_cmds.specs.declared.line.Line.{Line}
 use Rattle.nb_cmds.specs.declared.line.Line.TheVariants.{Nothing, Edits, Query}
 use Rattle.nb_cmds.specs.declared.query.Query as query
-use Rattle.nb_cmds.specs.declared.query.Query.TheVariants.{FlowList, CtList, CtFlush, Dump, Trace}
+use Rattle.nb_cmds.specs.declared.query.Query.TheVariants.{FlowList, CtList, CtFlush, NbrList, NbrFlush, Dump, Trace}
 use Rattle.nb_read.specs.Then.{and_then}
 use Rattle.nb_model.specs.Belongs.{is_number}
 use Rattle.nb_model.specs.Network.{Network}
 use Rattle.nb_model.specs.Transactions.{edited}
 use Rattle.nb_store.specs.Places.{datapath_of, on_datapath, port_of}
 use Rattle.nb_dump.specs.Dump.{dump}
+use Rattle.nv_table.specs.Table.{with_record}
 use Rattle.sb_rows.specs.Listing.{listing}
-use Rattle.net_rows.specs.Build.{rows}
+use Rattle.lr_units.specs.Network.{network_rows}
 use Rattle.tr_walk.specs.declared.event.Event.{Event}
 use Rattle.tr_walk.specs.Events.{event_of}
 use Rattle.net_meaning.specs.Walk.{Walked}
@@ -27,6 +30,7 @@ use Rattle.tr_stage.specs.declared.outcome.Hit.{Hit}
 use Rattle.tr_walk.specs.Machine.{machine}
 use Rattle.nv_reply.specs.Connections.{connection_lines}
 use Rattle.nv_reply.specs.Events.{event_lines}
+use Rattle.nv_reply.specs.Neighbours.{neighbour_lines}
 use Rattle.nv_reply.specs.Session.{Session, with_state}
 use Rattle.nv_reply.specs.Struck.{struck}
 
@@ -53,13 +57,14 @@ abbrev pub answered : {X : Type 0} → Session → Result X Refusal → (X → R
 answered session (Err refusal) reply_for = refuse session refusal
 answered session (Ok found) reply_for = reply_for found
 
--- the numbers and the names of the datapaths that have flows
-abbrev pub datapaths : List Switch → List (ObjId × List ℕ)
-datapaths switches = map (λ switch. (switch.id, switch.name)) switches
+-- the numbers and the names of switches and routers, by rising number
+abbrev pub datapaths : List Switch → List Router → List (ObjId × List ℕ)
+datapaths switches [] = map (λ switch. (switch.id, switch.name)) switches
+datapaths switches (router ∷ routers) = with_record (λ dp. dp.0) (router.id, router.name) (datapaths switches routers)
 
 -- the listing of the flows of one datapath, or of all
 unfoldable pub flows : Network → Option ObjId → List ℕ
-flows net only = listing (rows net) (datapaths net.switches) only
+flows net only = listing (network_rows net) (datapaths net.switches net.routers) only
 
 -- the number of the switch or the router of this name
 abbrev pub wanted_datapath : Network → List ℕ → Result ObjId Refusal
@@ -93,6 +98,10 @@ after_trace session port packet = with_state (walked session port packet).state 
 abbrev pub flushed : Session → Session
 flushed session = with_state (with_conns [] session.state) session
 
+-- the session without neighbours
+abbrev pub forgotten : Session → Session
+forgotten session = with_state (with_nbrs [] session.state) session
+
 -- the session after edits that leave this network
 abbrev pub after_edits : Session → Network → Session
 after_edits session net = record session { network = net; state = struck session.network net session.state }
@@ -109,6 +118,8 @@ reply_to_query session (Trace minimal dp micro) =
     answered session (traced_port session.network dp micro.inport) (λ port. accept (trace_lines session minimal port micro.packet) (after_trace session port micro.packet))
 reply_to_query session CtList = accept (connection_lines session.network session.state.conns) session
 reply_to_query session CtFlush = accept [] (flushed session)
+reply_to_query session NbrList = accept (neighbour_lines session.network session.state.nbrs) session
+reply_to_query session NbrFlush = accept [] (forgotten session)
 reply_to_query session Dump = accept (dump session.network) session
 
 -- the reply to what a line says

@@ -1,3 +1,4 @@
 -- What private contracts and proofs cite. No clause of a public call does, so a reader need not believe it.
 pub mod KeptRows
-pub mod StruckPorts
+pub mod Left
+pub mod StruckObjects

@@ -6,13 +6,17 @@ mod connections;
 mod events;
 mod laws;
 mod listing;
+mod neighbours;
 mod reply;
 mod session;
 mod stop;
 mod strike;
 
 pub use answer::Answer;
-pub use laws::{lines_leave_plain_networks, lines_leave_sound_networks, refusals_say_so};
+pub use laws::{
+    lines_leave_plain_networks, lines_leave_sound_networks, lines_leave_states_that_know_macs,
+    refusals_say_so,
+};
 pub use reply::run_line;
 pub use session::Session;
 pub use stop::Stop;

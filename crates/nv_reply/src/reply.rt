@@ -6,13 +6,14 @@ ghost use Rattle.nb_model.specs.Readable.{IsReadable};
 ghost use Rattle.nb_model.specs.Plain.{IsBuilt};
 ghost use Rattle.nb_store.specs.Places.{on_datapath};
 ghost use Rattle.nv_reply.specs.declared.answer.Answer.TheVariants as answers;
-ghost use Rattle.nv_reply.specs.Reply.{accept, after_trace, flushed, ok_line, trace_lines, traced_port, reply_to_query, reply_to, reply};
+ghost use Rattle.nv_reply.specs.Reply.{accept, after_trace, flushed, forgotten, ok_line, trace_lines, traced_port, reply_to_query, reply_to, reply};
 ghost use Rattle.nv_reply.specs.Answer.{IsAnswered};
 ghost use Rattle.nv_base.specs.Object.{number_limit};
 
 use crate::answer::Answer;
 use crate::connections::put_connections;
 use crate::events::put_events;
+use crate::neighbours::put_neighbours;
 use crate::session::Session;
 use nb_cmds::{Line, Query, read_line};
 use nb_dump::put_dump;
@@ -80,6 +81,8 @@ fn run_query(
         Query::Trace { minimal, dp, micro } => run_trace(alloc, session, minimal, dp, micro, out),
         Query::CtList => list_connections(session, out),
         Query::CtFlush => flush_connections(session, out),
+        Query::NbrList => list_neighbours(session, out),
+        Query::NbrFlush => flush_neighbours(session, out),
         Query::Dump => dump(session, out),
     }
 }
@@ -106,6 +109,21 @@ fn flush_connections(session: &mut Session, out: &mut Vec<u8>) -> Result<Answer,
     ensures after { session.new ≡ flushed session.old }
 {
     session.flush_conns();
+    accept(out)
+}
+
+fn list_neighbours(session: &Session, out: &mut Vec<u8>) -> Result<Answer, OutOfMemory>
+    ensures { IfOk result (λ answer. IsAnswered (reply_to_query session.now Query.NbrList) out.old.items out.new.items answer) }
+{
+    put_neighbours(session.records(), session.nbrs(), out)?;
+    accept(out)
+}
+
+fn flush_neighbours(session: &mut Session, out: &mut Vec<u8>) -> Result<Answer, OutOfMemory>
+    ensures answer { IfOk result (λ answer. IsAnswered (reply_to_query session.old Query.NbrFlush) out.old.items out.new.items answer) }
+    ensures after { session.new ≡ forgotten session.old }
+{
+    session.flush_nbrs();
     accept(out)
 }
 

@@ -6,7 +6,7 @@ ghost use Rattle.nb_model.specs.Sound.{IsSound};
 ghost use Rattle.nb_model.specs.Transactions.{edited};
 ghost use Rattle.nb_model.specs.Plain.{IsBuilt, IsPlain};
 ghost use Rattle.tr_walk.specs.Refined.{IsRefined};
-ghost use Rattle.nv_reply.specs.Reply.{after_trace, flows, flushed, traced};
+ghost use Rattle.nv_reply.specs.Reply.{after_trace, flows, flushed, forgotten, traced};
 ghost use Rattle.nv_reply.specs.Session.{new_session};
 ghost use Rattle.nv_reply.specs.Struck.{struck};
 ghost use Rattle.nv_reply.specs.inner.KeptRows.{AreRowsOf};
@@ -16,7 +16,8 @@ ghost use Rattle.nv_base.specs.Object.{number_limit};
 
 use crate::listing::put_datapaths;
 use crate::stop::Stop;
-use crate::strike::strike_ports;
+use crate::strike::strike_objects;
+use ct_nbrs::Neighbours;
 use ct_state::State;
 use ct_table::Conns;
 use nb_check::Tables;
@@ -106,7 +107,7 @@ impl Session {
         if changes.any {
             self.rows = None;
         }
-        strike_ports(&mut self.state, changes.gone.as_slice());
+        strike_objects(&mut self.state, &changes.gone);
         Ok(())
     }
 
@@ -139,6 +140,20 @@ impl Session {
         self.state.flush_conns();
     }
 
+    /// What routers' ports have learnt of their neighbours.
+    pub fn nbrs(&self) -> &Neighbours
+        ensures { result.now ≡ self.now.state.nbrs }
+    {
+        self.state.nbrs()
+    }
+
+    /// Takes out all that routers' ports have learnt of their neighbours (modelled on the table MAC_Binding of ovn-sb(5)).
+    pub fn flush_nbrs(&mut self)
+        ensures { self.new ≡ forgotten self.old }
+    {
+        self.state.flush_nbrs();
+    }
+
     /// Puts the listing of the flows of one datapath, or of all (ovn-sbctl(8), `lflow-list`). The rows are made where the
     /// network has changed, and kept. `Stop` where the sink fails or memory runs out: a front of the listing was put.
     #[tactic(auto, unfolding(crate::specs::Reply::flows), using(crate::proofs::Stops::stopped_first))]
@@ -155,7 +170,7 @@ impl Session {
         ensures same { self.new ≡ self.old }
     {
         let rows = self.take_rows(alloc)?;
-        put_datapaths(alloc, &rows, self.tables.records().switches(), only, sink)?;
+        put_datapaths(alloc, &rows, self.tables.records(), only, sink)?;
         self.rows = Some(rows);
         Ok(())
     }

@@ -3,7 +3,7 @@ use Rattle.std.proofs.Common.{◌≡◌, ℕ, ◌+◌, ◌<◌, Bool, Ok, List, 
 use Rattle.std.specs.Prelude.{map}
 use Rattle.clap.specs.Words.{Text}
 use Rattle.nv_options.specs.Options.{hops_in}
-use Rattle.nb_records.specs.declared.switch.Port.{Port}
+use Rattle.nv_base.specs.declared.object.ObjId.{ObjId}
 use Rattle.nb_cmds.specs.Lines.{read_line}
 use Rattle.nb_cmds.specs.declared.line.Line.TheVariants.{Query}
 use Rattle.nb_cmds.specs.declared.query.Query.TheVariants.{Trace}
@@ -21,7 +21,9 @@ use Rattle.nv_reply.specs.Reply.{accept, after_trace, answered, trace_lines, rep
 use Rattle.nv_reply.specs.Session.{Session}
 use Rattle.nv_serve.specs.Traced.{TellsMeaning, TracesAreMeant}
 use Rattle.nv_serve.proofs.Lengths.{before_longer}
+use Rattle.nv_reply.proofs.LearntMacs.{macs_after}
 use Rattle.nv_reply.proofs.Reached.{each_refined}
+use Rattle.nv_reply.proofs.TracedPorts.{traced_is_port}
 use Rattle.nv_base.specs.Object.{number_limit}
 
 -- what becomes of a packet is an event without a hit
@@ -37,19 +39,21 @@ without_hits_is [] = refl
 without_hits_is (Note hit ∷ told) = without_hits_is told
 without_hits_is (Happens event ∷ told) = rw (of_plain_is event) (ap (λ more. event ∷ more) (without_hits_is told))
 
-tells : (session : Session) (line : List ℕ) (minimal : Bool) (dp : List ℕ) (micro : Micro) (arrival : Port) → read_line line ≡ Ok (Query (Trace minimal dp micro))
+tells : (session : Session) (line : List ℕ) (minimal : Bool) (dp : List ℕ) (micro : Micro) (arrival : ObjId) → read_line line ≡ Ok (Query (Trace minimal dp micro))
     → TellsMeaning session minimal arrival micro.packet (reply_to session (Query (Trace minimal dp micro))) → TellsMeaning session minimal arrival micro.packet (reply session line)
 unfolding reply
 tells session line minimal dp micro arrival is rest =
     subst (λ answer. TellsMeaning session minimal arrival micro.packet answer) (sym (ap (λ read. answered session read (reply_to session)) is)) rest
 
--- each trace that begins at a port of a switch is answered by what the network does with the packet
+-- each trace is answered by what the network does with the packet
 pub traces_meant : (words : List Text) (lines : List (List ℕ)) → 1 + sum_by length lines < number_limit → TracesAreMeant words lines
-traces_meant words lines room before line later all minimal dp micro is arrival there port =
+traces_meant words lines room before line later all minimal dp micro is arrival port =
     let session = session_after (opened words) before in
-    let alike = each_refined (hops_in words) before (omega (arith, room, before_longer lines before line later all)) session.hops arrival micro.packet session.state there (query_well_read line (Trace minimal dp micro) is).2 in
+    let few = before_longer lines before line later all in
+    let alike = each_refined (hops_in words) before (omega (arith, room, few)) session.hops arrival micro.packet session.state
+    (traced_is_port session.network dp micro.inport arrival port) (query_well_read line (Trace minimal dp micro) is).2 (macs_after (hops_in words) before (omega (arith, room, few))) in
     tells session line minimal dp micro arrival is (record {
       told = ap (λ found. (answered session found (λ port. accept (trace_lines session minimal port micro.packet) (after_trace session port micro.packet))).text) port;
-      meant = without_hits_is (machine session.network session.hops arrival.id micro.packet session.state).told ∙ alike.told;
+      meant = without_hits_is (machine session.network session.hops arrival micro.packet session.state).told ∙ alike.told;
       left = ap (λ found. (answered session found (λ port. accept (trace_lines session minimal port micro.packet) (after_trace session port micro.packet))).after.state) port ∙ alike.left;
     })

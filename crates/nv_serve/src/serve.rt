@@ -63,7 +63,7 @@ pub fn run<S: Source, K: Sink>(
         → (result ≡ Status.Usage) ⊎ (result ≡ Status.WriteFault) ⊎ (result ≡ Status.OutOfMemory) }
     ensures usage_reads_nothing { accepts (map string_bytes arguments.now) ≡ false → source.new ≡ source.old }
 
-    // Each trace of the input that begins at a port of a switch is answered by the lines of events that are, hits left out,
+    // Each trace of the input is answered by the lines of events that are, hits left out,
     // what the network does with the packet, from the state that earlier packets left; and it leaves the state that this leaves.
     ensures refinement { IsFinished result → Moved S.state K.state (source.old, sink.old) (source.new, sink.new) (λ given written.
         (written ≡ output (map string_bytes arguments.now) given) × TracesAreMeant (map string_bytes arguments.now) (lines_of given)) }

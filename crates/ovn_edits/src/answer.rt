@@ -1,6 +1,7 @@
 use crate::choice::put_deciding;
 use crate::counts::put_counts;
 use crate::edits::readable_edits;
+use crate::route::put_route;
 use crate::touched::put_touched;
 use nb_check::Tables;
 use nb_dump::put_dump;
@@ -26,6 +27,12 @@ enum Query<'c> {
         source: &'c Word,
         destination: &'c Word,
     },
+    // By which hop a router passes a packet from one address to another on.
+    Route {
+        router: &'c Word,
+        source: &'c Word,
+        destination: &'c Word,
+    },
 }
 
 // The query that the commands are.
@@ -45,6 +52,11 @@ fn query_of(commands: &[Command]) -> Option<Query> {
                 destination,
             })
         }
+        [word, router, source, destination] if is_word(word, b"route") => Some(Query::Route {
+            router,
+            source,
+            destination,
+        }),
         _ => None,
     }
 }
@@ -71,6 +83,11 @@ fn put_query(
             source,
             destination,
         } => put_deciding(alloc, tables, out, switch, source, destination),
+        Query::Route {
+            router,
+            source,
+            destination,
+        } => put_route(alloc, tables, out, router, source, destination),
     }
 }
 

@@ -1,14 +1,16 @@
 //! `ovn_edits`: reads a script of editing commands on standard input, does what each line asks for, and answers each by `ok` or by its
 //! refusal; `dump` alone in a line is answered by the network, as the script that makes it, `show` by the network as ovn-nbctl(8) shows
 //! it, `count` by how much there is of each kind, and `deciding` before a switch and two MACs by the ACL that decides in each direction
-//! on a packet from the first to the second; `touched` by the kinds and numbers of the records that the last accepted line of edits may have
-//! changed.
+//! on a packet from the first to the second; `route` before a router and two addresses by the hop by which it passes a packet from the first
+//! to the second on: the number of the port, the next host, and the address that asks for its MAC; `touched` by the kinds and numbers of the
+//! records that the last accepted line of edits may have changed.
 #![tactic(auto)]
 
 mod answer;
 mod choice;
 mod counts;
 mod edits;
+mod route;
 mod touched;
 
 use answer::put_answer;

@@ -32,6 +32,8 @@ fn put_query(out: &mut Vec<u8>, query: &Query) -> Result<(), OutOfMemory> {
         }
         Query::CtList => out.extend_from_slice(b"ct-list")?,
         Query::CtFlush => out.extend_from_slice(b"ct-flush")?,
+        Query::NbrList => out.extend_from_slice(b"nbr-list")?,
+        Query::NbrFlush => out.extend_from_slice(b"nbr-flush")?,
         Query::Dump => out.extend_from_slice(b"dump")?,
     }
     out.push(b'\n')?;

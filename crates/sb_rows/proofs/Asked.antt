@@ -1,57 +1,62 @@
 -- What a match asks of a packet before all else.
-use Rattle.std.proofs.Common.{◌≡◌, ℕ, zero, suc, ◌<◌, Bool, true, false, List, [], ◌∷◌, length, get_or, eqb, ap, ◌∙◌, refl, sym, arith}
-use Rattle.std.specs.Prelude.{◌&&◌}
+use Rattle.std.proofs.Common.{◌≡◌, ℕ, zero, suc, ◌<◌, Bool, true, false, List, [], ◌∷◌, length, get_or, ap, refl, sym, arith}
+use Rattle.std.specs.Prelude.{◌||◌, Option, Some, None}
+use Rattle.std.proofs.lemmas.Bool.{false≢true, eqb-true, and_parts}
+use Rattle.nv_base.specs.Field.{field_width}
 use Rattle.nv_base.specs.declared.field.Field.{Field}
-use Rattle.std.proofs.lemmas.Bool.{false≢true, eqb-true, eq-eqb}
+use Rattle.nv_base.specs.declared.object.ObjId.{ObjId}
 use Rattle.expr_core.specs.Formula.{Formula, formulas}
 use Rattle.expr_core.specs.Formula.Formula.{Leaf, And}
 use Rattle.expr_core.specs.Lookup.{Lookup}
-use Rattle.expr_core.specs.declared.comparison.Item.TheVariants.{One}
+use Rattle.expr_core.specs.declared.comparison.Item.{Item}
+use Rattle.expr_core.specs.declared.comparison.Item.TheVariants.{One, Masked, Text, AddrSet, Group}
 use Rattle.expr_core.specs.declared.comparison.Rel.TheVariants.{Eq}
-use Rattle.expr_core.specs.declared.comparison.Right.TheVariants as right
-use Rattle.expr_core.specs.declared.constant.Const.{Const}
+use Rattle.expr_core.specs.declared.comparison.Right.{Right}
+use Rattle.expr_core.specs.declared.comparison.Right.TheVariants as right_of
 use Rattle.expr_core.specs.declared.part.Bits.TheVariants.{Whole}
 use Rattle.expr_core.specs.declared.typed.TypedAtom.{TypedAtom}
 use Rattle.expr_core.specs.declared.typed.TypedAtom.TheVariants.{Compare}
 use Rattle.expr_eval.specs.MatchMeaning.{holds}
+use Rattle.expr_eval.specs.Relation.{equals, equals_item, is_of_port, relates}
 use Rattle.pkt_core.specs.Packet.{Values, value}
-use Rattle.pkt_core.specs.Prerequisite.{is_there}
-use Rattle.sb_rows.specs.declared.stored.Asked.{Asked}
-use Rattle.sb_rows.specs.declared.stored.Shape.TheVariants.{Number}
-use Rattle.sb_rows.specs.inner.Beside.{bucket_of, has_asked, IsAskedBy, nothing_asked}
+use Rattle.sb_rows.specs.declared.asks.Asks.{Asks}
+use Rattle.sb_rows.specs.inner.Asks.{Adds, HasAsked}
 
--- numbers of a field that are in two buckets are two
-apart_by_bucket : (field : Field) (n c : ℕ) → eqb (bucket_of field n) (bucket_of field c) ≡ false → eqb n c ≡ false
-apart_by_bucket field n c other = by (eqb n c) refl
+-- a number that equals what is compared by `==`
+pub equals_from : (net : Lookup) (width n : ℕ) (right : Right) → relates net width n Eq right ≡ true → equals net width n right ≡ true
+equals_from net width n (right_of.Item (One c)) is = is
+equals_from net width n (right_of.Item (Masked c m)) is = is
+equals_from net width n (right_of.Item (Text name)) is = is
+equals_from net width n (right_of.Item (AddrSet name)) is = is
+equals_from net width n (right_of.Item (Group name)) is = is
+equals_from net width n (right_of.Set items) is = is
+
+-- the port of a name has the number that equals it
+pub port_from : (n : ℕ) (port : Option ObjId) → is_of_port n port ≡ true → port ≡ Some (record { 0 = n })
+port_from n None is = absurd (false≢true is)
+port_from n (Some port) is = ap (λ m. Some (record { 0 = m })) (sym (eqb-true n port.0 is))
+
+-- a number that equals one of one item equals it
+pub one_item : (net : Lookup) (width n : ℕ) (item : Item) → equals net width n (right_of.Set (item ∷ [])) ≡ true → equals_item net width n item ≡ true
+one_item net width n item is = by (equals_item net width n item) is
   where
-    by : (b : Bool) → eqb n c ≡ b → b ≡ false
-    by true is = absurd (false≢true (sym other ∙ eq-eqb (bucket_of field n) (bucket_of field c) (ap (bucket_of field) (eqb-true n c is))))
-    by false is = refl
+    by : (b : Bool) → (b || false) ≡ true → b ≡ true
+    by true e = refl
+    by false e = e
 
-and_false : (b c : Bool) → c ≡ false → (b && c) ≡ false
-and_false true c e = e
-and_false false c e = refl
+-- each operand of a conjunction holds where that does
+pub operand_holds : (net : Lookup) (packet : Values) (operands : List (Formula TypedAtom)) (i : ℕ) (d : Formula TypedAtom) → i < length operands → holds net packet (And (formulas operands)) ≡ true
+    → holds net packet (get_or operands i d) ≡ true
+operand_holds net packet [] i d below is = absurd (omega arith)
+operand_holds net packet (f ∷ fs) zero d below is = (and_parts _ _ is).0
+operand_holds net packet (f ∷ fs) (suc i) d below is = operand_holds net packet fs i d (omega arith) (and_parts _ _ is).1
 
--- any match asks that a packet has anything
-pub asks_nothing : (matching : Formula TypedAtom) → IsAskedBy matching nothing_asked
-asks_nothing matching net packet not = absurd (false≢true (sym not))
+-- what a comparison of a field by `==` asks for, where what equals the right side does
+pub comparison_adds : (field : Field) (right : Right) (before after : Asks) → ((net : Lookup) (packet : Values) (width : ℕ) → HasAsked before net packet → equals net width (value packet field) right ≡ true → HasAsked after net packet)
+    → Adds (Leaf (Compare field Whole Eq right)) before after
+comparison_adds field right before after given net packet has is = given net packet (field_width field) has (equals_from net (field_width field) (value packet field) right (and_parts _ _ is).1)
 
--- the comparison of a field with a number asks for the bucket of the number
-pub asks_number : (field : Field) (c : Const) → IsAskedBy (Leaf (Compare field Whole Eq (right.Item (One c)))) (record { shape = Number field; bucket = bucket_of field c.value })
-asks_number field c net packet other = and_false (is_there packet field) _ (apart_by_bucket field (value packet field) c.value other)
-
--- what an operand of a conjunction asks, the conjunction does
-pub asks_as_operand : (operands : List (Formula TypedAtom)) (asked : Asked) (i : ℕ) (d : Formula TypedAtom) → i < length operands → IsAskedBy (get_or operands i d) asked
-    → IsAskedBy (And (formulas operands)) asked
-asks_as_operand [] asked i d below asks net packet not = absurd (omega arith)
-asks_as_operand (f ∷ fs) asked zero d below asks net packet not = rw (asks net packet not) refl
-asks_as_operand (f ∷ fs) asked (suc i) d below asks net packet not = and_false (holds net packet f) _ (asks_as_operand fs asked i d (omega arith) asks net packet not)
-
--- a match that asks for what a packet has not does not hold
-pub taken : (net : Lookup) (packet : Values) (matching : Formula TypedAtom) (asked : Asked) → IsAskedBy matching asked
-    → (has_asked asked packet && holds net packet matching) ≡ holds net packet matching
-taken net packet matching asked asks = by (has_asked asked packet) refl
-  where
-    by : (b : Bool) → has_asked asked packet ≡ b → (b && holds net packet matching) ≡ holds net packet matching
-    by true is = refl
-    by false is = sym (asks net packet is)
+-- what one more operand asks, the conjunction does
+pub operand_adds : (operands : List (Formula TypedAtom)) (i : ℕ) (d : Formula TypedAtom) (first before after : Asks) → i < length operands → Adds (get_or operands i d) before after → Adds (And (formulas operands)) first before
+    → Adds (And (formulas operands)) first after
+operand_adds operands i d first before after below adds so_far net packet has is = adds net packet (so_far net packet has is) (operand_holds net packet operands i d below is)

@@ -3,18 +3,18 @@ use Rattle.std.proofs.Common.{◌≡◌, ℕ, zero, suc, ◌<◌, ◌≤◌, ◌
 use Rattle.std.specs.Prelude.{◌&&◌, slice_get}
 use Rattle.std.specs.List.{AllWithin, Contains, find}
 use Rattle.std.specs.List.Sorted.{IsNonDecreasing}
-use Rattle.std.proofs.lemmas.Bool.{eqb-true, ltb-true, ltb-false}
+use Rattle.std.proofs.lemmas.Bool.{ltb-true, ltb-false}
 use Rattle.std.proofs.lemmas.List.{get_or_default}
 use Rattle.std.proofs.lemmas.List.Elements.{All-nil, Contains-append_left, Contains-push}
 use Rattle.expr_core.specs.Lookup.{Lookup}
 use Rattle.expr_eval.specs.MatchMeaning.{holds}
 use Rattle.pkt_core.specs.Packet.{Values}
 use Rattle.sb_model.specs.declared.row.Row.{Row}
-use Rattle.sb_rows.specs.declared.stored.Shape.{Shape}
 use Rattle.sb_rows.specs.Row.{AreRows}
+use Rattle.sb_rows.specs.declared.asks.Asks.{Asks}
+use Rattle.sb_rows.specs.declared.asks.Shape.{Shape}
 use Rattle.sb_rows.specs.declared.index.Table.{Table}
-use Rattle.sb_rows.specs.declared.stored.Asked.{Asked}
-use Rattle.sb_rows.specs.inner.Beside.{IsAskedBy, bucket_at, has_asked}
+use Rattle.sb_rows.specs.inner.Asks.{HasAsked, bucket_of, shape_of}
 use Rattle.sb_rows.specs.inner.Index.{AreCovered, AreIndexed, IsCovered, IsTable, acts, spot}
 use Rattle.sb_rows.specs.inner.Tables.{key_of}
 
@@ -35,21 +35,24 @@ before_above spots x k e rise within above (m, below, is) = by (ltb m k) refl
 -- a row that is covered stays so where shapes and spots are added
 pub covered_more : (row : Row) (place : ℕ) (shapes more : List Shape) (spots others : List ℕ)
     → ((s : Shape) → Contains shapes s → Contains more s) → ((x : ℕ) → Contains spots x → Contains others x) → IsCovered row place shapes spots → IsCovered row place more others
-covered_more row place shapes more spots others kept held covered =
-    record { asked = covered.asked; asks = covered.asks; shaped = kept covered.asked.shape covered.shaped; there = held (spot covered.asked.bucket place) covered.there }
+covered_more row place shapes more spots others kept held covered net packet is =
+    let it = covered net packet is in
+    (it.0, (it.1.0, record { shaped = kept (shape_of it.0) it.1.1.shaped; there = held (spot (bucket_of it.0) place) it.1.1.there }))
 
--- one more row is covered
-pub covered_next : (rows : List Row) (low at : ℕ) (r : Row) (asked : Asked) (shapes more : List Shape) (spots : List ℕ) → r ≡ get_or rows at r → at < length rows → IsAskedBy r.matching asked
-    → Contains more asked.shape → ((s : Shape) → Contains shapes s → Contains more s) → AreCovered rows low at shapes spots → AreCovered rows low (at + 1) more (spots ++ spot asked.bucket at ∷ [])
-covered_next rows low at r asked shapes more spots is within asks there kept covered i d from to = by (ltb i at) refl
+-- one more row is covered, by what its match asks
+pub covered_next : (rows : List Row) (low at : ℕ) (r : Row) (asks : Asks) (shapes more : List Shape) (spots : List ℕ) → r ≡ get_or rows at r → at < length rows
+    → ((net : Lookup) (packet : Values) → holds net packet r.matching ≡ true → HasAsked asks net packet)
+    → Contains more (shape_of asks) → ((s : Shape) → Contains shapes s → Contains more s) → AreCovered rows low at shapes spots → AreCovered rows low (at + 1) more (spots ++ spot (bucket_of asks) at ∷ [])
+covered_next rows low at r asks shapes more spots is within asked there kept covered i d from to = by (ltb i at) refl
   where
-    by : (b : Bool) → ltb i at ≡ b → IsCovered (get_or rows i d) i more (spots ++ spot asked.bucket at ∷ [])
-    by true before = covered_more (get_or rows i d) i shapes more spots (spots ++ spot asked.bucket at ∷ []) kept (λ x. Contains-append_left spots (spot asked.bucket at ∷ []) x) (covered i d from (ltb-true i at before))
+    by : (b : Bool) → ltb i at ≡ b → IsCovered (get_or rows i d) i more (spots ++ spot (bucket_of asks) at ∷ [])
+    by true before = covered_more (get_or rows i d) i shapes more spots (spots ++ spot (bucket_of asks) at ∷ []) kept (λ x. Contains-append_left spots (spot (bucket_of asks) at ∷ []) x) (covered i d from (ltb-true i at before))
     by false after =
         let here : at ≡ i = omega (arith, ltb-false i at after, to) in
         let row : r ≡ get_or rows at d = is ∙ sym (get_or_default rows at d r within) in
-        subst (λ n. IsCovered (get_or rows n d) n more (spots ++ spot asked.bucket at ∷ [])) here
-        (subst (λ q. IsCovered q at more (spots ++ spot asked.bucket at ∷ [])) row (record { asked = asked; asks = asks; shaped = there; there = Contains-push spots (spot asked.bucket at) }))
+        let covers : IsCovered r at more (spots ++ spot (bucket_of asks) at ∷ []) = λ net packet takes. (asks, (asked net packet takes, record { shaped = there; there = Contains-push spots (spot (bucket_of asks) at) })) in
+        subst (λ n. IsCovered (get_or rows n d) n more (spots ++ spot (bucket_of asks) at ∷ [])) here
+        (subst (λ q. IsCovered q at more (spots ++ spot (bucket_of asks) at ∷ [])) row covers)
 
 and_false : (b c : Bool) → c ≡ false → (b && c) ≡ false
 and_false true c e = e
@@ -57,16 +60,15 @@ and_false false c e = refl
 
 -- a row that is covered does not take a packet where no row does of the buckets of all shapes that the packet is in
 pub covered_fails : (key : ℕ) (net : Lookup) (packet : Values) (row : Row) (place : ℕ) (shapes : List Shape) (spots : List ℕ) → IsCovered row place shapes spots
-    → ((k : ℕ) (e : Shape) → k < length shapes → Contains spots (spot (bucket_at (get_or shapes k e) packet) place) → acts key net packet row ≡ false) → acts key net packet row ≡ false
-covered_fails key net packet row place shapes spots covered fails = by (has_asked covered.asked packet) refl
+    → ((k : ℕ) (e : Shape) (asks : Asks) → k < length shapes → shape_of asks ≡ get_or shapes k e → HasAsked asks net packet → Contains spots (spot (bucket_of asks) place) → acts key net packet row ≡ false) → acts key net packet row ≡ false
+covered_fails key net packet row place shapes spots covered fails = by (holds net packet row.matching) refl
   where
-    by : (b : Bool) → has_asked covered.asked packet ≡ b → acts key net packet row ≡ false
-    by false not = and_false (eqb (key_of row) key) (holds net packet row.matching) (covered.asks net packet not)
-    by true has =
-        let asked = covered.asked in
-        let at = covered.shaped in
-        let bucket : bucket_at (get_or shapes at.0 asked.shape) packet ≡ asked.bucket = ap (λ s. bucket_at s packet) at.2 ∙ eqb-true _ _ has in
-        fails at.0 asked.shape at.1 (rw bucket covered.there)
+    by : (b : Bool) → holds net packet row.matching ≡ b → acts key net packet row ≡ false
+    by false not = and_false (eqb (key_of row) key) (holds net packet row.matching) not
+    by true takes =
+        let it = covered net packet takes in
+        let at = it.1.1.shaped in
+        fails at.0 (shape_of it.0) it.0 at.1 (sym at.2) it.1.0 it.1.1.there
 
 module _ {X : Type 0} (p : X → Bool) where
   -- a search finds the element at a place where it passes, or there is none, and none before it does
@@ -116,21 +118,32 @@ best_kept rows p best new le better before d lt = by (ltb new best) refl
         let is : best ≡ new = omega (arith, ltb-false new best same, le) in
         subst (λ n. p (get_or rows n d) ≡ true) is (before d (omega (arith, lt, is)))
 
+-- what is before a better place that was found in two steps takes the packet, or is before the best so far
+pub best_of_two : (rows : List Row) (p : Row → Bool) (best first new : ℕ) → new ≤ first → ((d : Row) → first < best → p (get_or rows first d) ≡ true) → ((d : Row) → new < first → p (get_or rows new d) ≡ true)
+    → (d : Row) → new < best → p (get_or rows new d) ≡ true
+best_of_two rows p best first new le before better d lt = by (ltb new first) refl
+  where
+    by : (b : Bool) → ltb new first ≡ b → p (get_or rows new d) ≡ true
+    by true less = better d (ltb-true new first less)
+    by false same =
+        let is : first ≡ new = omega (arith, ltb-false new first same, le) in
+        subst (λ n. p (get_or rows n d) ≡ true) is (before d (omega (arith, lt, is)))
+
 -- no row before the best takes the packet that is in a bucket of the shapes so far
-abbrev pub NoneBefore : (Row → Bool) → List Row → Table → Values → ℕ → ℕ → Type 0
-NoneBefore p rows table packet best at =
-    (k : ℕ) (e : Shape) (i : ℕ) (d : Row) → k < at → i < best → Contains table.spots.items (spot (bucket_at (get_or table.shapes.items k e) packet) i) → p (get_or rows i d) ≡ false
+abbrev pub NoneBefore : (Row → Bool) → List Row → Table → Lookup → Values → ℕ → ℕ → Type 0
+NoneBefore p rows table net packet best at =
+    (k : ℕ) (e : Shape) (asks : Asks) (i : ℕ) (d : Row) → k < at → shape_of asks ≡ get_or table.shapes.items k e → HasAsked asks net packet → i < best → Contains table.spots.items (spot (bucket_of asks) i)
+    → p (get_or rows i d) ≡ false
 
 -- nor of one more
-pub shape_next : (rows : List Row) (table : Table) (packet : Values) (p : Row → Bool) (at best new bucket : ℕ) (s : Shape) → bucket ≡ bucket_at (get_or table.shapes.items at s) packet → at < length table.shapes.items → new ≤ best
-    → ((i : ℕ) (d : Row) → i < new → Contains table.spots.items (spot bucket i) → p (get_or rows i d) ≡ false)
-    → NoneBefore p rows table packet best at → NoneBefore p rows table packet new (at + 1)
-shape_next rows table packet p at best new bucket s is within le none so_far k e i d lt before there = by (ltb k at) refl
+pub shape_next : (rows : List Row) (table : Table) (net : Lookup) (packet : Values) (p : Row → Bool) (at best new : ℕ) (items : List Shape) (s : Shape) → items ≡ table.shapes.items → at < length items → new ≤ best
+    → ((asks : Asks) (i : ℕ) (d : Row) → shape_of asks ≡ get_or items at s → HasAsked asks net packet → i < new → Contains table.spots.items (spot (bucket_of asks) i) → p (get_or rows i d) ≡ false)
+    → NoneBefore p rows table net packet best at → NoneBefore p rows table net packet new (at + 1)
+shape_next rows table net packet p at best new items s is within le none so_far k e asks i d lt shaped has before there = by (ltb k at) refl
   where
     by : (b : Bool) → ltb k at ≡ b → p (get_or rows i d) ≡ false
-    by true earlier = so_far k e i d (ltb-true k at earlier) (omega (arith, before, le)) there
+    by true earlier = so_far k e asks i d (ltb-true k at earlier) shaped has (omega (arith, before, le)) there
     by false here =
         let at_k : k ≡ at = omega (arith, ltb-false k at here, lt) in
-        let shape : get_or table.shapes.items k e ≡ get_or table.shapes.items at s = ap (λ n. get_or table.shapes.items n e) at_k ∙ get_or_default table.shapes.items at e s within in
-        let same : bucket_at (get_or table.shapes.items k e) packet ≡ bucket = ap (λ q. bucket_at q packet) shape ∙ sym is in
-        none i d before (subst (λ b. Contains table.spots.items (spot b i)) same there)
+        let same : shape_of asks ≡ get_or items at s = shaped ∙ ap (λ l. get_or l k e) (sym is) ∙ ap (λ n. get_or items n e) at_k ∙ get_or_default items at e s within in
+        none asks i d same has before there

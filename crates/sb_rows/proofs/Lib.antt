@@ -8,6 +8,7 @@ pub mod Indexed
 pub mod Members
 pub mod Order
 pub mod Place
+pub mod Probed
 pub mod Section
 pub mod Select
 pub mod Stable

@@ -1,4 +1,5 @@
 -- What private contracts and proofs cite. No clause of a public call does, so a reader need not believe it.
+pub mod Asks
 pub mod Beside
 pub mod Exact
 pub mod Index

@@ -2,6 +2,7 @@
 //! flows sees.
 #![tactic(auto)]
 
+mod asks;
 mod index;
 mod laws;
 mod listing;

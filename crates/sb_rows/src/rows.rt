@@ -8,7 +8,7 @@ use crate::NewRows;
 use crate::index::{Table, first_in_table, tables_of};
 use crate::search::{place_among, place_of, table_from};
 use crate::stored::{Stored, table_key};
-use expr_core::Env;
+use expr_ports::PortNames;
 use nv_base::{ObjId, OutOfMemory};
 use pkt_core::Packet;
 use sb_model::{Row, Stage};
@@ -172,7 +172,13 @@ impl Rows {
 
     /// The row that acts on a packet in a table: the first one in row order whose match holds. It looks at few of
     /// the rows of other tables, and takes no memory.
-    pub fn select<E: Env>(&self, dp: ObjId, stage: Stage, packet: &Packet, env: &E) -> Option<&Row>
+    pub fn select<E: PortNames>(
+        &self,
+        dp: ObjId,
+        stage: Stage,
+        packet: &Packet,
+        env: &E,
+    ) -> Option<&Row>
         ensures { option_copied result ≡ select dp stage (E.lookup env.now) packet.now self.now }
     {
         let mut near = 0;
@@ -181,7 +187,7 @@ impl Rows {
 
     /// The same, for tables one after the other. `near` is where the row of the table before was found, or anything, and
     /// becomes where this one is. A table that begins right after it is not searched for; the answer does not depend on it.
-    pub fn select_near<E: Env>(
+    pub fn select_near<E: PortNames>(
         &self,
         dp: ObjId,
         stage: Stage,
@@ -192,7 +198,7 @@ impl Rows {
         ensures { option_copied result ≡ select dp stage (E.lookup env.now) packet.now self.now }
     {
         let key = table_key(dp, stage);
-        let low = table_from(&self.sorted, *near, key);
+        let low = table_from(&self.sorted, &self.tables, *near, key);
         let (row, place) = first_in_table(&self.sorted, &self.tables, low, key, packet, env);
         *near = place;
         row

@@ -1,5 +1,5 @@
 //! The searches among rows in order.
-ghost use Rattle.std.specs.Prelude.{◌≡◌, ◌<◌, ◌≤◌, ◌==◌, true, false, length, Contains, IfSome, IfNone, IsTrue, ◌↔◌};
+ghost use Rattle.std.specs.Prelude.{◌≡◌, ◌<◌, ◌≤◌, ◌+◌, ◌==◌, true, false, length, Contains, IfSome, IfNone, IsTrue, ◌↔◌};
 ghost use Rattle.std.specs.List.Sorted.{IsPartitionPoint};
 ghost use Rattle.std.specs.Option.{option_copied};
 ghost use Rattle.std.specs.Ordering.{is_le};
@@ -8,6 +8,7 @@ ghost use Rattle.sb_rows.specs.Row.{IsInRowOrder, row_cmp};
 ghost use Rattle.sb_rows.specs.inner.Places.{IsAt};
 ghost use Rattle.sb_rows.specs.inner.Tables.{key_of, find_while};
 
+use crate::index::{Table, low_of};
 use crate::stored::Stored;
 use expr_core::Env;
 use pkt_core::Packet;
@@ -60,21 +61,33 @@ fn is_same(a: &Row, b: &Row) -> bool
     a == b
 }
 
-// Where the rows of the table of this key begin, or would, among rows in order. The place after `near` is looked at first.
-pub(crate) fn table_from(rows: &[Stored], near: usize, key: u64) -> usize
+// Whether the table of this key begins right behind a row.
+fn is_behind(rows: &[Stored], near: usize, key: u64) -> bool
+    requires { IsInRowOrder rows.now }
+    ensures bound { IsTrue result → near < length rows.now }
+    ensures point { IsTrue result → IsPartitionPoint (λ r. key_of r < key) (λ r. key ≤ key_of r) rows.now (near + 1) }
+{
+    if near >= rows.len() || near + 1 >= rows.len() || rows[near].table_key() >= key {
+        return false;
+    }
+    key <= rows[near + 1].table_key()
+}
+
+// Where the rows of the table of this key begin, or would, among rows in order. The place after `near` is looked at first, and then
+// the one that is kept of the table.
+pub(crate) fn table_from(rows: &[Stored], tables: &[Table], near: usize, key: u64) -> usize
     requires { IsInRowOrder rows.now }
     ensures bound { result ≤ length rows.now }
     ensures point { IsPartitionPoint (λ r. key_of r < key) (λ r. key ≤ key_of r) rows.now result }
 {
-    if near < rows.len()
-        && near + 1 < rows.len()
-        && rows[near].table_key() < key
-        && key <= rows[near + 1].table_key()
-    {
-        near + 1
-    } else {
-        rows.partition_point(|stored| stored.table_key() < key)
+    if is_behind(rows, near, key) {
+        return near + 1;
     }
+    let other = low_of(tables, key).saturating_sub(1);
+    if is_behind(rows, other, key) {
+        return other + 1;
+    }
+    rows.partition_point(|stored| stored.table_key() < key)
 }
 
 // The first row whose match holds of the packet, among those of the table of this key with which the rows begin, and how

@@ -6,6 +6,7 @@ ghost use Rattle.sb_rows.specs.Row.{HasTypedMatch};
 use crate::fixture::{name, packet};
 use act_core::{Action, Step};
 use expr_core::{Const, Env, Form, Pred, Typed};
+use expr_ports::PortNames;
 use nv_base::{Field, Items, Kept, Name, ObjId};
 use pkt_core::Packet;
 use sb_model::{
@@ -38,6 +39,12 @@ impl Env for Empty {
     }
 
     ghost multicast_is_no_port = { λ _. (refl, refl) };
+}
+
+impl PortNames for Empty {
+    fn port_names(&self, _port: ObjId) -> (Option<&Name>, Option<&Name>) {
+        (None, None)
+    }
 }
 
 // The packets that a row takes.

@@ -11,6 +11,7 @@ use crate::act::run_actions;
 use crate::moving::Moving;
 use ct_state::Work;
 use expr_core::Env;
+use expr_ports::PortNames;
 use nv_base::{ObjId, OutOfMemory};
 use pkt_core::Packet;
 use sb_model::{DatapathKind, Pipeline, Row, Stage};
@@ -23,7 +24,7 @@ const STEP_BUDGET: usize = 128;
 
 /// Runs a packet through one pipeline of a datapath, from this table on: appends a hit to `hits` for each row that acted on it, in
 /// order, and changes the state as the rows say. After `OutOfMemory` nothing is said of the hits and the state.
-pub fn run_pipeline<E: Env>(
+pub fn run_pipeline<E: PortNames>(
     rows: &Rows,
     env: &E,
     dp: ObjId,

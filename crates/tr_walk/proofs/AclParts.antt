@@ -3,15 +3,12 @@ use Rattle.std.proofs.Common.{◌≡◌, ℕ, suc, Bool, true, false, cond, sym,
 use Rattle.std.specs.Prelude.{Option, Some, None, option_map, not, ◌&&◌, ◌==◌}
 use Rattle.std.proofs.lemmas.Bool.{and_parts}
 use Rattle.nv_base.specs.declared.object.ObjId.{ObjId}
-use Rattle.nv_base.specs.declared.field.Field.{Field}
 use Rattle.nv_base.specs.Field.{field_width}
-use Rattle.nv_base.specs.declared.field.Field.TheVariants.{Inport, Outport, EthDst, Reg0, CtState, CtMarkBlocked}
-use Rattle.nv_base.specs.declared.field.Prerequisite.TheVariants.{Tcp}
+use Rattle.nv_base.specs.declared.field.Field.TheVariants.{Inport, EthDst, Reg0, CtState, CtMarkBlocked}
 use Rattle.pkt_core.specs.Packet.{Values, IsPacket, value, with_value}
-use Rattle.pkt_core.specs.Prerequisite.{is_ip4, meets}
+use Rattle.pkt_core.specs.Prerequisite.{is_ip4}
 use Rattle.pkt_core.specs.Tuple.{swap}
-use Rattle.pkt_core.specs.Replies.{is_answerable, reset, icmp_error}
-use Rattle.pkt_core.specs.declared.replies.IcmpReason.TheVariants.{PortUnreachable}
+use Rattle.pkt_core.specs.Replies.{is_answerable}
 use Rattle.ct_core.specs.declared.entry.Entry.{Entry}
 use Rattle.ct_core.specs.declared.look.Look.{Look}
 use Rattle.ct_core.specs.declared.look.Look.TheVariants.{Invalid, New, Found}
@@ -56,7 +53,7 @@ use Rattle.tr_pipe.specs.Tracking.{Flight, bit, coming, committed, marked_by, tr
 use Rattle.ls_laws.specs.Steps as steps
 use Rattle.ls_laws.specs.Steps.{decided, flows_at, sent_back}
 use Rattle.ls_laws.proofs.Packets.{set_value, other_value, with_length, fits_with}
-use Rattle.ls_ct_laws.specs.Tracking.{IsNoted, acl_eval, after_acls, after_stateful, goes, goes_again, has_bit, is_to_track, keeps, marking, pipeline_for, pre_acl, pre_stateful, ruled_on, stateful, with_bit}
+use Rattle.ls_ct_laws.specs.Tracking.{IsNoted, acl_eval, after_acls, after_stateful, goes, goes_again, has_bit, keeps, marking, pipeline_for, port_field, pre_acl, pre_stateful, ruled_on, stateful, with_bit}
 use Rattle.ls_ct_laws.proofs.Alike.{same_ip4, same_look, same_tuple}
 use Rattle.ls_ct_laws.proofs.Independent.{same_deciding}
 use Rattle.ls_ct_laws.proofs.Onward.{same_rejected}
@@ -64,12 +61,7 @@ use Rattle.ls_ct_laws.proofs.Noted.{AreAlike, is_noted, alike_noted, alike_self}
 use Rattle.tr_walk.specs.Machine.{after_ingress, after_egress, late_table, numbered, part_of}
 use Rattle.tr_walk.specs.Refined.{DoesPart, IsFresh}
 use Rattle.tr_walk.proofs.Carried.{carried_back, back_outport}
-use Rattle.tr_walk.proofs.Formed.{reset_is, reset_inport, error_is, error_inport}
-
--- the field that has the port of a direction
-abbrev pub port_field : Way → Field
-port_field From = Inport
-port_field To = Outport
+use Rattle.tr_walk.proofs.Formed.{rejection_is, rejection_inport}
 
 abbrev pub outcome_after : Network → ObjId → Way → Option Outcome → Option Passed
 outcome_after net dp From = after_ingress net dp
@@ -77,8 +69,9 @@ outcome_after net dp To = after_egress net dp
 
 -- ---- what stages do where the switch tracks connections, and where it does not
 
-pub record LawsWhereTracked (net : Network) (dp : ObjId) (way : Way) : Type 0 where
-  pub pre_acl_is : (flight : Flight) → IsPacket flight.packet → step (flows_at net dp) (pre_acl way) flight ≡ On (pre_stateful way) (cond (is_to_track net dp way flight.packet) (with_bit 0 flight) flight)
+pub record LawsWhereTracked (net : Network) (dp : ObjId) (way : Way) (port : Port) : Type 0 where
+  pub pre_acl_is : (flight : Flight) → IsPacket flight.packet → value flight.packet (port_field way) ≡ port.id.0
+      → step (flows_at net dp) (pre_acl way) flight ≡ On (pre_stateful way) (cond (is_tracked net way port flight.packet) (with_bit 0 flight) flight)
   pub pre_stateful_is : (flight : Flight) → IsPacket flight.packet
       → step (flows_at net dp) (pre_stateful way) flight ≡ On (acl_eval way) (cond (has_bit 0 flight.packet) (tracked (zone_of (pipeline_for way) flight.packet) flight) flight)
   pub acl_eval_is : (flight : Flight) → IsPacket flight.packet → IsNoted flight.look flight.packet
@@ -114,10 +107,6 @@ after_step seen flows budget stage flight end did is rest = record {
 -- what is done is this too
 pub does_same : (seen : Option Outcome → Option Passed) (run : PipelineRun) (one other : Did) → carrying one.passed ≡ carrying other.passed → one.state ≡ other.state → Does seen run one → Does seen run other
 does_same seen run one other passed state does = record { passes = does.passes ∙ ap Some passed; leaves = does.leaves ∙ state }
-
-and_true : (b : Bool) → (b && true) ≡ b
-and_true true = refl
-and_true false = refl
 
 -- a commit of a packet that differs in notes alone leaves the same
 same_committed : (a b : Values) → AreAlike a b → (zone : Zone) (state : State) (found : Option Look) → committed zone false a state found ≡ committed zone false b state found
@@ -183,21 +172,6 @@ module _ (net : Network) (sound : IsSound net) (port : Port) (last_is : late_tab
       by From = refl
       by To = refl
 
-  -- the packet that answers a rejected one
-  rejection_is : (k : Values) → IsPacket k → IsPacket (rejection k)
-  rejection_is k is = by (meets k Tcp)
-    where
-      by : (tcp : Bool) → IsPacket (cond tcp (reset k) (icmp_error k PortUnreachable))
-      by true = reset_is k is
-      by false = error_is k is
-
-  rejection_inport : (k : Values) → value (rejection k) Inport ≡ value k Inport
-  rejection_inport k = by (meets k Tcp)
-    where
-      by : (tcp : Bool) → value (cond tcp (reset k) (icmp_error k PortUnreachable)) Inport ≡ value k Inport
-      by true = reset_inport k
-      by false = error_inport k
-
   answer_seen : (k : Values) → IsPacket k → (may : Bool)
       → option_map carrying (seen (cond may (Some (Made (sent_back (rejection k)) (last_table kinds.Switch) Reject)) (Some (Drop acl_cause))))
       ≡ Some (carrying (cond may (Makes Reject (numbered (value k Inport)) (turned_back (rejection k))) (Drops acl_cause)))
@@ -229,7 +203,7 @@ module _ (net : Network) (sound : IsSound net) (port : Port) (last_is : late_tab
       (budget : ℕ)
       (through : (flight : Flight) (did : Did) → IsPacket flight.packet → Does seen (run_from flows (suc left_over) (stateful way) flight) did → Does seen (run_from flows budget (after_acls way) flight) did) where
     -- where the switch tracks
-    module _ (laws : LawsWhereTracked net dp way) where
+    module _ (laws : LawsWhereTracked net dp way port) where
       -- a packet that is not to be kept
       goes_on : (flight : Flight) → IsPacket flight.packet → AreAlike flight.packet packet → has_bit 1 flight.packet ≡ false → Does seen (run_from flows budget (after_acls way) flight) (done onward flight.state)
       goes_on flight is alike unkept =
@@ -391,7 +365,7 @@ module _ (net : Network) (sound : IsSound net) (port : Port) (last_is : late_tab
 
     -- ---- the stages before
 
-    module _ (laws : LawsWhereTracked net dp way) where
+    module _ (laws : LawsWhereTracked net dp way port) where
       abbrev asked_flight : Flight
       asked_flight = with_bit 0 (coming packet state)
 
@@ -451,11 +425,14 @@ module _ (net : Network) (sound : IsSound net) (port : Port) (last_is : late_tab
         register = inl fresh.register;
       }
 
-      of_ip4 : is_to_track net dp way packet ≡ true → is_ip4 packet ≡ true
-      of_ip4 is = (and_parts (is_ip4 packet) (not (is_multicast (value packet EthDst))) (and_parts (is_ip4 packet && not (is_multicast (value packet EthDst))) (not (passes_untracked net dp way packet)) is).0).0
+      of_ip4 : is_tracked net way port packet ≡ true → is_ip4 packet ≡ true
+      of_ip4 is =
+          let parts = and_parts (tracks net dp && is_ip4 packet && not (is_multicast (value packet EthDst)) && not (is_to_router port)) (not (passes_untracked net dp way packet)) is in
+          let more = and_parts (tracks net dp && is_ip4 packet && not (is_multicast (value packet EthDst))) (not (is_to_router port)) parts.0 in
+          (and_parts (tracks net dp) (is_ip4 packet) (and_parts (tracks net dp && is_ip4 packet) (not (is_multicast (value packet EthDst))) more.0).0).1
 
-      -- where the packet is to be tracked, and where it is not
-      asked_for : is_to_track net dp way packet ≡ true → step flows (pre_stateful way) asked_flight ≡ On (acl_eval way) (looked_at told asked_flight)
+      -- where the packet is tracked, and where it is not
+      asked_for : is_tracked net way port packet ≡ true → step flows (pre_stateful way) asked_flight ≡ On (acl_eval way) (looked_at told asked_flight)
       asked_for is =
           laws.pre_stateful_is asked_flight asked_fits
           ∙ ap (λ b. On (acl_eval way) (cond b (tracked (zone_of (pipeline_for way) asked_flight.packet) asked_flight) asked_flight)) (ap (λ m. bits_of (Bit 0) m == 1) asked_register)
@@ -470,23 +447,18 @@ module _ (net : Network) (sound : IsSound net) (port : Port) (last_is : late_tab
       abbrev found_where : Bool → Option Look
       found_where b = cond b (Some told) None
 
-      acls_where : (b : Bool) → is_to_track net dp way packet ≡ b
+      acls_where : (b : Bool) → is_tracked net way port packet ≡ b
           → Does seen (run_from flows (suc (suc (suc budget))) (pre_acl way) (coming packet state)) (means.after_acls (ruled_found acl zone packet state (found_where b)) packet onward)
       acls_where true is =
           after_step seen flows (suc (suc budget)) (pre_acl way) (coming packet state) (On (pre_stateful way) asked_flight) _
-          (laws.pre_acl_is (coming packet state) formed ∙ ap (λ b. On (pre_stateful way) (cond b asked_flight (coming packet state))) is)
+          (laws.pre_acl_is (coming packet state) formed here ∙ ap (λ b. On (pre_stateful way) (cond b asked_flight (coming packet state))) is)
           (after_step seen flows (suc budget) (pre_stateful way) asked_flight (On (acl_eval way) (looked_at told asked_flight)) _ (asked_for is) (acls_tracked laws (looked_at told asked_flight) (Some told) looked_up))
       acls_where false is =
           after_step seen flows (suc (suc budget)) (pre_acl way) (coming packet state) (On (pre_stateful way) (coming packet state)) _
-          (laws.pre_acl_is (coming packet state) formed ∙ ap (λ b. On (pre_stateful way) (cond b asked_flight (coming packet state))) is)
+          (laws.pre_acl_is (coming packet state) formed here ∙ ap (λ b. On (pre_stateful way) (cond b asked_flight (coming packet state))) is)
           (after_step seen flows (suc budget) (pre_stateful way) (coming packet state) (On (acl_eval way) (coming packet state)) _ not_asked_for (acls_tracked laws (coming packet state) None not_looked_up))
 
     -- ---- all of them
-
-    -- where the port leads to a host, a packet is tracked where it is asked for
-    tracked_where : is_to_router port ≡ false → (t : Bool) → tracks net dp ≡ t → is_tracked net way port packet ≡ (t && is_to_track net dp way packet)
-    tracked_where host true is = rw (is, host) (ap (λ b. b && not (passes_untracked net dp way packet)) (and_true (is_ip4 packet && not (is_multicast (value packet EthDst)))))
-    tracked_where host false is = rw is refl
 
     ruled_by_found : (b : Bool) → is_tracked net way port packet ≡ b → ruled net way port packet state ≡ ruled_found acl zone packet state (cond b (Some (look state.conns zone packet)) None)
     ruled_by_found true is = ap (λ b. cond b (ruled_by acl zone packet state (look state.conns zone packet)) (ruled_as (decided_by acl) state)) is
@@ -495,10 +467,13 @@ module _ (net : Network) (sound : IsSound net) (port : Port) (last_is : late_tab
     abbrev DoesAcls : Ruled → Type 0
     DoesAcls ruling = Does seen (run_from flows (suc (suc (suc budget))) (pre_acl way) (coming packet state)) (means.after_acls ruling packet onward)
 
-    pub acl_part : is_to_router port ≡ false → (tracks net dp ≡ true → LawsWhereTracked net dp way) → (tracks net dp ≡ false → LawsElsewhere net dp way)
+    pub acl_part : (tracks net dp ≡ true → LawsWhereTracked net dp way port) → (tracks net dp ≡ false → LawsElsewhere net dp way)
         → DoesAcls (ruled net way port packet state)
-    acl_part host where_tracked elsewhere = by (tracks net dp) refl
+    acl_part where_tracked elsewhere = by (tracks net dp) refl
       where
+        none_tracked : tracks net dp ≡ false → is_tracked net way port packet ≡ false
+        none_tracked is = rw is refl
+
         by : (t : Bool) → tracks net dp ≡ t → DoesAcls (ruled net way port packet state)
-        by true is = subst DoesAcls (sym (ruled_by_found (is_to_track net dp way packet) (tracked_where host true is))) (acls_where (where_tracked is) (is_to_track net dp way packet) refl)
-        by false is = subst DoesAcls (sym (ruled_by_found false (tracked_where host false is))) (acls_elsewhere (elsewhere is))
+        by true is = subst DoesAcls (sym (ruled_by_found (is_tracked net way port packet) refl)) (acls_where (where_tracked is) (is_tracked net way port packet) refl)
+        by false is = subst DoesAcls (sym (ruled_by_found false (none_tracked is))) (acls_elsewhere (elsewhere is))

@@ -1,24 +1,24 @@
 -- Walks over parts that do the same tell the same, whatever the notes of the parts.
 use Rattle.std.proofs.Common.{◌≡◌, ℕ, zero, suc, Bool, true, false, cond, List, [], ◌∷◌, ◌++◌, map, sym, ap, refl, ◌∙◌, subst}
 use Rattle.std.specs.Prelude.{Option, Some, None, option_map, not}
-use Rattle.std.specs.List.{AllByRecursion, Contains, filter}
+use Rattle.std.specs.List.{AllByRecursion, filter}
 use Rattle.nv_base.specs.declared.object.ObjId.{ObjId}
 use Rattle.nv_base.specs.declared.field.Field.TheVariants.{Inport, Outport}
 use Rattle.pkt_core.specs.Packet.{Values, IsPacket, value, with_value, headers}
 use Rattle.pkt_core.specs.Replies.{start}
-use Rattle.nb_records.specs.declared.switch.Port.{Port}
 use Rattle.nb_model.specs.Network.{Network, same}
+use Rattle.net_meaning.specs.declared.answer.Answer.{Answer}
 use Rattle.net_meaning.specs.declared.answer.Answer.TheVariants as answer
 use Rattle.net_meaning.specs.declared.cause.Cause.TheVariants as cause
 use Rattle.net_meaning.specs.declared.event.PlainEvent.{PlainEvent}
 use Rattle.net_meaning.specs.declared.event.PlainEvent.TheVariants.{Output, Drop, HopLimit}
-use Rattle.net_meaning.specs.Places.{side_of, datapath_at}
-use Rattle.net_meaning.specs.Places.Side.{Host}
-use Rattle.net_meaning.specs.Walk.{Target, Passed, Part, Parts, Told, Walked, Onward, ends, told_of, after_told, carrying, then_part, delivered_to, made, left, leaves, leaves_late, copies, is_same_port, sent, arrived, enters, hops_left, walk, events}
+use Rattle.net_meaning.specs.Places.{Side, side_of, datapath_at}
+use Rattle.net_meaning.specs.Places.Side.{Host, NoPeer, Peer}
+use Rattle.net_meaning.specs.Walk.{Target, Passed, Part, Parts, Told, Walked, Onward, ends, told_of, after_told, carrying, then_part, crosses, delivered_to, made, left, leaves, leaves_late, copies, is_same_port, sent, arrived, enters, hops_left, walk, events}
 use Rattle.net_meaning.specs.Walk.Passed.{GoesOn, Drops, Makes}
 use Rattle.net_meaning.specs.Walk.Target.{OnePort, Ports, Late}
 use Rattle.net_meaning.specs.Walk.Told.{Note, Happens}
-use Rattle.tr_walk.specs.Refined.{AreAlike, IsFresh}
+use Rattle.tr_walk.specs.Refined.{AreAlike, IsFresh, IsPort}
 
 -- ---- what is told
 
@@ -54,139 +54,174 @@ module _ {N M S : Type 0} where
     left = rest.left;
   }
 
+-- ---- walks from states of a kind
+
+module _ {N M S : Type 0} (Holds : S → Type 0) where
+  -- two walks tell the same, and leave the same state, which is of the kind
+  pub record Agree (one : Walked N S) (other : Walked M S) : Type 0 where
+    pub alike : AreAlike one other
+    pub holds : Holds other.state
+
+module _ {N M S : Type 0} {Holds : S → Type 0} where
+  ends_agree : (happens : List PlainEvent) (state : S) → Holds state → Agree Holds (ends {N = N} happens state) (ends {N = M} happens state)
+  ends_agree happens state holds = record { alike = ends_alike happens state; holds = holds }
+
+  after_agree : (one : List (Told N)) (other : List (Told M)) (w : Walked N S) (v : Walked M S) → events one ≡ events other → Agree Holds w v → Agree Holds (after_told one w) (after_told other v)
+  after_agree one other w v first rest = record { alike = after_alike one other w v first rest.alike; holds = rest.holds }
+
+-- the same is told of a packet that is made
+same_told : (N M : Type 0) (answer : Answer) (arrival : ObjId) → events (told_of {N = N} answer arrival) ≡ events (told_of {N = M} answer arrival)
+same_told N M answer.Reject arrival = refl
+same_told N M answer.Arp arrival = refl
+
 -- ---- ports and packets of the network
 
 module _ (net : Network) where
-  -- the number of a port of a switch
-  pub record IsPort (number : ObjId) : Type 0 where
-    pub port : Port
-    pub among : Contains net.ports port
-    pub is : port.id ≡ number
-
-  -- a packet that came in by a port of a switch
+  -- a packet that came in by a port of a datapath
   pub record IsInside (packet : Values) : Type 0 where
     pub formed : IsPacket packet
     pub fresh : IsFresh packet
-    pub by : IsPort (record { 0 = value packet Inport })
+    pub by : IsPort net (record { 0 = value packet Inport })
 
-  -- what parts of switches make of a packet: it stays among the ports of switches, and no ARP request is made
+  -- what parts make of a packet: it stays among the ports of the network
   abbrev pub IsKept : Option Passed → Type 0
   IsKept None = Unit {0}
-  IsKept (Some (GoesOn (OnePort port) packet)) = IsPort port × IsInside packet
-  IsKept (Some (GoesOn (Late port) packet)) = IsPort port × IsInside packet
-  IsKept (Some (GoesOn (Ports ports) packet)) = AllByRecursion IsPort ports × IsInside packet
+  IsKept (Some (GoesOn (OnePort port) packet)) = IsPort net port × IsInside packet
+  IsKept (Some (GoesOn (Late port) packet)) = IsPort net port × IsInside packet
+  IsKept (Some (GoesOn (Ports ports) packet)) = AllByRecursion (IsPort net) ports × IsInside packet
   IsKept (Some (Drops why)) = Unit {0}
-  IsKept (Some (Makes answer.Reject port packet)) = IsPort port × IsInside packet
-  IsKept (Some (Makes answer.Arp port packet)) = ⊥
+  IsKept (Some (Makes answer port packet)) = IsPort net port × IsInside packet
 
-  -- two parts make the same of a packet, and it stays among the ports
-  pub record SamePart {N M S : Type 0} (one : Part N S) (other : Part M S) : Type 0 where
-    pub passed : option_map carrying one.passed ≡ option_map carrying other.passed
-    pub state : one.state ≡ other.state
-    pub kept : IsKept (option_map carrying other.passed)
+  module _ {N M S : Type 0} (Holds : S → Type 0) where
+    -- two parts make the same of a packet, which stays among the ports, and leave one state of the kind
+    pub record SamePart (one : Part N S) (other : Part M S) : Type 0 where
+      pub passed : option_map carrying one.passed ≡ option_map carrying other.passed
+      pub state : one.state ≡ other.state
+      pub kept : IsKept (option_map carrying other.passed)
+      pub holds : Holds other.state
 
-  -- so do the parts of two walks
-  pub record SameParts {N M S : Type 0} (ps : Parts N S) (qs : Parts M S) : Type 0 where
-    pub arriving : (port : ObjId) (packet : Values) (state : S) → IsPort port → IsPacket packet → IsFresh packet → value packet Inport ≡ port.0 → SamePart (ps.arriving port packet state) (qs.arriving port packet state)
-    pub leaving : (port : ObjId) (packet : Values) (state : S) → IsPort port → IsInside packet → value packet Outport ≡ port.0 → SamePart (ps.leaving port packet state) (qs.leaving port packet state)
-    pub late : (port : ObjId) (packet : Values) (state : S) → IsPort port → IsInside packet → value packet Outport ≡ port.0 → SamePart (ps.late port packet state) (qs.late port packet state)
+    -- so do the parts of two walks
+    pub record SameParts (ps : Parts N S) (qs : Parts M S) : Type 0 where
+      pub arriving : (port : ObjId) (packet : Values) (state : S) → IsPort net port → IsPacket packet → IsFresh packet → value packet Inport ≡ port.0 → Holds state → SamePart (ps.arriving port packet state) (qs.arriving port packet state)
+      pub leaving : (port : ObjId) (packet : Values) (state : S) → IsPort net port → IsInside packet → value packet Outport ≡ port.0 → Holds state → SamePart (ps.leaving port packet state) (qs.leaving port packet state)
+      pub late : (port : ObjId) (packet : Values) (state : S) → IsPort net port → IsInside packet → value packet Outport ≡ port.0 → Holds state → SamePart (ps.late port packet state) (qs.late port packet state)
 
-  -- what is asked of packets: numbers of ports fit, and packets stay packets
+  -- what is asked of packets: numbers of ports fit, packets stay packets, and the other side of a port is one
   pub record ArePackets : Type 0 where
-    pub starts : (port : ObjId) (packet : Values) → IsPort port → IsPacket packet → IsPacket (start packet port.0) × (IsFresh (start packet port.0) × (value (start packet port.0) Inport ≡ port.0))
-    pub leaves : (port : ObjId) (packet : Values) → IsPort port → IsInside packet → IsInside (with_value packet Outport port.0) × (value (with_value packet Outport port.0) Outport ≡ port.0)
-    pub hosts : (port : ObjId) → IsPort port → side_of net port ≡ Host
+    pub starts : (port : ObjId) (packet : Values) → IsPort net port → IsPacket packet → IsPacket (start packet port.0) × (IsFresh (start packet port.0) × (value (start packet port.0) Inport ≡ port.0))
+    pub leaves : (port : ObjId) (packet : Values) → IsPort net port → IsInside packet → IsInside (with_value packet Outport port.0) × (value (with_value packet Outport port.0) Outport ≡ port.0)
+    pub sides : (port peer : ObjId) → side_of net port ≡ Peer peer → IsPort net peer
 
-  module _ {N M S : Type 0} (ps : Parts N S) (qs : Parts M S) (same_parts : SameParts ps qs) (packets : ArePackets) where
+  module _ {N M S : Type 0} (Holds : S → Type 0) (ps : Parts N S) (qs : Parts M S) (same_parts : SameParts Holds ps qs) (packets : ArePackets) where
     -- a part, and what follows
-    then_alike : (p : Part N S) (q : Part M S) (f : Option Passed → S → Walked N S) (g : Option Passed → S → Walked M S) → SamePart p q
-        → ((passed : Option Passed) (state : S) → IsKept passed → AreAlike (f passed state) (g passed state)) → AreAlike (then_part p f) (then_part q g)
-    then_alike p q f g same_part onward =
-        after_alike (map Note p.notes) (map Note q.notes) (f (option_map carrying p.passed) p.state) (g (option_map carrying q.passed) q.state) (no_notes p.notes ∙ sym (no_notes q.notes))
-        (rw (same_part.passed, same_part.state) (onward (option_map carrying q.passed) q.state same_part.kept))
+    then_agree : (p : Part N S) (q : Part M S) (f : Option Passed → S → Walked N S) (g : Option Passed → S → Walked M S) → SamePart Holds p q
+        → ((passed : Option Passed) (state : S) → IsKept passed → Holds state → Agree Holds (f passed state) (g passed state)) → Agree Holds (then_part p f) (then_part q g)
+    then_agree p q f g same_part onward =
+        after_agree (map Note p.notes) (map Note q.notes) (f (option_map carrying p.passed) p.state) (g (option_map carrying q.passed) q.state) (no_notes p.notes ∙ sym (no_notes q.notes))
+        (rw (same_part.passed, same_part.state) (onward (option_map carrying q.passed) q.state same_part.kept same_part.holds))
 
-    -- packets go on alike over the next hop, if there is one
+    -- packets go on alike over the next hop
+    record GoOnAlike (o : Onward N S) (p : Onward M S) : Type 0 where
+      enters : (port : ObjId) (packet : Values) (state : S) → IsPort net port → IsPacket packet → Holds state → Agree Holds (o.enters port packet state) (p.enters port packet state)
+      leaves : (arrival : ObjId) (packet : Values) (state : S) (port : ObjId) → IsPort net arrival → IsInside packet → IsPort net port → Holds state → Agree Holds (o.leaves arrival packet state port) (p.leaves arrival packet state port)
+      leaves_late : (arrival : ObjId) (packet : Values) (state : S) (port : ObjId) → IsPort net arrival → IsInside packet → IsPort net port → Holds state → Agree Holds (o.leaves_late arrival packet state port) (p.leaves_late arrival packet state port)
+
+    -- if there is one
     abbrev OnwardAlike : Option (Onward N S) → Option (Onward M S) → Type 0
     OnwardAlike None None = Unit {0}
-    OnwardAlike (Some o) (Some p) = (arrival : ObjId) (packet : Values) (state : S) (port : ObjId) → IsPort arrival → IsInside packet → IsPort port → AreAlike (o.leaves_late arrival packet state port) (p.leaves_late arrival packet state port)
+    OnwardAlike (Some o) (Some p) = GoOnAlike o p
     OnwardAlike _ _ = ⊥
 
     module _ (o : Option (Onward N S)) (p : Option (Onward M S)) (onward : OnwardAlike o p) where
-      delivered_alike : (port : ObjId) (packet : Values) (state : S) → IsPort port → AreAlike (delivered_to net ps o port packet state (side_of net port)) (delivered_to net qs p port packet state (side_of net port))
-      delivered_alike port packet state is = rw (packets.hosts port is) (ends_alike (Output port (headers packet) ∷ []) state)
+      crosses_agree : (a : Option (Onward N S)) (c : Option (Onward M S)) (peer : ObjId) (packet : Values) (state : S) → OnwardAlike a c → IsPort net peer → IsPacket packet → Holds state
+          → Agree Holds (crosses net ps o peer packet state a) (crosses net qs p peer packet state c)
+      crosses_agree None None peer packet state on at formed holds = ends_agree (HopLimit peer ∷ []) state holds
+      crosses_agree (Some x) (Some y) peer packet state on at formed holds = on.enters peer packet state at formed holds
+      crosses_agree None (Some y) peer packet state on at formed holds = absurd on
+      crosses_agree (Some x) None peer packet state on at formed holds = absurd on
 
-      made_alike : (a : Option (Onward N S)) (c : Option (Onward M S)) (arrival : ObjId) (port : ObjId) (packet : Values) (state : S) → OnwardAlike a c → IsPort arrival → IsPort port → IsInside packet
-          → AreAlike (made net ps o arrival answer.Reject a port packet state) (made net qs p arrival answer.Reject c port packet state)
-      made_alike None None arrival port packet state on at to inside = ends_alike (HopLimit arrival ∷ []) state
-      made_alike (Some x) (Some y) arrival port packet state on at to inside = on arrival packet state port at inside to
-      made_alike None (Some y) arrival port packet state on at to inside = absurd on
-      made_alike (Some x) None arrival port packet state on at to inside = absurd on
+      delivered_agree : (port : ObjId) (packet : Values) (state : S) (side : Side) → side_of net port ≡ side → IsInside packet → Holds state → Agree Holds (delivered_to net ps o port packet state side) (delivered_to net qs p port packet state side)
+      delivered_agree port packet state Host is inside holds = ends_agree (Output port (headers packet) ∷ []) state holds
+      delivered_agree port packet state NoPeer is inside holds = ends_agree (Drop (datapath_at net port) cause.NoPeer ∷ []) state holds
+      delivered_agree port packet state (Peer peer) is inside holds = crosses_agree o p peer packet state onward (packets.sides port peer is) inside.formed holds
 
-      left_alike : (arrival port : ObjId) → IsPort arrival → IsPort port → (passed : Option Passed) (state : S) → IsKept passed → AreAlike (left net ps o arrival port passed state) (left net qs p arrival port passed state)
-      left_alike arrival port at is None state kept = ends_alike [] state
-      left_alike arrival port at is (Some (GoesOn target packet)) state kept = delivered_alike port packet state is
-      left_alike arrival port at is (Some (Drops why)) state kept = ends_alike (Drop (datapath_at net port) why ∷ []) state
-      left_alike arrival port at is (Some (Makes answer.Reject by packet)) state kept =
-          after_alike (told_of answer.Reject arrival) (told_of answer.Reject arrival) _ _ refl (made_alike o p arrival by packet state onward at kept.0 kept.1)
-      left_alike arrival port at is (Some (Makes answer.Arp by packet)) state kept = absurd kept
+      made_agree : (answer : Answer) (a : Option (Onward N S)) (c : Option (Onward M S)) (arrival : ObjId) (port : ObjId) (packet : Values) (state : S) → OnwardAlike a c → IsPort net arrival → IsPort net port → IsInside packet → Holds state
+          → Agree Holds (made net ps o arrival answer a port packet state) (made net qs p arrival answer c port packet state)
+      made_agree answer None None arrival port packet state on at to inside holds = ends_agree (HopLimit arrival ∷ []) state holds
+      made_agree answer.Reject (Some x) (Some y) arrival port packet state on at to inside holds = on.leaves_late arrival packet state port at inside to holds
+      made_agree answer.Arp (Some x) (Some y) arrival port packet state on at to inside holds = on.leaves arrival packet state port at inside to holds
+      made_agree answer None (Some y) arrival port packet state on at to inside holds = absurd on
+      made_agree answer (Some x) None arrival port packet state on at to inside holds = absurd on
 
-      leaves_alike : (arrival : ObjId) (packet : Values) (state : S) (port : ObjId) → IsPort arrival → IsInside packet → IsPort port → AreAlike (leaves net ps o arrival packet state port) (leaves net qs p arrival packet state port)
-      leaves_alike arrival packet state port at inside is =
+      left_agree : (arrival port : ObjId) → IsPort net arrival → (passed : Option Passed) (state : S) → IsKept passed → Holds state → Agree Holds (left net ps o arrival port passed state) (left net qs p arrival port passed state)
+      left_agree arrival port at None state kept holds = ends_agree [] state holds
+      left_agree arrival port at (Some (GoesOn (OnePort to) packet)) state kept holds = delivered_agree port packet state (side_of net port) refl kept.1 holds
+      left_agree arrival port at (Some (GoesOn (Late to) packet)) state kept holds = delivered_agree port packet state (side_of net port) refl kept.1 holds
+      left_agree arrival port at (Some (GoesOn (Ports ports) packet)) state kept holds = delivered_agree port packet state (side_of net port) refl kept.1 holds
+      left_agree arrival port at (Some (Drops why)) state kept holds = ends_agree (Drop (datapath_at net port) why ∷ []) state holds
+      left_agree arrival port at (Some (Makes answer by packet)) state kept holds =
+          after_agree (told_of answer arrival) (told_of answer arrival) _ _ (same_told N M answer arrival) (made_agree answer o p arrival by packet state onward at kept.0 kept.1 holds)
+
+      leaves_agree : (arrival : ObjId) (packet : Values) (state : S) (port : ObjId) → IsPort net arrival → IsInside packet → IsPort net port → Holds state → Agree Holds (leaves net ps o arrival packet state port) (leaves net qs p arrival packet state port)
+      leaves_agree arrival packet state port at inside is holds =
           let out = packets.leaves port packet is inside in
-          then_alike _ _ (left net ps o arrival port) (left net qs p arrival port) (same_parts.leaving port (with_value packet Outport port.0) state is out.0 out.1) (left_alike arrival port at is)
+          then_agree _ _ (left net ps o arrival port) (left net qs p arrival port) (same_parts.leaving port (with_value packet Outport port.0) state is out.0 out.1 holds) (left_agree arrival port at)
 
-      late_alike : (arrival : ObjId) (packet : Values) (state : S) (port : ObjId) → IsPort arrival → IsInside packet → IsPort port → AreAlike (leaves_late net ps o arrival packet state port) (leaves_late net qs p arrival packet state port)
-      late_alike arrival packet state port at inside is =
+      late_agree : (arrival : ObjId) (packet : Values) (state : S) (port : ObjId) → IsPort net arrival → IsInside packet → IsPort net port → Holds state → Agree Holds (leaves_late net ps o arrival packet state port) (leaves_late net qs p arrival packet state port)
+      late_agree arrival packet state port at inside is holds =
           let out = packets.leaves port packet is inside in
-          then_alike _ _ (left net ps o arrival port) (left net qs p arrival port) (same_parts.late port (with_value packet Outport port.0) state is out.0 out.1) (left_alike arrival port at is)
+          then_agree _ _ (left net ps o arrival port) (left net qs p arrival port) (same_parts.late port (with_value packet Outport port.0) state is out.0 out.1 holds) (left_agree arrival port at)
 
-      copies_alike : (arrival : ObjId) (packet : Values) (state : S) (ports : List ObjId) → IsPort arrival → IsInside packet → AllByRecursion IsPort ports → AreAlike (copies net ps o arrival packet state ports) (copies net qs p arrival packet state ports)
-      copies_alike arrival packet state [] at inside all = ends_alike [] state
-      copies_alike arrival packet state (port ∷ ports) at inside all =
-          let first = leaves_alike arrival packet state port at inside all.0 in
-          after_alike _ _ (copies net ps o arrival packet (leaves net ps o arrival packet state port).state ports) (copies net qs p arrival packet (leaves net qs p arrival packet state port).state ports) first.told
-          (subst (λ s. AreAlike (copies net ps o arrival packet (leaves net ps o arrival packet state port).state ports) (copies net qs p arrival packet s ports)) first.left
-          (copies_alike arrival packet (leaves net ps o arrival packet state port).state ports at inside all.1))
+      copies_agree : (arrival : ObjId) (packet : Values) (state : S) (ports : List ObjId) → IsPort net arrival → IsInside packet → AllByRecursion (IsPort net) ports → Holds state → Agree Holds (copies net ps o arrival packet state ports) (copies net qs p arrival packet state ports)
+      copies_agree arrival packet state [] at inside all holds = ends_agree [] state holds
+      copies_agree arrival packet state (port ∷ ports) at inside all holds =
+          let first = leaves_agree arrival packet state port at inside all.0 holds in
+          after_agree _ _ (copies net ps o arrival packet (leaves net ps o arrival packet state port).state ports) (copies net qs p arrival packet (leaves net qs p arrival packet state port).state ports) first.alike.told
+          (subst (λ s. Agree Holds (copies net ps o arrival packet s ports) (copies net qs p arrival packet (leaves net qs p arrival packet state port).state ports)) (sym first.alike.left)
+          (copies_agree arrival packet (leaves net qs p arrival packet state port).state ports at inside all.1 first.holds))
 
-      others : (arrival : ObjId) (ports : List ObjId) → AllByRecursion IsPort ports → AllByRecursion IsPort (filter (λ port. not (same port arrival)) ports)
+      others : (arrival : ObjId) (ports : List ObjId) → AllByRecursion (IsPort net) ports → AllByRecursion (IsPort net) (filter (λ port. not (same port arrival)) ports)
       others arrival [] all = tt
       others arrival (port ∷ ports) all = by (not (same port arrival)) (others arrival ports all.1)
         where
-          by : (b : Bool) → AllByRecursion IsPort (filter (λ port. not (same port arrival)) ports) → AllByRecursion IsPort (cond b (port ∷ filter (λ port. not (same port arrival)) ports) (filter (λ port. not (same port arrival)) ports))
+          by : (b : Bool) → AllByRecursion (IsPort net) (filter (λ port. not (same port arrival)) ports) → AllByRecursion (IsPort net) (cond b (port ∷ filter (λ port. not (same port arrival)) ports) (filter (λ port. not (same port arrival)) ports))
           by true rest = (all.0, rest)
           by false rest = rest
 
-      sent_alike : (arrival : ObjId) (target : Target) (packet : Values) (state : S) → IsPort arrival → IsKept (Some (GoesOn target packet)) → AreAlike (sent net ps o arrival target packet state) (sent net qs p arrival target packet state)
-      sent_alike arrival (OnePort port) packet state at kept = by (is_same_port net ps o arrival port packet)
+      sent_agree : (arrival : ObjId) (target : Target) (packet : Values) (state : S) → IsPort net arrival → IsKept (Some (GoesOn target packet)) → Holds state → Agree Holds (sent net ps o arrival target packet state) (sent net qs p arrival target packet state)
+      sent_agree arrival (OnePort port) packet state at kept holds = by (is_same_port net ps o arrival port packet)
         where
-          by : (b : Bool) → AreAlike (cond b (ends {N = N} (Drop (datapath_at net arrival) cause.SamePort ∷ []) state) (leaves net ps o arrival packet state port)) (cond b (ends {N = M} (Drop (datapath_at net arrival) cause.SamePort ∷ []) state) (leaves net qs p arrival packet state port))
-          by true = ends_alike (Drop (datapath_at net arrival) cause.SamePort ∷ []) state
-          by false = leaves_alike arrival packet state port at kept.1 kept.0
-      sent_alike arrival (Late port) packet state at kept = by (is_same_port net ps o arrival port packet)
+          by : (b : Bool) → Agree Holds (cond b (ends {N = N} (Drop (datapath_at net arrival) cause.SamePort ∷ []) state) (leaves net ps o arrival packet state port)) (cond b (ends {N = M} (Drop (datapath_at net arrival) cause.SamePort ∷ []) state) (leaves net qs p arrival packet state port))
+          by true = ends_agree (Drop (datapath_at net arrival) cause.SamePort ∷ []) state holds
+          by false = leaves_agree arrival packet state port at kept.1 kept.0 holds
+      sent_agree arrival (Late port) packet state at kept holds = by (is_same_port net ps o arrival port packet)
         where
-          by : (b : Bool) → AreAlike (cond b (ends {N = N} (Drop (datapath_at net arrival) cause.SamePort ∷ []) state) (leaves_late net ps o arrival packet state port)) (cond b (ends {N = M} (Drop (datapath_at net arrival) cause.SamePort ∷ []) state) (leaves_late net qs p arrival packet state port))
-          by true = ends_alike (Drop (datapath_at net arrival) cause.SamePort ∷ []) state
-          by false = late_alike arrival packet state port at kept.1 kept.0
-      sent_alike arrival (Ports ports) packet state at kept = copies_alike arrival packet state (filter (λ port. not (same port arrival)) ports) at kept.1 (others arrival ports kept.0)
+          by : (b : Bool) → Agree Holds (cond b (ends {N = N} (Drop (datapath_at net arrival) cause.SamePort ∷ []) state) (leaves_late net ps o arrival packet state port)) (cond b (ends {N = M} (Drop (datapath_at net arrival) cause.SamePort ∷ []) state) (leaves_late net qs p arrival packet state port))
+          by true = ends_agree (Drop (datapath_at net arrival) cause.SamePort ∷ []) state holds
+          by false = late_agree arrival packet state port at kept.1 kept.0 holds
+      sent_agree arrival (Ports ports) packet state at kept holds = copies_agree arrival packet state (filter (λ port. not (same port arrival)) ports) at kept.1 (others arrival ports kept.0) holds
 
-      arrived_alike : (arrival : ObjId) → IsPort arrival → (passed : Option Passed) (state : S) → IsKept passed → AreAlike (arrived net ps o arrival passed state) (arrived net qs p arrival passed state)
-      arrived_alike arrival at None state kept = ends_alike [] state
-      arrived_alike arrival at (Some (GoesOn target packet)) state kept = sent_alike arrival target packet state at kept
-      arrived_alike arrival at (Some (Drops why)) state kept = ends_alike (Drop (datapath_at net arrival) why ∷ []) state
-      arrived_alike arrival at (Some (Makes answer.Reject by packet)) state kept =
-          after_alike (told_of answer.Reject arrival) (told_of answer.Reject arrival) _ _ refl (made_alike o p arrival by packet state onward at kept.0 kept.1)
-      arrived_alike arrival at (Some (Makes answer.Arp by packet)) state kept = absurd kept
+      arrived_agree : (arrival : ObjId) → IsPort net arrival → (passed : Option Passed) (state : S) → IsKept passed → Holds state → Agree Holds (arrived net ps o arrival passed state) (arrived net qs p arrival passed state)
+      arrived_agree arrival at None state kept holds = ends_agree [] state holds
+      arrived_agree arrival at (Some (GoesOn target packet)) state kept holds = sent_agree arrival target packet state at kept holds
+      arrived_agree arrival at (Some (Drops why)) state kept holds = ends_agree (Drop (datapath_at net arrival) why ∷ []) state holds
+      arrived_agree arrival at (Some (Makes answer by packet)) state kept holds =
+          after_agree (told_of answer arrival) (told_of answer arrival) _ _ (same_told N M answer arrival) (made_agree answer o p arrival by packet state onward at kept.0 kept.1 holds)
 
-      enters_alike : (arrival : ObjId) (packet : Values) (state : S) → IsPort arrival → IsPacket packet → AreAlike (enters net ps o arrival packet state) (enters net qs p arrival packet state)
-      enters_alike arrival packet state at formed =
+      enters_agree : (arrival : ObjId) (packet : Values) (state : S) → IsPort net arrival → IsPacket packet → Holds state → Agree Holds (enters net ps o arrival packet state) (enters net qs p arrival packet state)
+      enters_agree arrival packet state at formed holds =
           let from = packets.starts arrival packet at formed in
-          then_alike _ _ (arrived net ps o arrival) (arrived net qs p arrival) (same_parts.arriving arrival (start packet arrival.0) state at from.0 from.1.0 from.1.1) (arrived_alike arrival at)
+          then_agree _ _ (arrived net ps o arrival) (arrived net qs p arrival) (same_parts.arriving arrival (start packet arrival.0) state at from.0 from.1.0 from.1.1 holds) (arrived_agree arrival at)
 
     -- so packets go on alike, however many hops are left
     onward_alike : (hops : ℕ) → OnwardAlike (hops_left net ps hops) (hops_left net qs hops)
     onward_alike zero = tt
-    onward_alike (suc hops) = late_alike (hops_left net ps hops) (hops_left net qs hops) (onward_alike hops)
+    onward_alike (suc hops) = record {
+      enters = enters_agree (hops_left net ps hops) (hops_left net qs hops) (onward_alike hops);
+      leaves = leaves_agree (hops_left net ps hops) (hops_left net qs hops) (onward_alike hops);
+      leaves_late = late_agree (hops_left net ps hops) (hops_left net qs hops) (onward_alike hops);
+    }
 
-    -- and walks are alike
-    pub walks_alike : (hops : ℕ) (arrival : ObjId) (packet : Values) (state : S) → IsPort arrival → IsPacket packet → AreAlike (walk net ps hops arrival packet state) (walk net qs hops arrival packet state)
-    walks_alike hops = enters_alike (hops_left net ps hops) (hops_left net qs hops) (onward_alike hops)
+    -- and walks agree
+    pub walks_agree : (hops : ℕ) (arrival : ObjId) (packet : Values) (state : S) → IsPort net arrival → IsPacket packet → Holds state → Agree Holds (walk net ps hops arrival packet state) (walk net qs hops arrival packet state)
+    walks_agree hops = enters_agree (hops_left net ps hops) (hops_left net qs hops) (onward_alike hops)

@@ -1,4 +1,4 @@
--- On the rows of a sound plain network each packet comes to an end.
+-- On the rows of a sound plain network each packet comes to an end, on its switches and on its routers.
 use Rattle.std.proofs.Common.{◌≡◌, Bool, true, false, List, refl, subst, arith}
 use Rattle.std.specs.Bool.{IsTrue}
 use Rattle.std.specs.List.{Contains}
@@ -12,11 +12,11 @@ use Rattle.nb_model.specs.Network.{Network}
 use Rattle.nb_model.specs.Plain.{IsPlain}
 use Rattle.nb_model.specs.Sound.{IsSound}
 use Rattle.net_rows.specs.Acls.{passes, switch_acl_rules}
-use Rattle.net_rows.specs.Build.{has_unknown, rows}
+use Rattle.net_rows.specs.Build.{has_unknown}
 use Rattle.net_rows.specs.Lookup.{switch_l2_rules}
 use Rattle.net_rows.specs.Unit.{row_of, rule, unit_of_datapath}
 use Rattle.net_rows.proofs.Elements.{All-from_members}
-use Rattle.net_rows.proofs.Units.{rows-gives, rows-switch}
+use Rattle.lr_units.specs.Network.{network_rows}
 use Rattle.sb_model.specs.Make.{takes_each, goes_on, goes_out, drops}
 use Rattle.sb_model.specs.Stage.{is_same_kind, stage_table}
 use Rattle.sb_model.specs.declared.row.Row.{Row}
@@ -25,12 +25,14 @@ use Rattle.sb_model.specs.declared.stage.Stage.{Stage}
 use Rattle.sb_model.specs.declared.stage.Stage.TheVariants.{LsInCheckPortSec, LsInPreAcl, LsInPreStateful, LsInAclEval, LsInLb, LsInStateful, LsInArpRsp, LsInL2Lkup, LsInL2Unknown, LsOutPreAcl, LsOutPreStateful, LsOutAclEval, LsOutStateful, LsOutCheckPortSec}
 use Rattle.tr_stage.specs.Machine.{kind_of}
 use Rattle.tr_stage.specs.Runnable.{TakesEach}
-use Rattle.tr_pipe.specs.Runnable.{are_run}
+use Rattle.tr_pipe.specs.Runnable.{IsRunnable, are_run}
 use Rattle.ls_laws.specs.Steps.{flows_at}
 use Rattle.ls_laws.proofs.RuleStages.{rules_where}
-use Rattle.ls_ct_laws.proofs.RuleRuns.{row_runs}
+use Rattle.ls_laws.proofs.Tables.{row_of_switch}
+use Rattle.ls_ct_laws.proofs.RuleRuns.{row_at_switch_runs}
 use Rattle.tr_walk.specs.Runnable.{AreRunnable}
-use Rattle.tr_walk.proofs.Pipelines.{numbered_switch}
+use Rattle.tr_router.proofs.Ends as routers
+use Rattle.tr_walk.proofs.Datapaths.{is_switch}
 
 module _ (net : Network) (switch : Switch) (there : Contains net.switches switch) where
   -- a rule for each packet, among those of a switch that tracks connections or not
@@ -40,7 +42,7 @@ module _ (net : Network) (switch : Switch) (there : Contains net.switches switch
   by_rule : (stage : Stage) (actions : List Action) → Contains (rules_where (tracks net switch.id) (balances net switch.id) (has_unknown net switch.id)) (rule stage 0 takes_each actions) → TakesEach (flows_at net switch.id) stage
   by_rule stage actions in_rules =
       let says = rule stage 0 takes_each actions in
-      (row_of (unit_of_datapath switch.id) says, rows-switch net switch says there in_rules, refl, refl, refl)
+      (row_of (unit_of_datapath switch.id) says, row_of_switch net switch says there in_rules, refl, refl, refl)
 
   by_last : (stage : Stage) (actions : List Action) → HasLast stage actions → TakesEach (flows_at net switch.id) stage
   by_last stage actions last = by_rule stage actions (last (tracks net switch.id) (balances net switch.id) (has_unknown net switch.id))
@@ -80,16 +82,20 @@ module _ (net : Network) (switch : Switch) (there : Contains net.switches switch
   by_stage LsOutCheckPortSec _ = by_last LsOutCheckPortSec goes_out (λ tracking balances unknown. (3, omega arith, refl))
   by_stage _ of_it = absurd (false≢true of_it)
 
-  of_kind : kind_of (flows_at net switch.id) ≡ kinds.Switch
-  of_kind = rw (numbered_switch net.switches switch there) refl
+  module _ (sound : IsSound net) (plain : IsPlain net) where
+    takes_each_there : (stage : Stage) → IsTrue (is_same_kind (stage_table stage).kind (kind_of (flows_at net switch.id))) → TakesEach (flows_at net switch.id) stage
+    takes_each_there stage of_it = by_stage stage (subst (λ kind. IsTrue (is_same_kind (stage_table stage).kind kind)) (is_switch net sound switch there) of_it)
 
-  takes_each_there : (stage : Stage) → IsTrue (is_same_kind (stage_table stage).kind (kind_of (flows_at net switch.id))) → TakesEach (flows_at net switch.id) stage
-  takes_each_there stage of_it = by_stage stage (subst (λ kind. IsTrue (is_same_kind (stage_table stage).kind kind)) of_kind of_it)
+    of_switch : IsRunnable (flows_at net switch.id)
+    of_switch = record {
+      takes_each = takes_each_there;
+      formed = All-from_members (λ (row : Row). row.dp ≡ switch.id → IsTrue (is_well_formed row.actions)) (network_rows net) (λ row at of_dp. (row_at_switch_runs net sound plain switch there row at of_dp).0);
+      run = All-from_members (λ (row : Row). row.dp ≡ switch.id → IsTrue (are_run (names net) row.stage row.actions)) (network_rows net) (λ row at of_dp. (row_at_switch_runs net sound plain switch there row at of_dp).1);
+    }
 
--- so each packet comes to an end, on each switch
+-- so each packet comes to an end
 pub runnable : (net : Network) → IsSound net → IsPlain net → AreRunnable net
-runnable net sound plain switch there = record {
-  takes_each = takes_each_there net switch there;
-  formed = All-from_members (λ (row : Row). row.dp ≡ switch.id → IsTrue (is_well_formed row.actions)) (rows net) (λ row at _. (row_runs net sound plain row (rows-gives net row at)).0);
-  run = All-from_members (λ (row : Row). row.dp ≡ switch.id → IsTrue (are_run (names net) row.stage row.actions)) (rows net) (λ row at _. (row_runs net sound plain row (rows-gives net row at)).1);
+runnable net sound plain = record {
+  switches = λ switch there. of_switch net switch there sound plain;
+  routers = routers.runnable net sound plain;
 }

@@ -1,18 +1,16 @@
--- On the rows of a sound plain network actions read only fields that are there.
-use Rattle.std.proofs.Common.{◌≡◌, ℕ, ◌+◌, Bool, true, false, cond, List, [], ◌∷◌, ◌++◌, map, ap, refl, ◌∙◌, inl, inr, subst}
-use Rattle.std.specs.Prelude.{◌==◌, ◌&&◌, Option, Some, None}
+-- On the rows of a sound network actions read only fields that are there.
+use Rattle.std.proofs.Common.{◌≡◌, ℕ, ◌+◌, Bool, true, false, cond, List, [], ◌∷◌, ◌++◌, map, refl, ◌∙◌, inl, inr, ◌⊎◌, subst}
+use Rattle.std.specs.Prelude.{Option, Some, None}
 use Rattle.std.specs.Bool.{IsTrue}
-use Rattle.std.specs.List.{AllByRecursion, Contains, flat_map, list_all}
-use Rattle.std.proofs.lemmas.Bool.{false≢true, and_from, and_parts}
-use Rattle.nv_base.specs.declared.field.Field.{Field}
+use Rattle.std.specs.List.{Contains, flat_map}
+use Rattle.std.proofs.lemmas.Bool.{and_from, and_parts}
+use Rattle.std.proofs.lemmas.List.Elements.{Contains-append_cases}
 use Rattle.nv_base.specs.declared.field.Field.TheVariants.{EthSrc, EthDst, EthType, ArpOp, ArpSha, ArpTha, ArpSpa}
 use Rattle.nv_base.specs.declared.ip4.Ip4.{Ip4}
 use Rattle.pkt_core.specs.Packet.{Values, value, with_value}
 use Rattle.pkt_core.specs.Prerequisite.{is_there}
 use Rattle.expr_core.specs.Lookup.{Lookup}
 use Rattle.expr_eval.specs.MatchMeaning.{holds}
-use Rattle.act_core.specs.declared.action.Action.{Action}
-use Rattle.act_core.specs.declared.action.Action.TheVariants as action
 use Rattle.act_core.specs.declared.step.Step.TheVariants as step
 use Rattle.nb_records.specs.declared.acl.Verdict.{Verdict}
 use Rattle.nb_records.specs.declared.acl.Verdict.TheVariants.{Allow, AllowRelated, AllowStateless, Drop, Reject}
@@ -27,87 +25,44 @@ use Rattle.nb_model.specs.Network.{Network}
 use Rattle.nb_model.specs.Readable.{is_priority}
 use Rattle.nb_model.specs.Sound.{IsSound}
 use Rattle.nb_model.specs.Applies.{balances, is_empty, tracks}
-use Rattle.nb_model.specs.Plain.{IsPlain}
-use Rattle.net_rows.specs.Acls.{acl_on_rules, ending, stage_of, switch_acl_rules, tracked_rules, untracking_rules}
-use Rattle.net_rows.specs.Build.{acl_on_input, has_unknown, port_l2_input, port_rules, port_sec_input, switch_rules}
+use Rattle.net_rows.specs.Acls.{acl_on_rules, ending, port_acl_rules, stage_of, switch_acl_rules, tracked_rules, untracking_rules}
+use Rattle.net_rows.specs.Build.{acl_on_input, acl_rules_of_port, all_rows, has_unknown, is_untracked, port_acl_input, port_l2_input, port_rules, port_sec_input, switch_rules}
 use Rattle.net_rows.specs.Lookup.{answers, arp_rules, arp_rules_of, lookup_rule, looked_up, port_l2_rules, requests, switch_l2_rules}
 use Rattle.net_rows.specs.PortSecurity.{closed_rules, disabled_rules, guard_rules, guarded_rules, open_rules, port_sec_rules}
 use Rattle.net_rows.specs.Unit.{rule}
 use Rattle.net_rows.specs.declared.inputs.AclOnInput.{AclOnInput}
 use Rattle.net_rows.specs.declared.inputs.PortL2Input.{PortL2Input}
 use Rattle.net_rows.specs.declared.inputs.PortSecInput.{PortSecInput}
-use Rattle.net_rows.specs.declared.rule.Rule.{Rule}
 use Rattle.net_rows.proofs.Elements.{every_append}
 use Rattle.net_rows.proofs.Pairs.{every_member}
-use Rattle.net_rows.proofs.Units.{IsRow, rows-gives}
+use Rattle.net_rows.proofs.Units.{IsRow, all_rows-gives}
+use Rattle.lr_units.specs.Build.{router_rows}
+use Rattle.lr_units.proofs.Whole.{network_members}
 use Rattle.sb_model.specs.Make.{all_of, goes_on, goes_out, drops, steps, turns_back}
 use Rattle.sb_model.specs.declared.row.Row.{Row}
 use Rattle.sb_model.specs.declared.stage.Stage.{Stage}
 use Rattle.sb_model.specs.declared.stage.Stage.TheVariants.{LsInArpRsp, LsInCheckPortSec, LsInL2Lkup, LsOutCheckPortSec}
-use Rattle.tr_stage.specs.Machine.{Effect, bound_for, number_of}
-use Rattle.tr_stage.specs.Machine.Effect.{Changed, Done}
+use Rattle.tr_stage.specs.Machine.{bound_for, number_of}
 use Rattle.ls_laws.proofs.Packets.{other_value}
 use Rattle.ls_laws.proofs.RuleStages.{rules_where, rules_where_tracked, untracked_rule}
 use Rattle.ls_ct_laws.proofs.RuleRuns.{every_image, every_piece}
-use Rattle.tr_walk.specs.Reads.{FindsWhatItReads, FindWhatTheyRead, actions_find, answer_finds, left_by, once_changed, reads}
+use Rattle.tr_walk.specs.Reads.{FindsWhatItReads, FindWhatTheyRead, actions_find, answer_finds, once_changed}
+use Rattle.tr_walk.proofs.Reading.{AllFind, Finds, all_find, any, still_of}
+use Rattle.tr_walk.proofs.RouterFinds.{router_row_finds}
 use Rattle.sb_model.specs.Stage.{last_table}
 use Rattle.sb_model.specs.declared.stage.DatapathKind.TheVariants as datapath
-
--- a packet is ARP where it was before another field changed
-still_arp : (before packet : Values) → value packet EthType ≡ value before EthType → is_there before ArpOp ≡ true → is_there packet ArpSha ≡ true
-still_arp before packet same is = ap (λ n. n == 0x806) same ∙ is
-
--- of each packet that the rule takes, its actions read only fields that are there
-record Finds (known : Lookup) (says : Rule) : Type 0 where
-  pub there : (packet : Values) → IsTrue (holds known packet says.matching) → IsTrue (actions_find known says.stage says.actions packet)
-
-abbrev AllFind : Lookup → List Rule → Type 0
-AllFind known rules = AllByRecursion (Finds known) rules
 
 module _ (known : Lookup) where
   -- ---- the rules of switches
 
-  any : (stage : Stage) (priority : ℕ) (matching : _) (actions : List Action) → ((packet : Values) → IsTrue (actions_find known stage actions packet)) → Finds known (rule stage priority matching actions)
-  any stage priority matching actions find = record { there = λ packet takes. find packet }
-
-  -- actions that read no field
-  abbrev read_none : List Action → Bool
-  read_none [] = true
-  read_none (action.Step step ∷ others) = is_empty (reads step) && read_none others
-  read_none (_ ∷ others) = false
-
-  finds_none : (stage : Stage) (actions : List Action) (packet : Values) → read_none actions ≡ true → actions_find known stage actions packet ≡ true
-  finds_none stage [] packet none = refl
-  finds_none stage (action.Step step ∷ others) packet none =
-      let parts = and_parts (is_empty (reads step)) (read_none others) none in
-      and_from _ _ (of_step (reads step) parts.0) (of_others (left_by known stage step packet) (λ later. finds_none stage others later parts.1))
-    where
-      of_step : (fields : List Field) → is_empty fields ≡ true → list_all (is_there packet) fields ≡ true
-      of_step [] empty = refl
-      of_step (field ∷ fields) empty = absurd (false≢true empty)
-
-      of_others : (left : Effect) → ((later : Values) → actions_find known stage others later ≡ true) → once_changed left (actions_find known stage others) ≡ true
-      of_others (Changed later) find = find later
-      of_others (Done end) find = refl
-  finds_none stage (action.TcpReset block ∷ others) packet none = absurd (false≢true none)
-  finds_none stage (action.Icmp4 block ∷ others) packet none = absurd (false≢true none)
-  finds_none stage (action.Reject block ∷ others) packet none = absurd (false≢true none)
-  finds_none stage (action.Arp block ∷ others) packet none = absurd (false≢true none)
-
-  all_find : (rules : List Rule) → IsTrue (list_all (λ (says : Rule). read_none says.actions) rules) → AllFind known rules
-  all_find [] none = tt
-  all_find (says ∷ rules) none =
-      let parts = and_parts (read_none says.actions) (list_all (λ (r : Rule). read_none r.actions) rules) none in
-      (record { there = λ packet takes. finds_none says.stage says.actions packet parts.0 }, all_find rules parts.1)
-
   of_switch : (tracking balances unknown : Bool) → AllFind known (rules_where tracking balances unknown)
   unfolding switch_acl_rules switch_l2_rules
-  of_switch true true true = all_find (rules_where true true true) refl
-  of_switch true true false = all_find (rules_where true true false) refl
-  of_switch true false true = all_find (rules_where true false true) refl
-  of_switch true false false = all_find (rules_where true false false) refl
-  of_switch false balances true = all_find (rules_where false balances true) refl
-  of_switch false balances false = all_find (rules_where false balances false) refl
+  of_switch true true true = all_find known (rules_where true true true) refl
+  of_switch true true false = all_find known (rules_where true true false) refl
+  of_switch true false true = all_find known (rules_where true false true) refl
+  of_switch true false false = all_find known (rules_where true false false) refl
+  of_switch false balances true = all_find known (rules_where false balances true) refl
+  of_switch false balances false = all_find known (rules_where false balances false) refl
 
   -- ---- those of ACLs
 
@@ -118,25 +73,25 @@ module _ (known : Lookup) where
 
   module _ (priority : ℕ) (matching : _) where
     of_untracked : (stage : Stage) (verdict : Verdict) → Finds known (rule stage priority matching (ending verdict))
-    of_untracked stage Allow = any _ _ _ _ (λ p. refl)
-    of_untracked stage AllowRelated = any _ _ _ _ (λ p. refl)
-    of_untracked stage AllowStateless = any _ _ _ _ (λ p. refl)
-    of_untracked stage Drop = any _ _ _ _ (λ p. refl)
-    of_untracked stage Reject = any _ _ _ _ (λ p. rejected stage _)
+    of_untracked stage Allow = any known _ _ _ _ (λ p. refl)
+    of_untracked stage AllowRelated = any known _ _ _ _ (λ p. refl)
+    of_untracked stage AllowStateless = any known _ _ _ _ (λ p. refl)
+    of_untracked stage Drop = any known _ _ _ _ (λ p. refl)
+    of_untracked stage Reject = any known _ _ _ _ (λ p. rejected stage _)
 
     of_untracking : (way : Way) (verdict : Verdict) → AllFind known (untracking_rules way priority matching verdict)
     of_untracking way Allow = tt
     of_untracking way AllowRelated = tt
-    of_untracking way AllowStateless = (any _ _ _ _ (λ p. refl), tt)
+    of_untracking way AllowStateless = (any known _ _ _ _ (λ p. refl), tt)
     of_untracking way Drop = tt
     of_untracking way Reject = tt
 
     of_tracked : (stage : Stage) (verdict : Verdict) → AllFind known (tracked_rules stage priority matching verdict)
-    of_tracked stage Allow = (any _ _ _ _ (λ p. refl), tt)
-    of_tracked stage AllowRelated = (any _ _ _ _ (λ p. refl), tt)
-    of_tracked stage AllowStateless = (any _ _ _ _ (λ p. refl), tt)
-    of_tracked stage Drop = (any _ _ _ _ (λ p. refl), (any _ _ _ _ (λ p. refl), tt))
-    of_tracked stage Reject = (any _ _ _ _ (λ p. rejected stage _), (any _ _ _ _ (λ p. rejected stage _), tt))
+    of_tracked stage Allow = (any known _ _ _ _ (λ p. refl), tt)
+    of_tracked stage AllowRelated = (any known _ _ _ _ (λ p. refl), tt)
+    of_tracked stage AllowStateless = (any known _ _ _ _ (λ p. refl), tt)
+    of_tracked stage Drop = (any known _ _ _ _ (λ p. refl), (any known _ _ _ _ (λ p. refl), tt))
+    of_tracked stage Reject = (any known _ _ _ _ (λ p. rejected stage _), (any known _ _ _ _ (λ p. rejected stage _), tt))
 
   of_acl : (input : AclOnInput) → AllFind known (acl_on_rules input)
   unfolding acl_on_rules
@@ -152,13 +107,13 @@ module _ (known : Lookup) where
   -- ---- those of port security
 
   lets_in : (priority : ℕ) (matching : _) → Finds known (rule LsInCheckPortSec priority matching goes_on)
-  lets_in priority matching = any _ _ _ _ (λ p. refl)
+  lets_in priority matching = any known _ _ _ _ (λ p. refl)
 
   lets_out : (priority : ℕ) (matching : _) → Finds known (rule LsOutCheckPortSec priority matching goes_out)
-  lets_out priority matching = any _ _ _ _ (λ p. refl)
+  lets_out priority matching = any known _ _ _ _ (λ p. refl)
 
   shuts : (stage : Stage) (priority : ℕ) (matching : _) → Finds known (rule stage priority matching drops)
-  shuts stage priority matching = any _ _ _ _ (λ p. refl)
+  shuts stage priority matching = any known _ _ _ _ (λ p. refl)
 
   of_guard : (name : List ℕ) (guard : Guard) → AllFind known (guard_rules name guard)
   of_guard name guard = by (is_empty guard.nets)
@@ -210,13 +165,13 @@ module _ (known : Lookup) where
       type_of_five = other_value four ArpSha EthType mac refl ∙ other_value three ArpTha EthType (value three ArpSha) refl ∙ type_of_three
 
       sha_there : is_there three ArpSha ≡ true
-      sha_there = still_arp packet three type_of_three is_arp
+      sha_there = still_of packet three 0x806 type_of_three is_arp
 
       spa_there : is_there five ArpSpa ≡ true
-      spa_there = still_arp packet five type_of_five is_arp
+      spa_there = still_of packet five 0x806 type_of_five is_arp
 
   of_address : (name : List ℕ) (mac : ℕ) (ip : Ip4) → AllFind known (arp_rules name mac ip)
-  of_address name mac ip = (any _ _ _ _ (λ p. refl), (record { there = answered mac ip }, tt))
+  of_address name mac ip = (any known _ _ _ _ (λ p. refl), (record { there = answered mac ip }, tt))
 
   of_addresses : (name : List ℕ) (addresses : List Addr) → AllFind known (flat_map (arp_rules_of name) addresses)
   of_addresses name addresses = every_piece (Finds known) (arp_rules_of name) addresses by
@@ -231,7 +186,7 @@ module _ (known : Lookup) where
   sent stage (Some number) packet = refl
 
   of_lookup : (name : List ℕ) (mac : ℕ) → Finds known (lookup_rule name mac)
-  of_lookup name mac = any _ _ _ _ (λ p. sent LsInL2Lkup (number_of known name) p)
+  of_lookup name mac = any known _ _ _ _ (λ p. sent LsInL2Lkup (number_of known name) p)
 
   of_l2 : (input : PortL2Input) → AllFind known (port_l2_rules input)
   unfolding port_l2_rules
@@ -246,10 +201,20 @@ module _ (known : Lookup) where
 
 -- ---- the rows
 
-module _ (net : Network) (sound : IsSound net) (plain : IsPlain net) where
+module _ (net : Network) (sound : IsSound net) where
+  -- those of a port that leads to a router
+  of_port_acl : (port : Port) → AllFind (names net) (acl_rules_of_port net port)
+  unfolding port_acl_rules
+  of_port_acl port = by (is_untracked net port)
+    where
+      by : (b : Bool) → AllFind (names net) (cond b (port_acl_rules (port_acl_input port)) [])
+      by true = (any (names net) _ _ _ _ (λ p. refl), (any (names net) _ _ _ _ (λ p. refl), tt))
+      by false = tt
+
   of_port_rules : (port : Port) → AllFind (names net) (port_rules net port)
   of_port_rules port =
-      every_append (Finds (names net)) (port_sec_rules (port_sec_input port)) (port_l2_rules (port_l2_input net port)) (of_security (names net) (port_sec_input port)) (of_l2 (names net) (port_l2_input net port))
+      every_append (Finds (names net)) (port_sec_rules (port_sec_input port)) (acl_rules_of_port net port ++ port_l2_rules (port_l2_input net port)) (of_security (names net) (port_sec_input port))
+      (every_append (Finds (names net)) (acl_rules_of_port net port) (port_l2_rules (port_l2_input net port)) (of_port_acl port) (of_l2 (names net) (port_l2_input net port)))
 
   of_row : (row : Row) → IsRow net row → FindsWhatItReads (names net) row
   of_row row (inl at) =
@@ -262,5 +227,10 @@ module _ (net : Network) (sound : IsSound net) (plain : IsPlain net) where
       let input = acl_on_input net at.acl at.switch.id in
       subst (FindsWhatItReads (names net)) at.is (every_member (Finds (names net)) (acl_on_rules input) at.says (of_acl (names net) input) at.in_rules).there
 
+  -- a row is of a switch or of a router
   pub find : FindWhatTheyRead net
-  find row there = of_row row (rows-gives net row there)
+  find row there = by (Contains-append_cases (all_rows net) (router_rows net) row ((network_members net row).0 there))
+    where
+      by : Contains (all_rows net) row ⊎ Contains (router_rows net) row → FindsWhatItReads (names net) row
+      by (inl at) = of_row row (all_rows-gives net row at)
+      by (inr at) = router_row_finds net row at

@@ -7,19 +7,14 @@ use Rattle.nv_base.specs.declared.field.Prerequisite.TheVariants as needs
 use Rattle.nv_base.specs.Field.{field_width, is_header}
 use Rattle.pkt_core.specs.Packet.{Values, IsPacket, place, value, with_value, with_values, exchanged, headers, workings, is_working}
 use Rattle.pkt_core.specs.Prerequisite.{meets, is_there}
-use Rattle.pkt_core.specs.Replies.{start, turned, reset, icmp_back, icmp_error, arp_reply}
+use Rattle.pkt_core.specs.Replies.{start, turned, reset, icmp_back, icmp_error, arp_reply, error_code, error_type}
 use Rattle.pkt_core.specs.Tuple.{sport_of, dport_of}
-use Rattle.pkt_core.specs.declared.replies.IcmpReason.TheVariants.{PortUnreachable}
+use Rattle.pkt_core.specs.declared.replies.IcmpReason.{IcmpReason}
+use Rattle.pkt_core.specs.declared.replies.IcmpReason.TheVariants.{PortUnreachable, TtlExceeded}
 use Rattle.pkt_core.proofs.Only.{only_value}
+use Rattle.net_meaning.specs.Switches.{rejection}
+pub use Rattle.tr_router.proofs.Formed.{Fit, fits_values}
 use Rattle.ls_laws.proofs.Packets.{set_value, other_value, fits_with, fits_only}
-
--- numbers that fit their fields
-abbrev pub Fit : List (Field × ℕ) → Type 0
-Fit numbers = AllByRecursion (λ (p : Field × ℕ). p.1 < 2 ^ field_width p.0) numbers
-
-pub fits_values : (packet : Values) (numbers : List (Field × ℕ)) → IsPacket packet → Fit numbers → IsPacket (with_values packet numbers)
-fits_values packet [] is fit = is
-fits_values packet (p ∷ numbers) is fit = fits_values (with_value packet p.0 p.1) numbers (fits_with packet p.0 p.1 is fit.0) fit.1
 
 -- none of these is the field
 abbrev pub Others : Field → List (Field × ℕ) → Type 0
@@ -90,8 +85,12 @@ abbrev back_numbers : Values → List (Field × ℕ)
 back_numbers packet =
     (EthSrc, value packet EthDst) ∷ (EthDst, value packet EthSrc) ∷ (EthType, 0x800) ∷ (IpProto, 1) ∷ (IpTtl, 255) ∷ (Ip4Src, value packet Ip4Dst) ∷ (Ip4Dst, value packet Ip4Src) ∷ []
 
-abbrev type_numbers : List (Field × ℕ)
-type_numbers = (Icmp4Type, 3) ∷ (Icmp4Code, 3) ∷ []
+abbrev type_numbers : IcmpReason → List (Field × ℕ)
+type_numbers reason = (Icmp4Type, error_type reason) ∷ (Icmp4Code, error_code reason) ∷ []
+
+types_fit : (reason : IcmpReason) → Fit (type_numbers reason)
+types_fit PortUnreachable = (lit< tt, (lit< tt, tt))
+types_fit TtlExceeded = (lit< tt, (lit< tt, tt))
 
 abbrev quote_numbers : Values → List (Field × ℕ)
 quote_numbers packet =
@@ -118,18 +117,32 @@ dport_fits packet is = by (meets packet needs.Tcp) (meets packet needs.Udp)
     by false true = is.fits UdpDst
     by false false = lit< tt
 
-pub error_is : (packet : Values) → IsPacket packet → IsPacket (icmp_error packet PortUnreachable)
-error_is packet is =
-    let of_type : Fit type_numbers = (lit< tt, (lit< tt, tt)) in
+pub error_is : (packet : Values) (reason : IcmpReason) → IsPacket packet → IsPacket (icmp_error packet reason)
+error_is packet reason is =
     let of_quote : Fit (quote_numbers packet) = (is.fits IpProto, (is.fits Ip4Src, (sport_fits packet is, (is.fits Ip4Dst, (dport_fits packet is, tt))))) in
-    fits_values (with_values (icmp_back packet) type_numbers) (quote_numbers packet) (fits_values (icmp_back packet) type_numbers (back_is packet is) of_type) of_quote
+    fits_values (with_values (icmp_back packet) (type_numbers reason)) (quote_numbers packet) (fits_values (icmp_back packet) (type_numbers reason) (back_is packet is) (types_fit reason)) of_quote
 
-pub error_inport : (packet : Values) → value (icmp_error packet PortUnreachable) Inport ≡ value packet Inport
-error_inport packet =
+pub error_inport : (packet : Values) (reason : IcmpReason) → value (icmp_error packet reason) Inport ≡ value packet Inport
+error_inport packet reason =
     let of_quote : Others Inport (quote_numbers packet) = (refl, (refl, (refl, (refl, (refl, tt))))) in
-    let of_type : Others Inport type_numbers = (refl, (refl, tt)) in
+    let of_type : Others Inport (type_numbers reason) = (refl, (refl, tt)) in
     let of_back : Others Inport (back_numbers packet) = (refl, (refl, (refl, (refl, (refl, (refl, (refl, tt))))))) in
-    other_values (with_values (icmp_back packet) type_numbers) (quote_numbers packet) Inport of_quote
-    ∙ other_values (icmp_back packet) type_numbers Inport of_type
+    other_values (with_values (icmp_back packet) (type_numbers reason)) (quote_numbers packet) Inport of_quote
+    ∙ other_values (icmp_back packet) (type_numbers reason) Inport of_type
     ∙ other_values (workings packet) (back_numbers packet) Inport of_back
     ∙ only_value packet is_working Inport
+
+-- what answers a packet that is rejected
+pub rejection_is : (packet : Values) → IsPacket packet → IsPacket (rejection packet)
+rejection_is packet is = by (meets packet needs.Tcp)
+  where
+    by : (b : Bool) → IsPacket (cond b (reset packet) (icmp_error packet PortUnreachable))
+    by true = reset_is packet is
+    by false = error_is packet PortUnreachable is
+
+pub rejection_inport : (packet : Values) → value (rejection packet) Inport ≡ value packet Inport
+rejection_inport packet = by (meets packet needs.Tcp)
+  where
+    by : (b : Bool) → value (cond b (reset packet) (icmp_error packet PortUnreachable)) Inport ≡ value packet Inport
+    by true = reset_inport packet
+    by false = error_inport packet PortUnreachable

@@ -1,55 +1,44 @@
--- What the switches of a network without routers make of packets: they stay among the ports of switches, and are packets.
-use Rattle.std.proofs.Common.{◌≡◌, ℕ, ◌<◌, ◌^◌, Bool, true, false, cond, nat_lt, eqb, List, [], ◌∷◌, map, sym, ap, refl, subst, ◌∙◌, arith, lit<, inl, inr, ◌⊎◌}
+-- What switches make of packets: they stay among the ports of the network, and are packets.
+use Rattle.std.proofs.Common.{◌≡◌, ℕ, ◌<◌, ◌^◌, Bool, true, false, cond, nat_lt, eqb, List, [], ◌∷◌, sym, ap, refl, subst, ◌∙◌, lit<}
 use Rattle.std.specs.Prelude.{Option, Some, None, not, ◌&&◌}
 use Rattle.std.specs.Bool.{IsTrue}
-use Rattle.std.specs.List.{AllByRecursion, Contains, filter, find, list_all, flat_map}
-use Rattle.std.proofs.lemmas.Bool.{false≢true, and_parts, eqb-true, ltb-true}
+use Rattle.std.specs.List.{AllByRecursion, Contains, filter, list_all, flat_map}
+use Rattle.std.proofs.lemmas.Bool.{and_parts, ltb-true}
 use Rattle.nv_base.specs.declared.object.ObjId.{ObjId}
 use Rattle.nv_base.specs.declared.field.Field.{Field}
 use Rattle.nv_base.specs.declared.field.Field.TheVariants.{Inport, Outport, FlagsLoopback, ArpTpa, EthDst, CtState, CtMarkBlocked, Reg0}
-use Rattle.nv_base.specs.declared.field.Prerequisite.TheVariants.{Tcp}
 use Rattle.nv_base.specs.Field.{is_header}
 use Rattle.pkt_core.specs.Packet.{Values, IsPacket, place, value, with_value, headers}
-use Rattle.pkt_core.specs.Prerequisite.{is_there, meets}
-use Rattle.pkt_core.specs.Replies.{is_answerable, reset, icmp_error, arp_reply, start}
-use Rattle.pkt_core.specs.declared.replies.IcmpReason.TheVariants.{PortUnreachable}
+use Rattle.pkt_core.specs.Prerequisite.{is_there}
+use Rattle.pkt_core.specs.Replies.{is_answerable, arp_reply, start}
 use Rattle.nb_records.specs.declared.acl.Way.TheVariants.{From, To}
 use Rattle.nb_records.specs.declared.switch.Addr.{Addr}
 use Rattle.nb_records.specs.declared.switch.Addr.TheVariants as addr
 use Rattle.nb_records.specs.declared.switch.Port.{Port}
-use Rattle.nb_records.specs.declared.switch.PortKind.{PortKind}
-use Rattle.nb_records.specs.declared.switch.PortKind.TheVariants as kind
-use Rattle.nb_model.specs.Belongs.{is_router_kind, is_to_router}
-use Rattle.nb_model.specs.Network.{Network, same}
+use Rattle.nb_model.specs.Network.{Network}
 use Rattle.nb_model.specs.Readable.{is_mac, macs_of}
 use Rattle.nb_model.specs.Sound.{IsSound}
-use Rattle.nb_model.proofs.Lists.{same_self}
-use Rattle.nb_model.proofs.Numbered.{are_used}
 use Rattle.ct_core.specs.State.{State}
 use Rattle.net_meaning.specs.AclVerdict.{Decision}
 use Rattle.net_meaning.specs.AclVerdict.Decision.{Allowed, Dropped, Rejected, Full}
 use Rattle.net_meaning.specs.Tracked.{ruled}
 use Rattle.net_meaning.specs.Address.{is_multicast}
 use Rattle.net_meaning.specs.Guards.{is_let_in, is_let_out}
-use Rattle.net_meaning.specs.Places.{side_of, side_of_switch_port, switch_port}
-use Rattle.net_meaning.specs.Places.Side.{Host}
-use Rattle.nb_model.specs.Plain.{IsPlain}
 use Rattle.nb_model.specs.Ports.{is_open, takes_unknown}
-use Rattle.net_meaning.specs.Switches.{after_acls, is_among_ips, mac_with, has_mac, is_answering, answering, port_for, numbers, open_ports, unknown_ports, to_unknown, to_port, sent_on, turned_back, is_request, answered_for, asked, rejected, decided, arriving_at, let_out, leaving_by}
+use Rattle.net_meaning.specs.Switches.{after_acls, is_among_ips, mac_with, has_mac, is_answering, answering, port_for, numbers, open_ports, unknown_ports, to_unknown, to_port, sent_on, turned_back, is_request, answered_for, asked, rejected, rejection, decided, arriving_at, let_out, leaving_by}
 use Rattle.net_meaning.specs.Walk.{Passed, carried, carrying}
 use Rattle.net_meaning.specs.Walk.Passed.{GoesOn, Drops, Makes}
 use Rattle.net_meaning.specs.Walk.Target.{OnePort, Ports}
 use Rattle.net_meaning.specs.declared.answer.Answer.TheVariants.{Reject}
 use Rattle.net_meaning.specs.declared.cause.Cause.TheVariants.{Acl, PortSec}
-use Rattle.net_rows.proofs.Elements.{one_of, one_of_none, one_first, one_later}
+use Rattle.net_rows.proofs.Elements.{one_first, one_later}
 use Rattle.pkt_core.proofs.Only.{only_value}
-use Rattle.net_rows.proofs.Pairs.{every_member}
-use Rattle.net_rows.proofs.Sound.{port_of_sound, ports_rise, PortsRise}
-use Rattle.tr_walk.specs.Refined.{IsFresh}
-use Rattle.tr_walk.proofs.Congruence.{IsPort, IsInside, IsKept, ArePackets}
-use Rattle.tr_walk.proofs.Formed.{Fit, Others, fits_values, other_values, started, started_inport, replied, replied_inport, reset_is, reset_inport, error_is, error_inport}
+use Rattle.net_rows.proofs.Sound.{port_of_sound}
+use Rattle.tr_walk.specs.Refined.{IsFresh, IsPort}
+use Rattle.tr_walk.proofs.Congruence.{IsInside, IsKept, ArePackets}
+use Rattle.tr_walk.proofs.NetworkPorts.{find_gives, its_port, number_fits, other_side}
+use Rattle.tr_walk.proofs.Formed.{Fit, Others, fits_values, other_values, started, started_inport, replied, replied_inport, rejection_is, rejection_inport}
 use Rattle.ls_laws.proofs.Packets.{set_value, other_value, fits_with, fits_only}
-use Rattle.nv_base.specs.Object.{number_limit}
 
 -- ---- what a packet carries
 
@@ -107,54 +96,17 @@ bound_fresh packet number fresh = record {
   mark = other_value packet Outport CtMarkBlocked number refl ∙ fresh.mark;
 }
 
-turned_is : (packet : Values) → IsPacket packet → IsPacket (turned_back packet)
+pub turned_is : (packet : Values) → IsPacket packet → IsPacket (turned_back packet)
 turned_is packet is =
     let fit : Fit ((FlagsLoopback, 1) ∷ []) = (lit< tt, tt) in
     fits_values packet ((FlagsLoopback, 1) ∷ []) is fit
 
-turned_inport : (packet : Values) → value (turned_back packet) Inport ≡ value packet Inport
+pub turned_inport : (packet : Values) → value (turned_back packet) Inport ≡ value packet Inport
 turned_inport packet =
     let others : Others Inport ((FlagsLoopback, 1) ∷ []) = (refl, tt) in
     other_values packet ((FlagsLoopback, 1) ∷ []) Inport others
 
--- ---- what is found
-
-module _ {X : Type 0} (p : X → Bool) where
-  -- what is found is there, and passes
-  pub find_gives : (xs : List X) (x : X) → find p xs ≡ Some x → Contains xs x × (p x ≡ true)
-  find_gives [] x found = cc
-  find_gives (y ∷ xs) x found = by (p y) refl found (find_gives xs x)
-    where
-      same_one : (a b : X) → Some a ≡ Some b → a ≡ b
-      same_one a b e = cc
-
-      by : (b : Bool) → p y ≡ b → cond b (Some y) (find p xs) ≡ Some x → (find p xs ≡ Some x → Contains xs x × (p x ≡ true)) → Contains (y ∷ xs) x × (p x ≡ true)
-      by true is at rest = let one = same_one y x at in (one_first y xs x one, sym (ap p one) ∙ is)
-      by false is at rest = let later = rest at in (one_later y xs x later.0, later.1)
-
--- a port whose number is above those before it is found by its number
-number_above : (x y : Port) (xs : List Port) → AllByRecursion (λ (z : Port). x.id.0 < z.id.0) xs → Contains xs y → x.id.0 < y.id.0
-number_above x y [] above there = absurd (one_of_none y there)
-number_above x y (z ∷ zs) above there = by (one_of z zs y there) (number_above x y zs above.1)
-  where
-    by : (z ≡ y) ⊎ Contains zs y → (Contains zs y → x.id.0 < y.id.0) → x.id.0 < y.id.0
-    by (inl one) rest = subst (λ (q : Port). x.id.0 < q.id.0) one above.0
-    by (inr later) rest = rest later
-
-not_same : (a b : ObjId) → a.0 < b.0 → same a b ≡ false
-not_same a b below = by (same a b) refl
-  where
-    by : (t : Bool) → same a b ≡ t → same a b ≡ false
-    by true is = absurd (omega (arith, below, eqb-true a.0 b.0 is))
-    by false is = is
-
-pub found_by_number : (ports : List Port) (port : Port) → PortsRise ports → Contains ports port → find (λ (p : Port). same p.id port.id) ports ≡ Some port
-found_by_number [] port rise there = absurd (one_of_none port there)
-found_by_number (p ∷ ports) port rise there = by (one_of p ports port there) (found_by_number ports port rise.1)
-  where
-    by : (p ≡ port) ⊎ Contains ports port → (Contains ports port → find (λ (q : Port). same q.id port.id) ports ≡ Some port) → cond (same p.id port.id) (Some p) (find (λ (q : Port). same q.id port.id) ports) ≡ Some port
-    by (inl one) rest = rw (ap (λ (q : Port). same q.id port.id) one ∙ same_self port.id) (ap Some one)
-    by (inr later) rest = rw (not_same p.id port.id (number_above p port ports rise.0 later)) (rest later)
+-- ---- MACs
 
 -- the MAC that goes with an address is one of the port's
 macs_fit : (ip : ℕ) (addresses : List Addr) → IsTrue (list_all is_mac (flat_map macs_of addresses)) → mac_with ip addresses < 2 ^ 48
@@ -175,19 +127,16 @@ mac_fits net sound port there ip = macs_fit ip port.addresses (port_of_sound net
 -- ---- the ports that are named
 
 module _ (net : Network) where
-  its_port : (port : Port) → Contains net.ports port → IsPort net port.id
-  its_port port there = record { port = port; among = there; is = refl }
-
   -- ports that a test picks
   picked : (p : Port → Bool) (ports : List Port) → ((port : Port) → Contains ports port → Contains net.ports port) → AllByRecursion (IsPort net) (numbers (filter p ports))
   picked p [] all = tt
   picked p (port ∷ ports) all = by (p port) (picked p ports (λ q there. all q (one_later port ports q there)))
     where
       by : (b : Bool) → AllByRecursion (IsPort net) (numbers (filter p ports)) → AllByRecursion (IsPort net) (numbers (cond b (port ∷ filter p ports) (filter p ports)))
-      by true rest = (its_port port (all port (one_first port ports port refl)), rest)
+      by true rest = (its_port net port (all port (one_first port ports port refl)), rest)
       by false rest = rest
 
-  inside : (packet : Values) → IsPacket packet → IsPort net (record { 0 = value packet Inport }) → IsInside net (carried packet)
+  pub inside : (packet : Values) → IsPacket packet → IsPort net (record { 0 = value packet Inport }) → IsInside net (carried packet)
   inside packet is by = record { formed = carried_is packet is; fresh = carried_fresh packet; by = subst (λ n. IsPort net (record { 0 = n })) (sym (carried_inport packet is)) by }
 
   -- ---- what arrives
@@ -199,7 +148,7 @@ module _ (net : Network) where
 
     port_kept : (found : Option Port) → ((port : Port) → found ≡ Some port → Contains net.ports port) → (ports : List ObjId) → AllByRecursion (IsPort net) ports → IsKept net (Some (carrying (to_port found ports packet)))
     port_kept None there ports all = unknown_kept ports all
-    port_kept (Some port) there ports all = (its_port port (there port refl), inside packet is from)
+    port_kept (Some port) there ports all = (its_port net port (there port refl), inside packet is from)
 
     sent_kept : (switch : ObjId) → IsKept net (Some (carrying (sent_on net switch packet)))
     sent_kept switch = by (is_multicast (value packet EthDst))
@@ -214,15 +163,14 @@ module _ (net : Network) where
             (unknown_ports net switch) (picked (λ p. is_open switch p && takes_unknown p) net.ports every)
 
     rejected_kept : IsKept net (Some (carrying (rejected packet)))
-    rejected_kept = by (is_answerable packet) (meets packet Tcp)
+    rejected_kept = by (is_answerable packet)
       where
-        answer : (tcp : Bool) → IsInside net (carried (turned_back (cond tcp (reset packet) (icmp_error packet PortUnreachable))))
-        answer true = inside (turned_back (reset packet)) (turned_is (reset packet) (reset_is packet is)) (subst (λ n. IsPort net (record { 0 = n })) (sym (turned_inport (reset packet) ∙ reset_inport packet)) from)
-        answer false = inside (turned_back (icmp_error packet PortUnreachable)) (turned_is (icmp_error packet PortUnreachable) (error_is packet is)) (subst (λ n. IsPort net (record { 0 = n })) (sym (turned_inport (icmp_error packet PortUnreachable) ∙ error_inport packet)) from)
+        answer : IsInside net (carried (turned_back (rejection packet)))
+        answer = inside (turned_back (rejection packet)) (turned_is (rejection packet) (rejection_is packet is)) (subst (λ n. IsPort net (record { 0 = n })) (sym (turned_inport (rejection packet) ∙ rejection_inport packet)) from)
 
-        by : (may tcp : Bool) → IsKept net (Some (carrying (cond may (Makes Reject (record { 0 = value packet Inport }) (turned_back (cond tcp (reset packet) (icmp_error packet PortUnreachable)))) (Drops Acl))))
-        by true tcp = (from, answer tcp)
-        by false tcp = tt
+        by : (may : Bool) → IsKept net (Some (carrying (cond may (Makes Reject (record { 0 = value packet Inport }) (turned_back (rejection packet))) (Drops Acl))))
+        by true = (from, answer)
+        by false = tt
 
     decided_kept : (what : Decision) (onward : Passed) → IsKept net (Some (carrying onward)) → IsKept net (Some (carrying (decided what packet onward)))
     decided_kept Allowed onward kept = kept
@@ -235,7 +183,7 @@ module _ (net : Network) where
     answered_kept arrival at (Some port) there =
         let mac = mac_with (value packet ArpTpa) port.addresses in
         let fits = mac_fits net sound port (there port refl) (value packet ArpTpa) in
-        (its_port arrival at, inside (turned_back (arp_reply packet mac)) (turned_is (arp_reply packet mac) (replied packet mac is fits)) (subst (λ n. IsPort net (record { 0 = n })) (sym (turned_inport (arp_reply packet mac) ∙ replied_inport packet mac)) from))
+        (its_port net arrival at, inside (turned_back (arp_reply packet mac)) (turned_is (arp_reply packet mac) (replied packet mac is fits)) (subst (λ n. IsPort net (record { 0 = n })) (sym (turned_inport (arp_reply packet mac) ∙ replied_inport packet mac)) from))
 
     asked_kept : (arrival : Port) → Contains net.ports arrival → IsKept net (Some (carrying (asked net arrival packet)))
     asked_kept arrival at = by (is_request packet && not (is_answering arrival.switch (value packet ArpTpa) arrival))
@@ -257,7 +205,7 @@ module _ (net : Network) where
     let_out_kept port there = by (is_let_out port packet)
       where
         by : (b : Bool) → IsKept net (Some (carrying (cond b (GoesOn (OnePort port.id) packet) (Drops PortSec))))
-        by true = (its_port port there, inside packet is from)
+        by true = (its_port net port there, inside packet is from)
         by false = tt
 
     pub leaving_kept : (port : Port) (state : State) → Contains net.ports port → IsKept net (Some (carrying (leaving_by net port packet state).passed))
@@ -265,45 +213,17 @@ module _ (net : Network) where
 
 -- ---- packets at ports
 
--- numbers of ports are below those of multicast groups
-pub number_below : (net : Network) → IsSound net → (port : Port) → Contains net.ports port → port.id.0 < number_limit
-number_below net sound port there = below net.ports (are_used net sound.numbered.below).ports there
-  where
-    below : (ports : List Port) → IsTrue (list_all (λ n. nat_lt 0 n.0 && nat_lt n.0 net.next) (map (λ (p : Port). p.id) ports)) → Contains ports port → port.id.0 < number_limit
-    below [] all there' = absurd (one_of_none port there')
-    below (p ∷ ports) all there' =
-        let parts = and_parts (nat_lt 0 p.id.0 && nat_lt p.id.0 net.next) (list_all (λ n. nat_lt 0 n.0 && nat_lt n.0 net.next) (map (λ (q : Port). q.id) ports)) all in
-        by (one_of p ports port there') (ltb-true p.id.0 net.next (and_parts (nat_lt 0 p.id.0) (nat_lt p.id.0 net.next) parts.0).1) (below ports parts.1)
-      where
-        by : (p ≡ port) ⊎ Contains ports port → p.id.0 < net.next → (Contains ports port → port.id.0 < number_limit) → port.id.0 < number_limit
-        by (inl one) used rest = let used_port = subst (λ (q : Port). q.id.0 < net.next) one used in omega (arith, used_port, sound.numbered.room)
-        by (inr later) used rest = rest later
-
-module _ (net : Network) (sound : IsSound net) (plain : IsPlain net) where
-  -- numbers of ports fit
-  number_fits : (number : ObjId) → IsPort net number → number.0 < 2 ^ 32
-  number_fits number is = subst (λ (n : ObjId). n.0 < 2 ^ 32) is.is (let below = number_below net sound is.port is.among in omega (arith, below))
-
-  host_side : (port : Port) → Contains net.ports port → side_of_switch_port net port port.kind ≡ Host
-  host_side port there = by port.kind (every_member (λ (p : Port). is_to_router p ≡ false) net.ports port plain.ports there)
-    where
-      by : (k : PortKind) → is_router_kind k ≡ false → side_of_switch_port net port k ≡ Host
-      by kind.Host host = refl
-      by kind.Router host = absurd (false≢true (sym host))
-
-  pub at_its_number : (port : Port) → Contains net.ports port → switch_port net port.id ≡ Some port
-  at_its_number port there = found_by_number net.ports port (ports_rise net sound) there
-
+module _ (net : Network) (sound : IsSound net) where
   pub are_packets : ArePackets net
   are_packets = record {
-    starts = λ port packet is formed. (started packet port.0 formed (number_fits port is), (started_fresh packet port.0, started_inport packet port.0 formed));
+    starts = λ port packet is formed. (started packet port.0 formed (number_fits net sound port is), (started_fresh packet port.0, started_inport packet port.0 formed));
     leaves = λ port packet is inside. (
       record {
-        formed = fits_with packet Outport port.0 inside.formed (number_fits port is);
+        formed = fits_with packet Outport port.0 inside.formed (number_fits net sound port is);
         fresh = bound_fresh packet port.0 inside.fresh;
         by = subst (λ n. IsPort net (record { 0 = n })) (sym (other_value packet Outport Inport port.0 refl)) inside.by;
       },
       set_value packet Outport port.0 inside.formed.count,
     );
-    hosts = λ port is. subst (λ number. side_of net number ≡ Host) is.is (rw (at_its_number is.port is.among) (host_side is.port is.among));
+    sides = other_side net;
   }

@@ -1,8 +1,7 @@
 -- The pipelines of a switch do its parts.
-use Rattle.std.proofs.Common.{◌≡◌, ℕ, suc, Bool, true, false, cond, List, [], ◌∷◌, eqb, sym, ap, refl, subst, ◌∙◌, arith, inl, inr, ◌⊎◌}
-use Rattle.std.specs.Prelude.{Option, Some, None, is_some, not, ◌&&◌}
-use Rattle.std.specs.List.{Contains, find}
-use Rattle.std.proofs.lemmas.Bool.{eqb-true}
+use Rattle.std.proofs.Common.{◌≡◌, ℕ, suc, Bool, true, false, cond, List, [], ◌∷◌, sym, ap, refl, subst, ◌∙◌}
+use Rattle.std.specs.Prelude.{Option, Some, None, not, ◌&&◌}
+use Rattle.std.specs.List.{Contains}
 use Rattle.nv_base.specs.declared.object.ObjId.{ObjId}
 use Rattle.nv_base.specs.declared.field.Field.TheVariants.{Inport, Outport, EthDst, ArpTpa}
 use Rattle.nv_base.specs.Object.{flood_number, unknown_number}
@@ -14,11 +13,9 @@ use Rattle.nb_records.specs.declared.acl.Way.TheVariants.{From, To}
 use Rattle.nb_records.specs.declared.switch.Port.{Port}
 use Rattle.nb_records.specs.declared.switch.Switch.{Switch}
 use Rattle.nb_model.specs.Applies.{tracks}
-use Rattle.nb_model.specs.Belongs.{is_among, is_to_router}
-use Rattle.nb_model.specs.Network.{Network, same}
+use Rattle.nb_model.specs.Network.{Network}
 use Rattle.nb_model.specs.Plain.{IsPlain}
-use Rattle.nb_model.specs.Sound.{IsSound, switch_ids}
-use Rattle.nb_model.proofs.Lists.{same_is, same_self}
+use Rattle.nb_model.specs.Sound.{IsSound}
 use Rattle.sb_model.specs.declared.stage.DatapathKind.TheVariants as kinds
 use Rattle.sb_model.specs.declared.stage.Pipeline.TheVariants.{Ingress, Egress}
 use Rattle.sb_model.specs.declared.stage.Stage.{Stage}
@@ -34,9 +31,6 @@ use Rattle.net_meaning.specs.Walk.{Passed, carried}
 use Rattle.net_meaning.specs.Walk.Passed.{GoesOn, Drops}
 use Rattle.net_meaning.specs.Walk.Target.{OnePort, Ports}
 use Rattle.net_meaning.specs.declared.cause.Cause.TheVariants.{PortSec}
-use Rattle.net_rows.proofs.Elements.{one_of, one_of_none, any_gives, Contains-from_map}
-use Rattle.net_rows.proofs.Pairs.{every_member}
-use Rattle.net_rows.proofs.Sound.{each_passes}
 use Rattle.tr_stage.specs.declared.outcome.Outcome.{Outcome}
 use Rattle.tr_stage.specs.declared.outcome.Outcome.TheVariants.{Leave, Deliver, Drop}
 use Rattle.tr_stage.specs.Machine as packets
@@ -64,31 +58,9 @@ use Rattle.tr_walk.specs.Refined.{IsFresh}
 use Rattle.tr_walk.proofs.AclParts.{Does, LawsElsewhere, LawsWhereTracked, after_step, acl_part, does_same}
 use Rattle.tr_walk.proofs.Carried.{carried_outport, carried_back, back_outport}
 use Rattle.tr_walk.proofs.Formed.{replied, replied_inport}
-use Rattle.tr_walk.proofs.Kept.{at_its_number, find_gives, mac_fits, number_below}
-
--- each switch is one by its number
-pub numbered_switch : (switches : List Switch) (switch : Switch) → Contains switches switch → is_some (find (λ (s : Switch). same switch.id s.id) switches) ≡ true
-numbered_switch [] switch there = absurd (one_of_none switch there)
-numbered_switch (s ∷ switches) switch there = by (one_of s switches switch there) (numbered_switch switches switch)
-  where
-    rest_of : Option Switch
-    rest_of = find (λ (x : Switch). same switch.id x.id) switches
-
-    found : (b : Bool) (rest : Option Switch) → is_some rest ≡ true → is_some (cond b (Some s) rest) ≡ true
-    found true rest some = refl
-    found false rest some = some
-
-    by : (s ≡ switch) ⊎ Contains switches switch → (Contains switches switch → is_some rest_of ≡ true) → is_some (cond (same switch.id s.id) (Some s) rest_of) ≡ true
-    by (inl one) rest = ap (λ b. is_some (cond b (Some s) rest_of)) (ap (λ (x : Switch). same switch.id x.id) one ∙ same_self switch.id)
-    by (inr later) rest = found (same switch.id s.id) rest_of (rest later)
-
--- each port's switch is one of the switches
-pub switch_there : (net : Network) (port : Port) → IsSound net → Contains net.ports port → (switch : Switch) × Contains net.switches switch × (switch.id ≡ port.switch)
-switch_there net port sound there =
-    let among = each_passes (λ (p : Port). is_among p.switch (switch_ids net)) net.ports port sound.refers.ports there in
-    let number = any_gives (same port.switch) (switch_ids net) among in
-    let at = Contains-from_map (λ (s : Switch). s.id) net.switches number.0 number.1 in
-    (at.0, at.1, at.2 ∙ sym (same_is port.switch number.0 number.2))
+use Rattle.tr_walk.proofs.Kept.{mac_fits}
+use Rattle.tr_walk.proofs.Datapaths.{late_of_switch, port_on_switch, switch_there}
+use Rattle.tr_walk.proofs.NetworkPorts.{find_gives, goes_to_port, its_port, on_switch}
 
 -- what is done, and the state that is left
 abbrev done : Passed → State → Did
@@ -104,31 +76,21 @@ module _ (net : Network) (sound : IsSound net) (plain : IsPlain net) (port : Por
   abbrev flows : Flows
   flows = flows_at net dp
 
-  its_port : IsPortOf net of.0 port
-  its_port = (there, sym of.2)
+  its_port_of : IsPortOf net of.0 port
+  its_port_of = (there, sym of.2)
 
   of_switch : kind_of flows ≡ kinds.Switch
-  of_switch = subst (λ (d : ObjId). kind_of (flows_at net d) ≡ kinds.Switch) of.2 (rw (numbered_switch net.switches of.0 of.1) refl)
+  of_switch = port_on_switch net sound port there
 
-  pub last_is : late_table net dp ≡ last_table kinds.Switch
-  last_is = ap last_table of_switch
+  last_is : late_table net dp ≡ last_table kinds.Switch
+  last_is = late_of_switch net sound port there
 
   pub at_dp : datapath_at net port.id ≡ dp
-  at_dp = rw (at_its_number net sound plain port there) refl
+  at_dp = on_switch net sound port there
 
-  of_host : is_to_router port ≡ false
-  of_host = every_member (λ (p : Port). is_to_router p ≡ false) net.ports port plain.ports there
-
-  -- numbers of ports are no multicast group's
+  -- a packet to the number of a port goes to that port
   to_one_port : (q : Port) → Contains net.ports q → target_of net dp q.id.0 ≡ OnePort q.id
-  to_one_port q at = rw (below flood_number (λ e. omega (arith, number_below net sound q at, e)), below unknown_number (λ e. omega (arith, number_below net sound q at, e))) refl
-    where
-      below : (group : ℕ) → (q.id.0 ≡ group → ⊥) → eqb q.id.0 group ≡ false
-      below group apart = by (eqb q.id.0 group) refl
-        where
-          by : (b : Bool) → eqb q.id.0 group ≡ b → eqb q.id.0 group ≡ false
-          by true is = absurd (apart (eqb-true q.id.0 group is))
-          by false is = is
+  to_one_port q at = goes_to_port net sound dp q.id (its_port net q at)
 
   on : (packet : Values) → IsPacket packet → IsOn net of.0 packet
   on packet formed = record { sound = sound; plain = plain; among = of.1; formed = formed }
@@ -136,7 +98,7 @@ module _ (net : Network) (sound : IsSound net) (plain : IsPlain net) (port : Por
   -- what the law of a stage that asks for no connection says, said of the port's own switch
   here : (flight : Flight) (stage : Stage) (end : ObjId → packets.StageEnd) → asks_for_connections stage ≡ false → laws.Does net of.0 stage flight.packet (end of.0.id) → step flows stage flight ≡ ended flight (end dp)
   here flight stage end asks_none does =
-      subst (λ (d : ObjId). step (flows_at net d) stage flight ≡ ended flight (end d)) of.2 (plain_stage_of net sound plain of.0.id stage asks_none flight ∙ ap (ended flight) does)
+      subst (λ (d : ObjId). step (flows_at net d) stage flight ≡ ended flight (end d)) of.2 (plain_stage_of net sound plain of.0 of.1 stage asks_none flight ∙ ap (ended flight) does)
 
   -- ---- the stages of ACLs and of connections
 
@@ -145,9 +107,9 @@ module _ (net : Network) (sound : IsSound net) (plain : IsPlain net) (port : Por
     on_it packet formed = record { sound = sound; plain = plain; among = among; formed = formed }
 
     -- where the switch tracks
-    tracking_laws : tracks net switch.id ≡ true → (way : Way) → LawsWhereTracked net switch.id way
-    tracking_laws is way = record {
-      pre_acl_is = λ flight formed. asks_of way net switch flight (on_it flight.packet formed) is;
+    tracking_laws : IsPortOf net switch port → tracks net switch.id ≡ true → (way : Way) → LawsWhereTracked net switch.id way port
+    tracking_laws own is way = record {
+      pre_acl_is = λ flight formed at. asks_of way net switch flight port own at (on_it flight.packet formed) is;
       pre_stateful_is = λ flight formed. looks_up_of way net switch flight (on_it flight.packet formed) is;
       acl_eval_is = λ flight formed noted. rules_of way net switch flight noted (on_it flight.packet formed) is;
       stateful_is = λ flight formed. keeps_of way net switch flight (on_it flight.packet formed) is;
@@ -155,7 +117,7 @@ module _ (net : Network) (sound : IsSound net) (plain : IsPlain net) (port : Por
 
     -- where it does not
     elsewhere : tracks net switch.id ≡ false → (stage : Stage) (flight : Flight) (end : packets.StageEnd) → laws.Does net switch stage flight.packet end → step (flows_at net switch.id) stage flight ≡ ended flight end
-    elsewhere is stage flight end does = plain_where_untracked net sound plain switch.id stage is flight ∙ ap (ended flight) does
+    elsewhere is stage flight end does = plain_where_untracked net sound plain switch among stage is flight ∙ ap (ended flight) does
 
     other_laws : tracks net switch.id ≡ false → (way : Way) → LawsElsewhere net switch.id way
     other_laws is From = record {
@@ -171,8 +133,8 @@ module _ (net : Network) (sound : IsSound net) (plain : IsPlain net) (port : Por
       stateful_is = λ flight formed. elsewhere is _ flight _ (passes-LsOutStateful net switch flight.packet (on_it flight.packet formed) is);
     }
 
-  where_tracked : (way : Way) → tracks net dp ≡ true → LawsWhereTracked net dp way
-  where_tracked way is = subst (λ (d : ObjId). LawsWhereTracked net d way) of.2 (tracking_laws of.0 of.1 (subst (λ (d : ObjId). tracks net d ≡ true) (sym of.2) is) way)
+  where_tracked : (way : Way) → tracks net dp ≡ true → LawsWhereTracked net dp way port
+  where_tracked way is = subst (λ (d : ObjId). LawsWhereTracked net d way port) of.2 (tracking_laws of.0 of.1 its_port_of (subst (λ (d : ObjId). tracks net d ≡ true) (sym of.2) is) way)
 
   where_not : (way : Way) → tracks net dp ≡ false → LawsElsewhere net dp way
   where_not way is = subst (λ (d : ObjId). LawsElsewhere net d way) of.2 (other_laws of.0 of.1 (subst (λ (d : ObjId). tracks net d ≡ false) (sym of.2) is) way)
@@ -235,7 +197,7 @@ module _ (net : Network) (sound : IsSound net) (plain : IsPlain net) (port : Por
       arp_is =
           after_step seen flows 121 LsInArpRsp flight _ (done (asked net port packet) flight.state)
           (here flight LsInArpRsp (λ d. cond (is_request packet && not (is_answering d (value packet ArpTpa) port)) (answered_for packet (answering net d (value packet ArpTpa))) (packets.StageEnd.On LsInL2Lkup packet)) refl
-          (answers_requests net of.0 packet (on packet formed) port its_port from))
+          (answers_requests net of.0 packet (on packet formed) port its_port_of from))
           (by (is_request packet && not (is_answering dp (value packet ArpTpa) port)) (answering net dp (value packet ArpTpa)) refl)
         where
           by : (asks : Bool) (found : Option Port) → answering net dp (value packet ArpTpa) ≡ found
@@ -266,12 +228,12 @@ module _ (net : Network) (sound : IsSound net) (plain : IsPlain net) (port : Por
     ingress_is =
         subst (λ run. Does seen run (arriving_at net port packet state)) (sym begins_in)
         (after_step seen flows 127 LsInCheckPortSec (coming packet state) _ (arriving_at net port packet state)
-        (here (coming packet state) LsInCheckPortSec (λ d. cond (is_let_in port packet) (packets.StageEnd.On LsInPreAcl packet) (packets.StageEnd.Ends (Some (Drop PortSec)))) refl (checks_in net of.0 packet (on packet formed) port its_port from))
+        (here (coming packet state) LsInCheckPortSec (λ d. cond (is_let_in port packet) (packets.StageEnd.On LsInPreAcl packet) (packets.StageEnd.Ends (Some (Drop PortSec)))) refl (checks_in net of.0 packet (on packet formed) port its_port_of from))
         (by (is_let_in port packet)))
       where
         by : (b : Bool) → Does seen (go_on (run_from flows 127) (ended (coming packet state) (cond b (packets.StageEnd.On LsInPreAcl packet) (packets.StageEnd.Ends (Some (Drop PortSec))))))
             (cond b (after_acls (ruled net From port packet state) packet (asked net port packet)) (done (Drops PortSec) state))
-        by true = acl_part net sound port last_is From packet state formed fresh from (asked net port packet) 122 rest_in 124 through_lb of_host (where_tracked From) (where_not From)
+        by true = acl_part net sound port last_is From packet state formed fresh from (asked net port packet) 122 rest_in 124 through_lb (where_tracked From) (where_not From)
         by false = record { passes = refl; leaves = refl }
 
   -- ---- egress
@@ -284,7 +246,7 @@ module _ (net : Network) (sound : IsSound net) (plain : IsPlain net) (port : Por
   checked_out : (flight : Flight) → IsPacket flight.packet → value flight.packet Outport ≡ port.id.0 → (budget : ℕ) → Does seen_out (run_from flows (suc budget) LsOutCheckPortSec flight) (done (let_out port flight.packet) flight.state)
   checked_out flight is to budget =
       after_step seen_out flows budget LsOutCheckPortSec flight _ (done (let_out port flight.packet) flight.state)
-      (here flight LsOutCheckPortSec (λ d. cond (is_let_out port flight.packet) (packets.StageEnd.Ends (Some (Deliver flight.packet))) (packets.StageEnd.Ends (Some (Drop PortSec)))) refl (checks_out net of.0 flight.packet (on flight.packet is) port its_port to))
+      (here flight LsOutCheckPortSec (λ d. cond (is_let_out port flight.packet) (packets.StageEnd.Ends (Some (Deliver flight.packet))) (packets.StageEnd.Ends (Some (Drop PortSec)))) refl (checks_out net of.0 flight.packet (on flight.packet is) port its_port_of to))
       (by (is_let_out port flight.packet))
     where
       by : (b : Bool) → Does seen_out (go_on (run_from flows budget) (ended flight (cond b (packets.StageEnd.Ends (Some (Deliver flight.packet))) (packets.StageEnd.Ends (Some (Drop PortSec))))))
@@ -309,11 +271,7 @@ module _ (net : Network) (sound : IsSound net) (plain : IsPlain net) (port : Por
     pub egress_is : IsFresh packet → Does seen_out (run_pipeline flows Egress 0 packet state) (leaving_by net port packet state)
     egress_is fresh =
         subst (λ run. Does seen_out run (leaving_by net port packet state)) (sym begins_out)
-        (acl_part net sound port last_is To packet state formed fresh to (let_out port packet) 124 rest_out 125 (λ flight did is rest. rest) of_host (where_tracked To) (where_not To))
+        (acl_part net sound port last_is To packet state formed fresh to (let_out port packet) 124 rest_out 125 (λ flight did is rest. rest) (where_tracked To) (where_not To))
 
     pub late_is : Does seen_out (run_pipeline flows Egress (last_table kinds.Switch) packet state) (leaving_late port packet state)
     late_is = subst (λ run. Does seen_out run (leaving_late port packet state)) (sym begins_late) (checked_out (coming packet state) formed to 127)
-
--- packets leave by a port of a switch late by the last table of switches
-pub late_there : (net : Network) → IsSound net → IsPlain net → (port : Port) → Contains net.ports port → late_table net (datapath_at net port.id) ≡ last_table kinds.Switch
-late_there net sound plain port there = ap (late_table net) (at_dp net sound plain port there) ∙ last_is net sound plain port there

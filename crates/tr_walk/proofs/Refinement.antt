@@ -1,78 +1,146 @@
 -- Where the pipelines do their parts, the rows do what the network means.
-use Rattle.std.proofs.Common.{◌≡◌, ℕ, map, sym, ap, refl, ◌∙◌, subst}
-use Rattle.std.specs.Prelude.{Option, Some, option_map}
+use Rattle.std.proofs.Common.{◌≡◌, ℕ, map, sym, ap, refl, ◌∙◌, subst, inl, inr, ◌⊎◌}
+use Rattle.std.specs.Prelude.{Some}
 use Rattle.std.specs.List.{Contains}
 use Rattle.nv_base.specs.declared.object.ObjId.{ObjId}
 use Rattle.nv_base.specs.declared.field.Field.TheVariants.{Inport, Outport}
-use Rattle.pkt_core.specs.Packet.{Values, value}
+use Rattle.pkt_core.specs.Packet.{Values, IsPacket, value}
+use Rattle.ct_core.specs.State.{State}
+use Rattle.nb_records.specs.declared.router.RouterPort.{RouterPort}
 use Rattle.nb_records.specs.declared.switch.Port.{Port}
 use Rattle.nb_model.specs.Network.{Network}
 use Rattle.nb_model.specs.Sound.{IsSound}
 use Rattle.nb_model.specs.Plain.{IsPlain}
-use Rattle.net_meaning.specs.Switches as means
-use Rattle.net_meaning.specs.Switches.{Did, arriving_at, leaving_by, leaving_late, at_port, direct_parts, meaning}
-use Rattle.net_meaning.specs.Walk.{Part, carrying}
-use Rattle.tr_stage.specs.declared.outcome.Hit.{Hit}
-use Rattle.tr_walk.specs.Events.{event_of, without_hits}
-use Rattle.ct_core.specs.State.{State}
-use Rattle.tr_walk.specs.Machine.{ingress, egress, late_egress, machine, pipelines}
-use Rattle.tr_walk.specs.Refined.{DoesPart, IsIngress, IsEgress, IsLate, Trace, IsMeant, AreAlike, IsRefined}
-use Rattle.tr_walk.proofs.Hits.{left_out}
-use Rattle.tr_walk.proofs.Congruence.{IsPort, IsKept, SamePart, SameParts, walks_alike}
-use Rattle.tr_walk.proofs.Parts as parts
-use Rattle.tr_walk.proofs.Pipelines.{late_there}
-use Rattle.tr_walk.proofs.Kept.{arriving_kept, leaving_kept, let_out_kept, at_its_number, are_packets}
 use Rattle.sb_model.specs.Stage.{last_table}
 use Rattle.sb_model.specs.declared.stage.DatapathKind.TheVariants as datapath
+use Rattle.net_meaning.specs.Switches.{Did, arriving_at, leaving_by, leaving_late, part_of}
+use Rattle.net_meaning.specs.Walk.{Part, carrying}
+use Rattle.net_router.specs.Meaning.{at_port, direct_parts, meaning}
+use Rattle.net_router.specs.Routers as routers
+use Rattle.tr_stage.specs.declared.outcome.Hit.{Hit}
+use Rattle.tr_router.specs.Parts.{DoArrive, DoLeave, DoLeaveLate, KnowsMacs}
+use Rattle.tr_router.proofs.Egress.{do_leave, do_leave_late}
+use Rattle.tr_router.proofs.Ingress.{do_arrive}
+use Rattle.tr_walk.specs.Events.{event_of, without_hits}
+use Rattle.tr_walk.specs.Machine.{ingress, egress, late_egress, late_table, machine, pipelines}
+use Rattle.tr_walk.specs.Refined.{DoesPart, IsFresh, IsIngress, IsEgress, IsLate, IsPort, Trace, IsMeant, IsRefined, KeepsMacs}
+use Rattle.tr_walk.proofs.Congruence.{Agree, IsInside, IsKept, SamePart, SameParts, walks_agree}
+use Rattle.tr_walk.proofs.Datapaths.{late_of_switch}
+use Rattle.tr_walk.proofs.Hits.{left_out}
+use Rattle.tr_walk.proofs.Kept.{arriving_kept, leaving_kept, let_out_kept, are_packets}
+use Rattle.tr_walk.proofs.Macs.{arriving_macs, leaving_macs}
+use Rattle.tr_walk.proofs.NetworkPorts.{OfRouter, OfSwitch, on_switch, switch_port_at, whose}
+use Rattle.tr_walk.proofs.Parts as parts
+use Rattle.tr_walk.proofs.RouterParts.{arrives_same, late_same, leaves_same}
 
 module _ (net : Network) (sound : IsSound net) (plain : IsPlain net) where
-  -- the port of a number, where the packet came in by it
-  came_by : (port : Port) (packet : Values) → Contains net.ports port → value packet Inport ≡ port.id.0 → IsPort net (record { 0 = value packet Inport })
-  came_by port packet there from = record { port = port; among = there; is = ap (λ n. record { 0 = n }) (sym from) }
+  abbrev Same : Part Hit State → Part (Unit {0}) State → Type 0
+  Same part other = SamePart net KnowsMacs part other
 
-  -- what is done at a port of the network
-  at_port_is : (does : Port → Values → State → Did) (port : Port) (packet : Values) (state : State) → Contains net.ports port → at_port net does port.id packet state ≡ means.part_of state (Some (does port packet state))
-  at_port_is does port packet state there = ap (λ (found : Option Port). means.part_of state (option_map (λ own. does own packet state) found)) (at_its_number net sound plain port there)
+  -- the port of a number, where the packet came in by it
+  came_by : (number : ObjId) (packet : Values) → IsPort net number → value packet Inport ≡ number.0 → IsPort net (record { 0 = value packet Inport })
+  came_by number packet is from = subst (λ n. IsPort net (record { 0 = n })) (sym from) is
+
+  -- ---- switches
+
+  -- what is done at a port of a switch
+  at_switch : (of_switch : Port → Values → State → Did) (of_router : RouterPort → Values → State → Did) (port : Port) (packet : Values) (state : State) → Contains net.ports port
+      → at_port net of_switch of_router port.id packet state ≡ part_of state (Some (of_switch port packet state))
+  at_switch of_switch of_router port packet state there = rw (switch_port_at net sound port there) refl
 
   -- a part of the machine that does it
-  same_at : (does : Port → Values → State → Did) (port : Port) (packet : Values) (state : State) → Contains net.ports port → (part : Part Hit State) → DoesPart part (does port packet state)
-      → IsKept net (Some (carrying (does port packet state).passed)) → SamePart net part (at_port net does port.id packet state)
-  same_at does port packet state there part is kept =
-      subst (λ (other : Part (Unit {0}) State). SamePart net part other) (sym (at_port_is does port packet state there)) (record { passed = is.passes; state = is.leaves; kept = kept })
+  same_at : (of_switch : Port → Values → State → Did) (of_router : RouterPort → Values → State → Did) (port : Port) (packet : Values) (state : State) → Contains net.ports port → (part : Part Hit State)
+      → DoesPart part (of_switch port packet state) → IsKept net (Some (carrying (of_switch port packet state).passed)) → KnowsMacs (of_switch port packet state).state → Same part (at_port net of_switch of_router port.id packet state)
+  same_at of_switch of_router port packet state there part is kept knows =
+      subst (λ (other : Part (Unit {0}) State). Same part other) (sym (at_switch of_switch of_router port packet state there))
+      (record { passed = is.passes; state = is.leaves; kept = kept; holds = knows })
 
   -- by the last table of its switch
   late_does : (port : Port) (packet : Values) (state : State) → Contains net.ports port → DoesPart (egress net (last_table datapath.Switch) port.id packet state) (leaving_late port packet state) → DoesPart (late_egress net port.id packet state) (leaving_late port packet state)
-  late_does port packet state there does = subst (λ table. DoesPart (egress net table port.id packet state) (leaving_late port packet state)) (sym (late_there net sound plain port there)) does
+  late_does port packet state there does = subst (λ table. DoesPart (egress net table port.id packet state) (leaving_late port packet state)) (sym (ap (late_table net) (on_switch net sound port there) ∙ late_of_switch net sound port there)) does
 
-  module _ (of_ingress : IsIngress net) (of_egress : IsEgress net) (of_late : IsLate net) where
-    same_parts : SameParts net (pipelines net) (direct_parts net)
+  -- ---- ports of either kind
+
+  module _ (of_ingress : IsIngress net) (of_egress : IsEgress net) (of_late : IsLate net) (arrive : DoArrive net) (leave : DoLeave net) (leave_late : DoLeaveLate net) where
+    module _ (packet : Values) (state : State) (knows : KnowsMacs state) where
+      abbrev Arrives : ObjId → Type 0
+      Arrives number = value packet Inport ≡ number.0 → Same (ingress net number packet state) ((direct_parts net).arriving number packet state)
+
+      arriving_same : (number : ObjId) → IsPort net number → IsPacket packet → IsFresh packet → Arrives number
+      arriving_same number is formed fresh = by (whose net number is)
+        where
+          by : OfSwitch net number ⊎ OfRouter net number → Arrives number
+          by (inl own) =
+              subst Arrives own.is
+              (λ from. same_at (arriving_at net) (routers.arriving_at net) own.port packet state own.among _ (of_ingress own.port packet state own.among formed fresh from)
+              (arriving_kept net sound packet formed (came_by own.port.id packet (subst (IsPort net) (sym own.is) is) from) own.port state own.among) (arriving_macs net own.port packet state knows))
+          by (inr own) =
+              subst Arrives own.is
+              (λ from. arrives_same net sound own.port own.among packet state knows plain formed arrive from (came_by own.port.id packet (subst (IsPort net) (sym own.is) is) from))
+
+      module _ (inside : IsInside net packet) where
+        abbrev Leaves : ObjId → Type 0
+        Leaves number = value packet Outport ≡ number.0 → Same (egress net 0 number packet state) ((direct_parts net).leaving number packet state)
+
+        leaving_same : (number : ObjId) → IsPort net number → Leaves number
+        leaving_same number is = by (whose net number is)
+          where
+            by : OfSwitch net number ⊎ OfRouter net number → Leaves number
+            by (inl own) =
+                subst Leaves own.is
+                (λ to. same_at (leaving_by net) (routers.leaving_by net) own.port packet state own.among _ (of_egress own.port packet state own.among inside.formed inside.fresh to)
+                (leaving_kept net sound packet inside.formed inside.by own.port state own.among) (leaving_macs net own.port packet state knows))
+            by (inr own) = subst Leaves own.is (λ to. leaves_same net sound own.port own.among packet state knows plain inside.formed leave to inside.by)
+
+        abbrev LeavesLate : ObjId → Type 0
+        LeavesLate number = value packet Outport ≡ number.0 → Same (late_egress net number packet state) ((direct_parts net).late number packet state)
+
+        leaving_late_same : (number : ObjId) → IsPort net number → LeavesLate number
+        leaving_late_same number is = by (whose net number is)
+          where
+            by : OfSwitch net number ⊎ OfRouter net number → LeavesLate number
+            by (inl own) =
+                subst LeavesLate own.is
+                (λ to. same_at leaving_late routers.leaving_late own.port packet state own.among _ (late_does own.port packet state own.among (of_late own.port packet state own.among inside.formed to))
+                (let_out_kept net sound packet inside.formed inside.by own.port own.among) knows)
+            by (inr own) = subst LeavesLate own.is (λ to. late_same net sound own.port own.among packet state knows plain inside.formed leave_late to inside.by)
+
+    same_parts : SameParts net KnowsMacs (pipelines net) (direct_parts net)
     same_parts = record {
-      arriving = λ port packet state is formed fresh.
-          subst (λ (number : ObjId). value packet Inport ≡ number.0 → SamePart net (ingress net number packet state) (at_port net (arriving_at net) number packet state)) is.is
-          (λ from. same_at (arriving_at net) is.port packet state is.among _ (of_ingress is.port packet state is.among formed fresh from)
-          (arriving_kept net sound packet formed (came_by is.port packet is.among from) is.port state is.among));
-      leaving = λ port packet state is inside.
-          subst (λ (number : ObjId). value packet Outport ≡ number.0 → SamePart net (egress net 0 number packet state) (at_port net (leaving_by net) number packet state)) is.is
-          (λ to. same_at (leaving_by net) is.port packet state is.among _ (of_egress is.port packet state is.among inside.formed inside.fresh to) (leaving_kept net sound packet inside.formed inside.by is.port state is.among));
-      late = λ port packet state is inside.
-          subst (λ (number : ObjId). value packet Outport ≡ number.0 → SamePart net (late_egress net number packet state) (at_port net leaving_late number packet state)) is.is
-          (λ to. same_at leaving_late is.port packet state is.among _ (late_does is.port packet state is.among (of_late is.port packet state is.among inside.formed to)) (let_out_kept net sound packet inside.formed inside.by is.port is.among));
+      arriving = λ port packet state is formed fresh from knows. arriving_same packet state knows port is formed fresh from;
+      leaving = λ port packet state is inside to knows. leaving_same packet state knows inside port is to;
+      late = λ port packet state is inside to knows. leaving_late_same packet state knows inside port is to;
     }
 
     -- so do the walks
-    pub refined : IsRefined net
-    refined hops arrival packet state there formed =
-        walks_alike net (pipelines net) (direct_parts net) same_parts (are_packets net sound plain) hops arrival.id packet state (record { port = arrival; among = there; is = refl }) formed
+    pub walks_refined : (hops : ℕ) (arrival : ObjId) (packet : Values) (state : State) → IsPort net arrival → IsPacket packet → KnowsMacs state
+        → Agree KnowsMacs (machine net hops arrival packet state) (meaning net hops arrival packet state)
+    walks_refined = walks_agree net KnowsMacs (pipelines net) (direct_parts net) same_parts (are_packets net sound)
 
--- so it is of each sound plain network
-pub plain_is_refined : (net : Network) → IsSound net → IsPlain net → IsRefined net
-plain_is_refined net sound plain = refined net sound plain (parts.of_ingress net sound plain) (parts.of_egress net sound plain) (parts.of_late net sound plain)
+-- ---- plain networks
+
+module _ (net : Network) (sound : IsSound net) (plain : IsPlain net) where
+  walks_of_plain : (hops : ℕ) (arrival : ObjId) (packet : Values) (state : State) → IsPort net arrival → IsPacket packet → KnowsMacs state
+      → Agree KnowsMacs (machine net hops arrival packet state) (meaning net hops arrival packet state)
+  walks_of_plain =
+      walks_refined net sound plain (parts.of_ingress net sound plain) (parts.of_egress net sound plain) (parts.of_late net sound plain)
+      (do_arrive net sound plain) (do_leave net sound plain) (do_leave_late net sound plain)
+
+  -- so the rows do what the network means
+  pub plain_is_refined : IsRefined net
+  plain_is_refined hops arrival packet state is formed knows = (walks_of_plain hops arrival packet state is formed knows).alike
+
+  -- and the states that packets leave know MACs
+  pub keeps_macs : KeepsMacs net
+  keeps_macs hops arrival packet state is formed knows =
+      let agree = walks_of_plain hops arrival packet state is formed knows in
+      subst KnowsMacs (sym agree.alike.left) agree.holds
 
 -- and so is what is told of its walks
-pub told_meant : (net : Network) → IsSound net → (hops : ℕ) (port : ObjId) (packet : Values) (trace : Trace) → trace.told ≡ map event_of (machine net hops port packet trace.before).told
+pub told_meant : (net : Network) → IsSound net → (hops : ℕ) (port : ObjId) (packet : Values) (trace : Trace) → KnowsMacs trace.before → trace.told ≡ map event_of (machine net hops port packet trace.before).told
     → trace.after ≡ (machine net hops port packet trace.before).state → IsPlain net → IsMeant net hops port packet trace
-told_meant net sound hops port packet trace told left plain arrival there is formed =
-    let alike = subst (λ (number : ObjId). AreAlike (machine net hops number packet trace.before) (meaning net hops number packet trace.before)) is (plain_is_refined net sound plain hops arrival packet trace.before there formed) in
+told_meant net sound hops port packet trace knows told left plain is formed =
+    let alike = plain_is_refined net sound plain hops port packet trace.before is formed knows in
     record {
       told = ap without_hits told ∙ left_out (machine net hops port packet trace.before).told ∙ alike.told;
       left = left ∙ alike.left;

@@ -1,23 +1,33 @@
--- Which runs tell something: those of switches, whose rows run.
-use Rattle.std.proofs.Common.{◌≡◌, ℕ, Bool, true, false, cond, ◌&&◌, List, [], ◌∷◌, sym, ap, refl, ◌∙◌, inl, inr, subst}
-use Rattle.std.specs.Prelude.{Option, Some, None, is_some, find, IsSome}
-use Rattle.std.specs.List.{Contains}
-use Rattle.std.proofs.lemmas.Bool.{false≢true, false_from_ne_true, and_parts}
-use borrow.Author.Tests.{eqb-true}
+-- Which runs tell something: those of switches and routers, whose rows run. The number 0 is no datapath's.
+use Rattle.std.proofs.Common.{◌≡◌, ℕ, ◌<◌, false, nat_lt, ◌&&◌, List, [], ap, sym, refl, subst, ◌∙◌, inl, inr, ◌⊎◌, arith}
+use Rattle.std.specs.Prelude.{Option, Some, None, option_map, unwrap_or}
+use Rattle.std.specs.Bool.{IsTrue}
+use Rattle.std.specs.List.{Contains, list_all}
+use Rattle.std.proofs.lemmas.Bool.{false_from_ne_true, and_parts, eqb-true, ltb-true}
+use Rattle.std.proofs.lemmas.List.Elements.{Contains-append_cases}
 use Rattle.nv_base.specs.declared.object.ObjId.{ObjId}
 use Rattle.pkt_core.specs.Packet.{Values}
 use Rattle.expr_eval.specs.MatchMeaning.{holds}
+use Rattle.nb_records.specs.declared.router.RouterPort.{RouterPort}
+use Rattle.nb_records.specs.declared.switch.Port.{Port}
 use Rattle.nb_records.specs.declared.switch.Switch.{Switch}
+use Rattle.nb_model.specs.Applies.{applies}
+use Rattle.nb_model.specs.Belongs.{either}
 use Rattle.nb_model.specs.Names.{names}
 use Rattle.nb_model.specs.Network.{Network, same}
-use Rattle.nb_model.specs.Sound.{IsSound}
-use Rattle.nb_model.specs.Applies.{applies}
-use Rattle.net_rows.specs.Build as build
-use Rattle.net_rows.proofs.Elements.{one_first, one_later, Contains-from_filter}
-use Rattle.net_rows.proofs.Units.{IsRow, rows-gives}
+use Rattle.nb_model.specs.Sound.{IsSound, router_ids, switch_ids}
+use Rattle.nb_model.proofs.Numbered.{are_used}
+use Rattle.net_meaning.specs.Places.{datapath_at, router_port, switch_port}
+use Rattle.net_rows.specs.Build.{all_rows}
+use Rattle.net_rows.proofs.Elements.{any_gives, Contains-from_filter, Contains-map}
+use Rattle.net_rows.proofs.Sound.{each_passes}
+use Rattle.net_rows.proofs.Units.{IsRow, all_rows-gives}
+use Rattle.lr_units.specs.Build.{router_rows}
+use Rattle.lr_units.specs.Network.{network_rows}
+use Rattle.lr_units.proofs.Datapaths.{row_on_router}
+use Rattle.lr_units.proofs.Whole.{network_members}
 use Rattle.sb_model.specs.Stage.{stage_at}
 use Rattle.sb_model.specs.declared.row.Row.{Row}
-use Rattle.sb_model.specs.declared.stage.DatapathKind.TheVariants as kinds
 use Rattle.sb_model.specs.declared.stage.Pipeline.{Pipeline}
 use Rattle.sb_model.specs.declared.stage.Stage.{Stage}
 use Rattle.sb_rows.specs.Match.{is_in_table}
@@ -28,24 +38,12 @@ use Rattle.tr_pipe.specs.Machine.{PipelineRun, go_on, on_to, over, run_from, run
 use Rattle.tr_pipe.specs.Runnable.{IsRunnable}
 use Rattle.tr_pipe.specs.Tracking.{Flight, coming}
 use Rattle.ls_laws.specs.Steps.{flows_at}
+use Rattle.tr_router.proofs.Networks.{router_there}
 use Rattle.tr_walk.specs.inner.Telling.{AreRowsOf}
-use Rattle.tr_walk.proofs.Pipelines.{numbered_switch, switch_there}
+use Rattle.tr_walk.proofs.Datapaths.{switch_there}
+use Rattle.tr_walk.proofs.NetworkPorts.{find_gives, none_passes}
 
--- where none passes, none is found
-pub none_found : {X : Type 0} (p : X → Bool) (xs : List X) → ((x : X) → Contains xs x → p x ≡ false) → find p xs ≡ None
-none_found p [] fails = refl
-none_found p (x ∷ xs) fails = rw (fails x (one_first x xs x refl)) (none_found p xs (λ y at. fails y (one_later x xs y at)))
-
--- what is found is there, and passes
-pub one_found : {X : Type 0} (p : X → Bool) (xs : List X) → is_some (find p xs) ≡ true → (x : X) × Contains xs x × (p x ≡ true)
-one_found p [] some = absurd (false≢true some)
-one_found {X} p (x ∷ xs) some = by (p x) refl some (one_found p xs)
-  where
-    by : (b : Bool) → p x ≡ b → is_some (cond b (Some x) (find p xs)) ≡ true → (is_some (find p xs) ≡ true → (y : X) × Contains xs y × (p y ≡ true)) → (y : X) × Contains (x ∷ xs) y × (p y ≡ true)
-    by true is at rest = (x, one_first x xs x refl, is)
-    by false is at rest = let later = rest at in (later.0, one_later x xs later.0 later.1, later.2)
-
--- ---- rows that are no datapath's
+-- ---- where no row is
 
 -- where no row takes a packet, nothing is told, and the state stays
 stuck : (flows : Flows) (stage : Stage) (flight : Flight) → acting flows stage flight.packet ≡ None → run_from flows 128 stage flight ≡ over None flight.state
@@ -61,61 +59,95 @@ nowhere flows pipeline table packet state none = by (stage_at (kind_of flows) pi
     by None = refl
     by (Some stage) = stuck flows stage (coming packet state) (none stage)
 
-module _ (net : Network) where
-  is_switch : ObjId → Bool
-  is_switch dp = (names net).is_switch dp
+-- ---- the number 0
 
-  -- the number of a switch is one
-  of_there : (switch : Switch) (dp : ObjId) → Contains net.switches switch → switch.id ≡ dp → is_switch dp ≡ true
-  unfolding is_switch
-  of_there switch dp there is = subst (λ (id : ObjId). (names net).is_switch id ≡ true) is (numbered_switch net.switches switch there)
+module _ (net : Network) (sound : IsSound net) where
+  from_one : (numbers : List ObjId) (number : ObjId) → IsTrue (list_all (λ n. nat_lt 0 n.0 && nat_lt n.0 net.next) numbers) → Contains numbers number → 0 < number.0
+  from_one numbers number all there =
+      ltb-true 0 number.0 (and_parts (nat_lt 0 number.0) (nat_lt number.0 net.next) (each_passes (λ (n : ObjId). nat_lt 0 n.0 && nat_lt n.0 net.next) numbers number all there)).0
 
-  -- the rows of a sound network are those of switches
-  of_row : (row : Row) → IsSound net → IsRow net row → is_switch row.dp ≡ true
-  of_row row sound (inl at) = of_there at.switch row.dp at.among (ap (λ (r : Row). r.dp) at.is)
-  of_row row sound (inr (inl at)) =
-      let of = switch_there net at.port sound at.among in of_there of.0 row.dp of.1 (of.2 ∙ ap (λ (r : Row). r.dp) at.is)
-  of_row row sound (inr (inr at)) =
-      of_there at.switch row.dp (Contains-from_filter (λ (s : Switch). applies net s.id at.acl) net.switches at.switch at.applied) (ap (λ (r : Row). r.dp) at.is)
+  of_switch : (switch : Switch) → Contains net.switches switch → 0 < switch.id.0
+  of_switch switch there = from_one (switch_ids net) switch.id (are_used net sound.numbered.below).switches (Contains-map (λ (s : Switch). s.id) net.switches switch there)
 
-  module _ (sound : IsSound net) (dp : ObjId) (other : is_switch dp ≡ false) (packet : Values) where
-    not_in_table : (stage : Stage) (row : Row) → Contains (build.rows net) row → (is_in_table dp stage row && holds (names net) packet row.matching) ≡ false
+  -- each row is on a datapath
+  of_row : (row : Row) → IsRow net row → 0 < row.dp.0
+  of_row row (inl at) = subst (λ (d : ObjId). 0 < d.0) (ap (λ (r : Row). r.dp) at.is) (of_switch at.switch at.among)
+  of_row row (inr (inl at)) =
+      let of = switch_there net at.port sound at.among in subst (λ (d : ObjId). 0 < d.0) (of.2 ∙ ap (λ (r : Row). r.dp) at.is) (of_switch of.0 of.1)
+  of_row row (inr (inr at)) =
+      subst (λ (d : ObjId). 0 < d.0) (ap (λ (r : Row). r.dp) at.is) (of_switch at.switch (Contains-from_filter (λ (s : Switch). applies net s.id at.acl) net.switches at.switch at.applied))
+
+  of_router_row : (row : Row) → Contains (router_rows net) row → 0 < row.dp.0
+  of_router_row row there =
+      let at = any_gives (same row.dp) (router_ids net) (row_on_router net sound row there) in
+      let above = from_one (router_ids net) at.0 (are_used net sound.numbered.below).routers at.1 in
+      let is = eqb-true row.dp.0 at.0.0 at.2 in
+      omega (arith, above, is)
+
+  on_datapath : (row : Row) → Contains (network_rows net) row → 0 < row.dp.0
+  on_datapath row there = by (Contains-append_cases (all_rows net) (router_rows net) row ((network_members net row).0 there))
+    where
+      by : Contains (all_rows net) row ⊎ Contains (router_rows net) row → 0 < row.dp.0
+      by (inl at) = of_row row (all_rows-gives net row at)
+      by (inr at) = of_router_row row at
+
+  module _ (dp : ObjId) (zero_is : dp.0 ≡ 0) (packet : Values) where
+    not_in_table : (stage : Stage) (row : Row) → Contains (network_rows net) row → (is_in_table dp stage row && holds (names net) packet row.matching) ≡ false
     not_in_table stage row there = false_from_ne_true _ (λ both.
-        let in_it = and_parts (is_in_table dp stage row) (holds (names net) packet row.matching) both in
-        false≢true (sym other ∙ ap is_switch (sym (in_table-gives dp stage row in_it.0).0) ∙ of_row row sound (rows-gives net row there)))
+        let in_it = in_table-gives dp stage row (and_parts (is_in_table dp stage row) (holds (names net) packet row.matching) both).0 in
+        let same_number : row.dp.0 ≡ dp.0 = ap (λ (d : ObjId). d.0) in_it.0 in
+        let above = on_datapath row there in
+        omega (arith, above, same_number, zero_is))
 
     none_acts : (stage : Stage) → acting (flows_at net dp) stage packet ≡ None
-    none_acts stage = none_found (λ row. is_in_table dp stage row && holds (names net) packet row.matching) (build.rows net) (not_in_table stage)
+    none_acts stage = none_passes (λ row. is_in_table dp stage row && holds (names net) packet row.matching) (network_rows net) (not_in_table stage)
 
     no_run : (pipeline : Pipeline) (table : ℕ) (state : State) → run_pipeline (flows_at net dp) pipeline table packet state ≡ over None state
     no_run pipeline table state = nowhere (flows_at net dp) pipeline table packet state none_acts
 
--- where there is no switch, there are no hits, nothing becomes of the packet, and the state stays
-module _ (net : Network) (sound : IsSound net) (dp : ObjId) (other : (names net).is_switch dp ≡ false) (packet : Values) (pipeline : Pipeline) (table : ℕ) (state : State) where
-  pub no_hits : (run_pipeline (flows_at net dp) pipeline table packet state).hits ≡ []
-  unfolding is_switch
-  no_hits = ap (λ (r : PipelineRun). r.hits) (no_run net sound dp other packet pipeline table state)
+    -- nothing is told, nothing becomes of the packet, and the state stays
+    module _ (pipeline : Pipeline) (table : ℕ) (state : State) where
+      pub no_hits : (run_pipeline (flows_at net dp) pipeline table packet state).hits ≡ []
+      no_hits = ap (λ (r : PipelineRun). r.hits) (no_run pipeline table state)
 
-  pub no_outcome : (run_pipeline (flows_at net dp) pipeline table packet state).outcome ≡ None
-  unfolding is_switch
-  no_outcome = ap (λ (r : PipelineRun). r.outcome) (no_run net sound dp other packet pipeline table state)
+      pub no_outcome : (run_pipeline (flows_at net dp) pipeline table packet state).outcome ≡ None
+      no_outcome = ap (λ (r : PipelineRun). r.outcome) (no_run pipeline table state)
 
-  pub no_change : (run_pipeline (flows_at net dp) pipeline table packet state).state ≡ state
-  unfolding is_switch
-  no_change = ap (λ (r : PipelineRun). r.state) (no_run net sound dp other packet pipeline table state)
+      pub no_change : (run_pipeline (flows_at net dp) pipeline table packet state).state ≡ state
+      no_change = ap (λ (r : PipelineRun). r.state) (no_run pipeline table state)
 
--- ---- a switch
+-- ---- the datapath of a port
 
-module _ (net : Network) (all : List Row) (are : AreRowsOf net all) (dp : ObjId) (there : (names net).is_switch dp ≡ true) where
-  -- its rows run
-  pub switch_runs : IsRunnable (flows_of all (names net) dp)
-  switch_runs =
-      let at = one_found (λ (switch : Switch). same dp switch.id) net.switches there in
-      let number : at.0.id ≡ dp = ap (λ n. record { 0 = n }) (sym (eqb-true _ _ at.2)) in
-      subst (λ (rows : List Row). IsRunnable (flows_of rows (names net) dp)) (sym are.all) (subst (λ (id : ObjId). IsRunnable (flows_at net id)) number (are.run at.0 at.1))
+-- that of a port of a switch, else of a router
+abbrev dp_of : Option Port → Option RouterPort → ObjId
+dp_of one other = unwrap_or (either (option_map (λ (p : Port). p.switch) one) (option_map (λ (p : RouterPort). p.router) other)) (record { 0 = 0 })
 
-  pub of_switches : kind_of (flows_of all (names net) dp) ≡ kinds.Switch
-  of_switches = rw there refl
+module _ (net : Network) (all : List Row) (are : AreRowsOf net all) where
+  abbrev Runs : ObjId → Type 0
+  Runs dp = IsRunnable (flows_of all (names net) dp)
 
-  pub has_table : (pipeline : Pipeline) (table : ℕ) → IsSome (stage_at kinds.Switch pipeline table) → IsSome (stage_at (kind_of (flows_of all (names net) dp)) pipeline table)
-  has_table pipeline table some = subst (λ kind. IsSome (stage_at kind pipeline table)) (sym of_switches) some
+  -- the rows of a switch, and of a router, run
+  of_rows : (dp : ObjId) → IsRunnable (flows_at net dp) → Runs dp
+  of_rows dp run = subst (λ (rows : List Row). IsRunnable (flows_of rows (names net) dp)) (sym are.all) run
+
+  on_switch : (port : Port) → Contains net.ports port → Runs port.switch
+  on_switch port there =
+      let own = switch_there net port are.sound there in
+      of_rows port.switch (subst (λ (d : ObjId). IsRunnable (flows_at net d)) own.2 (are.run.switches own.0 own.1))
+
+  on_router : (port : RouterPort) → Contains net.router_ports port → Runs port.router
+  on_router port there =
+      let own = router_there net are.sound port there in
+      of_rows port.router (subst (λ (d : ObjId). IsRunnable (flows_at net d)) (sym own.2) (are.run.routers own.0 own.1))
+
+  -- so do those of the datapath of a port, if there is one
+  pub datapath_runs : (number : ObjId) → ((datapath_at net number).0 ≡ 0 → ⊥) → Runs (datapath_at net number)
+  datapath_runs number some =
+      by (switch_port net number) (λ port found. (find_gives (λ (p : Port). same p.id number) net.ports port found).0)
+      (router_port net number) (λ port found. (find_gives (λ (p : RouterPort). same p.id number) net.router_ports port found).0) some
+    where
+      by : (one : Option Port) → ((port : Port) → one ≡ Some port → Contains net.ports port) → (other : Option RouterPort) → ((port : RouterPort) → other ≡ Some port → Contains net.router_ports port)
+          → ((dp_of one other).0 ≡ 0 → ⊥) → Runs (dp_of one other)
+      by (Some port) at other or_at some = on_switch port (at port refl)
+      by None at (Some port) or_at some = on_router port (or_at port refl)
+      by None at None or_at some = absurd (some refl)

@@ -15,7 +15,7 @@ use Rattle.nb_model.specs.Names.{names}
 use Rattle.nb_model.specs.Network.{Network}
 use Rattle.sb_model.specs.declared.row.Row.{Row}
 use Rattle.sb_model.specs.declared.stage.Stage.{Stage}
-use Rattle.net_rows.specs.Build.{rows}
+use Rattle.lr_units.specs.Network.{network_rows}
 use Rattle.tr_stage.specs.Machine.{Effect, effect, reset_for, error_for, answer_for, arp_for}
 use Rattle.tr_stage.specs.Machine.Effect.{Changed, Done}
 
@@ -65,4 +65,4 @@ abbrev pub FindsWhatItReads : Lookup → Row → Type 0
 FindsWhatItReads net row = (packet : Values) → IsTrue (holds net packet row.matching) → IsTrue (actions_find net row.stage row.actions packet)
 
 abbrev pub FindWhatTheyRead : Network → Type 0
-FindWhatTheyRead net = (row : Row) → Contains (rows net) row → FindsWhatItReads (names net) row
+FindWhatTheyRead net = (row : Row) → Contains (network_rows net) row → FindsWhatItReads (names net) row

@@ -1,13 +1,16 @@
 -- That the rows of a network do what the network means.
-use Rattle.std.specs.Prelude.{◌≡◌, ℕ, List, Contains, Some, option_map}
+use Rattle.std.specs.Prelude.{◌≡◌, ℕ, List, ◌++◌, Contains, Some, option_map}
 use Rattle.ct_core.specs.State.{State}
 use Rattle.nv_base.specs.declared.object.ObjId.{ObjId}
 use Rattle.nv_base.specs.declared.field.Field.TheVariants.{Inport, Outport, CtState, CtMarkBlocked, Reg0}
 use Rattle.pkt_core.specs.Packet.{Values, IsPacket, value}
 use Rattle.nb_records.specs.declared.switch.Port.{Port}
 use Rattle.nb_model.specs.Network.{Network}
-use Rattle.net_meaning.specs.Switches.{Did, arriving_at, leaving_by, leaving_late, meaning}
+use Rattle.nb_model.specs.Sound.{port_ids, router_port_ids}
+use Rattle.net_meaning.specs.Switches.{Did, arriving_at, leaving_by, leaving_late}
 use Rattle.net_meaning.specs.Walk.{Part, Walked, carrying, events}
+use Rattle.net_router.specs.Meaning.{meaning}
+use Rattle.tr_router.specs.Parts.{KnowsMacs}
 use Rattle.tr_walk.specs.Events.{without_hits}
 use Rattle.tr_stage.specs.declared.outcome.Hit.{Hit}
 use Rattle.tr_walk.specs.Machine.{ingress, egress, machine}
@@ -41,6 +44,10 @@ IsLate net =
     (port : Port) (packet : Values) (state : State) → Contains net.ports port → IsPacket packet → value packet Outport ≡ port.id.0
     → DoesPart (egress net (last_table datapath.Switch) port.id packet state) (leaving_late port packet state)
 
+-- the number of a port of a datapath: of a switch, or of a router
+abbrev pub IsPort : Network → ObjId → Type 0
+IsPort net number = Contains (port_ids net ++ router_port_ids net) number
+
 -- two walks tell the same of packets, and leave the same state
 pub record AreAlike {N M S : Type 0} (one : Walked N S) (other : Walked M S) : Type 0 where
   pub told : events one.told ≡ events other.told
@@ -57,13 +64,19 @@ pub record TellsOf {M : Type 0} (trace : Trace) (walked : Walked M State) : Type
   pub told : without_hits trace.told ≡ events walked.told
   pub left : trace.after ≡ walked.state
 
--- what was told of a packet that comes in by a port of a switch is what the network does with it
+-- what was told of a packet that comes in by a port of a datapath is what the network does with it
 abbrev pub IsMeant : Network → ℕ → ObjId → Values → Trace → Type 0
-IsMeant net hops port packet trace =
-    (arrival : Port) → Contains net.ports arrival → arrival.id ≡ port → IsPacket packet → TellsOf trace (meaning net hops port packet trace.before)
+IsMeant net hops port packet trace = IsPort net port → IsPacket packet → TellsOf trace (meaning net hops port packet trace.before)
 
--- what the rows do with each packet that comes in by a port of a switch is, hits left out, what the network does with it
+-- What the rows do with each packet that comes in by a port of a datapath is, hits left out, what the network does with it, from each state
+-- in which what was learnt of neighbours are MACs.
 abbrev pub IsRefined : Network → Type 0
 IsRefined net =
-    (hops : ℕ) (arrival : Port) (packet : Values) (state : State) → Contains net.ports arrival → IsPacket packet
-    → AreAlike (machine net hops arrival.id packet state) (meaning net hops arrival.id packet state)
+    (hops : ℕ) (arrival : ObjId) (packet : Values) (state : State) → IsPort net arrival → IsPacket packet → KnowsMacs state
+    → AreAlike (machine net hops arrival packet state) (meaning net hops arrival packet state)
+
+-- such a state leaves another
+abbrev pub KeepsMacs : Network → Type 0
+KeepsMacs net =
+    (hops : ℕ) (arrival : ObjId) (packet : Values) (state : State) → IsPort net arrival → IsPacket packet → KnowsMacs state
+    → KnowsMacs (machine net hops arrival packet state).state

@@ -6,7 +6,7 @@ ghost use Rattle.net_meaning.specs.Walk.{Told, events};
 ghost use Rattle.tr_stage.specs.declared.outcome.Hit.{Hit};
 ghost use Rattle.tr_walk.specs.Events.{event_of, without_hits};
 ghost use Rattle.tr_walk.specs.Reads.{FindWhatTheyRead};
-ghost use Rattle.tr_walk.specs.Refined.{IsIngress, IsEgress, IsLate, IsRefined};
+ghost use Rattle.tr_walk.specs.Refined.{IsIngress, IsEgress, IsLate, IsRefined, KeepsMacs};
 ghost use Rattle.tr_walk.specs.Runnable.{AreRunnable};
 
 /// The pipelines of a switch do what the switch does with a packet that arrives, leaves, or leaves late, in each sound plain network.
@@ -16,19 +16,20 @@ pub fn pipelines_do_their_parts()
     ensures late { (net : Network) → IsSound net → IsPlain net → IsLate net }
 {}
 
-/// In each sound plain network the rows do with each packet what the network does with it.
+/// In each sound plain network the rows do with each packet what the network does with it, and what is learnt of neighbours are MACs.
 pub fn plain_networks_are_refined()
-    ensures { (net : Network) → IsSound net → IsPlain net → IsRefined net }
+    ensures refined { (net : Network) → IsSound net → IsPlain net → IsRefined net }
+    ensures macs { (net : Network) → IsSound net → IsPlain net → KeepsMacs net }
 {}
 
-/// In the rows of each sound plain network each packet comes to an end, on each of its switches.
+/// In the rows of each sound plain network each packet comes to an end, on each of its switches and routers.
 pub fn rows_of_plain_networks_are_runnable()
     ensures { (net : Network) → IsSound net → IsPlain net → AreRunnable net }
 {}
 
-/// In the rows of each sound plain network no action reads a field that the packet does not have.
+/// In the rows of each sound network no action reads a field that the packet does not have.
 pub fn rows_find_what_they_read()
-    ensures { (net : Network) → IsSound net → IsPlain net → FindWhatTheyRead net }
+    ensures { (net : Network) → IsSound net → FindWhatTheyRead net }
 {}
 
 /// The events of a walk by rows, hits left out, are what happens in it.

@@ -12,7 +12,6 @@ ghost use Rattle.tr_walk.specs.inner.Telling.{AreRowsOf, egress_table};
 use crate::Event;
 use crate::places::{datapath_at, late_table};
 use ct_state::Work;
-use expr_core::Env;
 use nb_store::Records;
 use nv_base::{ObjId, OutOfMemory};
 use pkt_core::Packet;
@@ -33,8 +32,8 @@ pub(crate) struct Flows<'a> {
     pub(crate) records: &'a Records,
 }
 
-/// Runs a packet through a pipeline of the switch of a port, from this table on, and puts its hits after the events. Nothing becomes
-/// of the packet where there is no switch.
+/// Runs a packet through a pipeline of the datapath of a port, from this table on, and puts its hits after the events. Nothing becomes
+/// of the packet where there is no such port.
 pub(crate) fn run(
     flows: Flows<'_>,
     port: ObjId,
@@ -52,7 +51,8 @@ pub(crate) fn run(
     ensures outcome { IfOk result (λ outcome. outcome ≡ (run_pipeline (flows_at flows.entry.records.now (datapath_at flows.entry.records.now port)) pipeline table packet.now work.old.state).outcome) }
 {
     let dp = datapath_at(flows.records, port);
-    if !flows.records.is_switch(dp) {
+    // The numbers of datapaths begin at 1.
+    if dp.0 == 0 {
         return Ok(None);
     }
     let mut hits = Vec::with_capacity(flows.alloc, FEW)?;

@@ -8,7 +8,8 @@ ghost use Rattle.net_meaning.specs.Places.{datapath_at};
 ghost use Rattle.nb_model.specs.Plain.{IsPlain};
 ghost use Rattle.net_meaning.specs.Walk.{carried, told_of};
 ghost use Rattle.net_meaning.specs.Walk.Target.{Ports, Late};
-ghost use Rattle.net_rows.specs.Build as build;
+ghost use Rattle.lr_units.specs.Network.{network_rows};
+ghost use Rattle.tr_router.specs.Parts.{KnowsMacs};
 ghost use Rattle.tr_walk.specs.Events.{event_of};
 ghost use Rattle.tr_walk.specs.Machine.{machine, numbered, table_of, target_of};
 ghost use Rattle.tr_walk.specs.Refined.{IsMeant};
@@ -46,7 +47,7 @@ pub fn trace(
     hops: u32,
 ) -> Result<Vec<Event>, OutOfMemory>
     requires sound { IsSound records.now }
-    requires rows { rows.now ≡ build.rows records.now }
+    requires rows { rows.now ≡ network_rows records.now }
     requires run { AreRunnable records.now }
     ensures events { IfOk result (λ events. events.items ≡ map event_of (machine records.now hops port packet.now state.old).told) }
     ensures state { OnOk result (state.new ≡ (machine records.now hops port packet.now state.old).state) }
@@ -59,6 +60,7 @@ pub fn trace(
         rows,
         records,
     };
+    knows_macs(state);
     let mut work = Work::begin(alloc, state)?;
     match enter(flows, hops, port, packet, &mut work, &mut events) {
         Ok(()) => {
@@ -70,6 +72,13 @@ pub fn trace(
             Err(OutOfMemory)
         }
     }
+}
+
+// What was learnt of neighbours are MACs, as in each list of neighbours.
+fn knows_macs(state: &State)
+    ensures { KnowsMacs state.now }
+{
+    let _count = state.nbrs().len();
 }
 
 // A packet comes into a datapath by a port.

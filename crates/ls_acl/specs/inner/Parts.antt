@@ -1,5 +1,6 @@
 -- Parts of the rules of ACLs, as the functions make them.
 use Rattle.std.specs.Prelude.{ℕ, Bool, true, false, List, [], ◌∷◌, ◌++◌}
+use Rattle.nv_base.specs.declared.field.Field.{Field}
 use Rattle.nv_base.specs.declared.field.Field.TheVariants.{Reg0}
 use Rattle.expr_core.specs.Formula.Formula.{Not}
 use Rattle.expr_core.specs.declared.predicate.Pred.TheVariants.{EthMcast, Ip4, CtEst}
@@ -7,7 +8,7 @@ use Rattle.act_core.specs.declared.action.Action.{Action}
 use Rattle.act_core.specs.declared.action.Action.TheVariants as action
 use Rattle.act_core.specs.declared.step.Step.TheVariants as step
 use Rattle.nb_records.specs.declared.acl.Verdict.{Verdict}
-use Rattle.sb_model.specs.Make.{takes_each, is_predicate, bit_is_set, all_of, steps, goes_on, drops}
+use Rattle.sb_model.specs.Make.{takes_each, is_predicate, is_port, bit_is_set, all_of, steps, goes_on, drops}
 use Rattle.sb_model.specs.declared.stage.Stage.{Stage}
 use Rattle.sb_model.specs.declared.stage.Stage.TheVariants.{LsInPreAcl, LsInPreStateful, LsInAclEval, LsInStateful, LsOutPreAcl, LsOutPreStateful, LsOutAclEval, LsOutStateful}
 use Rattle.net_rows.specs.Acls.{stage_of, passes, ending, asks_to_track, tracking, is_shut_out, is_reply}
@@ -59,6 +60,10 @@ keeping_rule = rule LsInStateful 100 (bit_is_set Reg0 1) (steps (step.CtCommit f
 
 abbrev pub rules_of_connections : List Rule
 rules_of_connections = both rule_for_shut_out LsOutAclEval ++ rules_for_replies ++ both keeping_rule LsOutStateful
+
+-- a rule of a port whose packets are not tracked
+abbrev pub untracked_rule : Stage → Field → List ℕ → Rule
+untracked_rule stage port name = rule stage 110 (is_port port name) goes_on
 
 -- the connection is blocked, and then the packet meets its end
 abbrev pub blocks : Verdict → List Action

@@ -250,10 +250,11 @@ rule (rule_of.Snat a0 a1) (rule_of.Snat b0 b1) e =
 rule (rule_of.Snat a0 a1) _ e = absurd (false≢true e)
 rule (rule_of.Dnat a) (rule_of.Dnat b) e = ap rule_of.Dnat (tells.address _ _ e)
 rule (rule_of.Dnat a) _ e = absurd (false≢true e)
-rule (rule_of.Acl a0 a1) (rule_of.Acl b0 b1) e =
+rule (rule_of.Acl a0 a1 a2) (rule_of.Acl b0 b1 b2) e =
     let at0 = and_parts _ _ e in
-    ap (λ x. rule_of.Acl x a1) (way _ _ at0.0) ∙ ap (λ x. rule_of.Acl b0 x) (tells.number _ _ at0.1)
-rule (rule_of.Acl a0 a1) _ e = absurd (false≢true e)
+    let at1 = and_parts _ _ at0.1 in
+    ap (λ x. rule_of.Acl x a1 a2) (way _ _ at0.0) ∙ ap (λ x. rule_of.Acl b0 x a2) (tells.number _ _ at1.0) ∙ ap (λ x. rule_of.Acl b0 b1 x) (tells.number _ _ at1.1)
+rule (rule_of.Acl a0 a1 a2) _ e = absurd (false≢true e)
 rule (rule_of.Binding a) (rule_of.Binding b) e = ap rule_of.Binding (tells.address _ _ e)
 rule (rule_of.Binding a) _ e = absurd (false≢true e)
 

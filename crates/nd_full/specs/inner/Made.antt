@@ -1,14 +1,15 @@
 -- What is made of the network's objects: the rows of each unit in row order, one unit after the other.
-use Rattle.std.specs.Prelude.{Bool, List, ◌++◌, filter}
+use Rattle.std.specs.Prelude.{Bool, ◌&&◌, if◌then◌else◌, List, [], ◌++◌, filter}
 use Rattle.std.specs.List.{flat_map, list_any}
 use Rattle.nv_base.specs.declared.object.ObjId.{ObjId}
 use Rattle.nb_records.specs.declared.acl.Acl.{Acl}
 use Rattle.nb_records.specs.declared.switch.Port.{Port}
 use Rattle.nb_records.specs.declared.switch.Switch.{Switch}
 use Rattle.nb_model.specs.Network.{Network}
-use Rattle.nb_model.specs.Applies.{applies, is_related}
-use Rattle.net_rows.specs.Acls.{acl_on_rules, switch_acl_rules}
-use Rattle.net_rows.specs.Build.{acl_on_rows, port_l2_input, port_sec_input, switch_rows}
+use Rattle.nb_model.specs.Applies.{applies, is_related, tracks}
+use Rattle.nb_model.specs.Belongs.{is_to_router}
+use Rattle.net_rows.specs.Acls.{acl_on_rules, port_acl_rules, switch_acl_rules}
+use Rattle.net_rows.specs.Build.{acl_on_rows, port_acl_input, port_l2_input, port_sec_input, switch_rows}
 use Rattle.net_rows.specs.LoadBalancers.{switch_lb_rules}
 use Rattle.net_rows.specs.Lookup.{port_l2_rules, switch_l2_rules}
 use Rattle.net_rows.specs.PortSecurity.{port_sec_rules, switch_sec_rules}
@@ -16,6 +17,7 @@ use Rattle.net_rows.specs.Unit.{unit_of, unit_of_datapath, unit_rows}
 use Rattle.net_rows.specs.declared.inputs.AclOnInput.{AclOnInput}
 use Rattle.net_rows.specs.declared.inputs.SwitchAclInput.{SwitchAclInput}
 use Rattle.net_rows.specs.declared.inputs.SwitchL2Input.{SwitchL2Input}
+use Rattle.net_rows.specs.declared.rule.Rule.{Rule}
 use Rattle.sb_model.specs.declared.row.Row.{Row}
 use Rattle.nd_full.specs.inner.Owners.{acls_of, ports_on}
 
@@ -41,10 +43,15 @@ switch_units switch acl lookup =
     unit_rows (unit_of_datapath switch) switch_sec_rules
     ++ (unit_rows (unit_of_datapath switch) (switch_acl_rules acl) ++ (unit_rows (unit_of_datapath switch) switch_lb_rules ++ unit_rows (unit_of_datapath switch) (switch_l2_rules lookup)))
 
+-- the rules of a port in the stages of ACLs, where its switch tracks connections and where it does not
+abbrev pub acl_rules_where : Bool → Port → List Rule
+acl_rules_where tracks port = if is_to_router port && tracks then port_acl_rules (port_acl_input port) else []
+
 -- of a port
 abbrev pub port_units : Network → Port → List Row
 port_units net port =
-    unit_rows (unit_of port.switch port.id) (port_sec_rules (port_sec_input port)) ++ unit_rows (unit_of port.switch port.id) (port_l2_rules (port_l2_input net port))
+    unit_rows (unit_of port.switch port.id) (port_sec_rules (port_sec_input port))
+    ++ (unit_rows (unit_of port.switch port.id) (acl_rules_where (tracks net port.switch) port) ++ unit_rows (unit_of port.switch port.id) (port_l2_rules (port_l2_input net port)))
 
 -- the rows of the datapath of a switch but those of its ports
 abbrev pub rows_at : Network → Switch → List Row

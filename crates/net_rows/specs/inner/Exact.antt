@@ -6,6 +6,7 @@ use Rattle.nv_base.specs.inner.Exact.{Tells}
 use Rattle.expr_core.specs.inner.Exact as of_matches
 use Rattle.nb_records.specs.inner.Exact as of_records
 use Rattle.net_rows.specs.contracts.inputs.AclOnInputPartialEq.TheImpl as acl_on_eq
+use Rattle.net_rows.specs.contracts.inputs.PortAclInputPartialEq.TheImpl as port_acl_eq
 use Rattle.net_rows.specs.contracts.inputs.PortL2InputPartialEq.TheImpl as port_l2_eq
 use Rattle.net_rows.specs.contracts.inputs.PortSecInputPartialEq.TheImpl as port_sec_eq
 use Rattle.net_rows.specs.contracts.inputs.SwitchAclInputPartialEq.TheImpl as switch_acl_eq
@@ -28,6 +29,13 @@ switch_acl a b e =
     let same_tracks : a.tracks ≡ b.tracks = tells.boolean _ _ at0.0 in
     let same_balances : a.balances ≡ b.balances = tells.boolean _ _ at0.1 in
     λ i. record { tracks = same_tracks i; balances = same_balances i }
+
+pub port_acl : Tells ((port_acl_eq.ghosts).eq)
+port_acl a b e =
+    let at0 = and_parts _ _ e in
+    let same_dp : a.dp ≡ b.dp = tells.object _ _ at0.0 in
+    let same_name : a.name ≡ b.name = tells.list _ tells.number _ _ at0.1 in
+    λ i. record { dp = same_dp i; name = same_name i }
 
 pub acl_on : Tells ((acl_on_eq.ghosts).eq)
 acl_on a b e =

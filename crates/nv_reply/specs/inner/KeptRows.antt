@@ -4,11 +4,11 @@ use Rattle.sb_model.specs.declared.row.Row.{Row}
 use Rattle.nb_model.specs.Network.{Network}
 use Rattle.nb_model.specs.Sound.{IsSound}
 use Rattle.nb_model.specs.Plain.{IsPlain}
-use Rattle.net_rows.specs.Build as build
+use Rattle.lr_units.specs.Network.{network_rows}
 
 -- the rows of the network, which is sound and plain
 pub record AreRowsOf (rows : List Row) (net : Network) : Type 0 where
-  pub built : rows ≡ build.rows net
+  pub built : rows ≡ network_rows net
   pub sound : IsSound net
   pub plain : IsPlain net
 

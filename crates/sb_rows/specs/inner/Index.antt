@@ -1,5 +1,5 @@
 -- What is kept beside the rows of a table that has many: where those are that may hold of a packet.
-use Rattle.std.specs.Prelude.{ℕ, ◌+◌, ◌*◌, ◌<◌, ◌≤◌, ◌==◌, Bool, ◌&&◌, List}
+use Rattle.std.specs.Prelude.{◌≡◌, ℕ, ◌+◌, ◌*◌, ◌<◌, ◌≤◌, ◌==◌, Bool, true, ◌&&◌, List}
 use Rattle.std.specs.List.{All, Contains, slice_index_or}
 use Rattle.std.specs.List.Sorted.{IsNonDecreasing}
 use Rattle.expr_core.specs.Lookup.{Lookup}
@@ -7,22 +7,25 @@ use Rattle.expr_eval.specs.MatchMeaning.{holds}
 use Rattle.pkt_core.specs.Packet.{Values}
 use Rattle.sb_model.specs.declared.row.Row.{Row}
 use Rattle.sb_rows.specs.Row.{AreRows}
-use Rattle.sb_rows.specs.declared.stored.Asked.{Asked}
-use Rattle.sb_rows.specs.declared.stored.Shape.{Shape}
+use Rattle.sb_rows.specs.declared.asks.Asks.{Asks}
+use Rattle.sb_rows.specs.declared.asks.Shape.{Shape}
 use Rattle.sb_rows.specs.declared.index.Table.{Table}
-use Rattle.sb_rows.specs.inner.Beside.{IsAskedBy}
+use Rattle.sb_rows.specs.inner.Asks.{HasAsked, bucket_of, shape_of}
 use Rattle.sb_rows.specs.inner.Tables.{key_of}
 
 -- a place in a bucket
 abbrev pub spot : ℕ → ℕ → ℕ
 spot bucket place = bucket * 18446744073709551616 + place
 
--- the row at this place is in a bucket of one of the shapes, whose packets alone it may take
-pub record IsCovered (row : Row) (place : ℕ) (shapes : List Shape) (spots : List ℕ) : Type 0 where
-  pub asked : Asked
-  pub asks : IsAskedBy row.matching asked
-  pub shaped : Contains shapes asked.shape
-  pub there : Contains spots (spot asked.bucket place)
+-- a row at this place is in the bucket of what is asked, which has one of the shapes
+pub record IsPlaced (asks : Asks) (place : ℕ) (shapes : List Shape) (spots : List ℕ) : Type 0 where
+  pub shaped : Contains shapes (shape_of asks)
+  pub there : Contains spots (spot (bucket_of asks) place)
+
+-- each packet that the row at this place may take has what is asked of one of its buckets
+abbrev pub IsCovered : Row → ℕ → List Shape → List ℕ → Type 0
+IsCovered row place shapes spots =
+    (net : Lookup) (packet : Values) → holds net packet row.matching ≡ true → (asks : Asks) × (HasAsked asks net packet × IsPlaced asks place shapes spots)
 
 -- the rows between these places are covered
 abbrev pub AreCovered : List Row → ℕ → ℕ → List Shape → List ℕ → Type 0

@@ -10,7 +10,7 @@ use Rattle.net_meaning.specs.Places.{datapath_at, side_of}
 use Rattle.net_meaning.specs.Walk.{Target, Walked, Onward, told_of, after_told, carried, carrying, then_part, delivered_to, made, left, sent, arrived, enters, hops_left}
 use Rattle.net_meaning.specs.declared.answer.Answer.{Answer}
 use Rattle.net_meaning.specs.declared.answer.Answer.TheVariants.{Reject, Arp}
-use Rattle.net_rows.specs.Build as build
+use Rattle.lr_units.specs.Network.{network_rows}
 use Rattle.tr_stage.specs.declared.outcome.Hit.{Hit}
 use Rattle.tr_stage.specs.declared.outcome.Outcome.{Outcome}
 use Rattle.tr_walk.specs.declared.event.Event.{Event}
@@ -22,7 +22,7 @@ use Rattle.tr_walk.specs.Runnable.{AreRunnable}
 -- the rows are those of a sound network, and each packet comes to an end in them
 pub record AreRowsOf (net : Network) (rows : List Row) : Type 0 where
   pub sound : IsSound net
-  pub all : rows ≡ build.rows net
+  pub all : rows ≡ network_rows net
   pub run : AreRunnable net
 
 abbrev pub events_of : Walked Hit State → List Event

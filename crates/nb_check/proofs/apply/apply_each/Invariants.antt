@@ -5,7 +5,7 @@ use Rattle.nb_model.specs.Readable.{IsReadable}
 use Rattle.nb_model.specs.Sound.{IsSound}
 use Rattle.nb_model.specs.Transactions.{edited}
 use Rattle.nb_limits.specs.Ceilings.{AreCeilings}
-use Rattle.nb_check.specs.inner.Going.{Since}
+use Rattle.nb_check.specs.inner.Going.{AreSince}
 use Rattle.nb_check.specs.inner.Undone.{back_all}
 use Rattle.nb_check.proofs.apply.apply_each.Given as goal
 use Rattle.nv_base.specs.Object.{number_limit}
@@ -21,5 +21,5 @@ invariant-loop-edit l = record {
   same : edited l.fn.records l.fn.edits.items ≡ edited l.records (into_iter_items l.edit-iterator);
   back : back_all l.undos.items l.records ≡ back_all l.fn.undos.items l.fn.records;
   first : l.gone.first ≡ l.fn.records.next;
-  gone : Since l.fn.records l.records l.gone.numbers;
+  gone : AreSince l.fn.records l.records l.gone.objects;
 }

@@ -2,7 +2,7 @@ use Rattle.std.proofs.Common.{◌≡◌, [], ap, ◌∙◌}
 use Rattle.std.proofs.lemmas.Result.{IfOk-weaker}
 use Rattle.sb_rows.specs.Row.{put_rows}
 use Rattle.nd_full.specs.inner.Made.{datapath_rows}
-use Rattle.nd_full.specs.inner.Members.{HaveSameRows}
+use Rattle.nd_router.specs.Members.{HaveSameRows}
 use Rattle.nd_full.proofs.All.{made_of_datapath}
 use Rattle.nd_full.proofs.build.rows_of_datapath.Goals as goal
 

@@ -11,7 +11,7 @@ l2_input unknown = record { unknown = unknown }
 
 pub returns : goal.returns
 returns c =
-    made_at c.args.records.now c.args.switch.now c.in_ok-owners.owners.items c.args.made.now c.add_switch.new.self c.loop-owner.made c.switch_acl_input-acl_input.result (l2_input c.args.unknown) c.in_ok-owners.ensures
-    c.switch_acl_input-acl_input.ensures (ap l2_input c.requires.unknown) c.in_ok-add_switch.ensures
+    made_at c.args.records.now c.args.switch.now c.args.owners.now c.args.made.now c.add_switch.new.self c.loop-owner.made c.args.acl.now (l2_input c.args.unknown) c.requires.owners
+    c.requires.acl (ap l2_input c.requires.unknown) c.in_ok-add_switch.ensures
     (c.loop-owner.invariant
-    ∙ ap (λ owners. c.add_switch.new.self ++ flat_map (acl_units c.args.records.now c.args.switch.now.id c.switch_acl_input-acl_input.result.tracks) owners) (take_all c.loop-owner.owner-index c.deref-owner-items.result.now c.loop-owner-test.false ∙ c.deref-owner-items.ensures.value))
+    ∙ ap (λ owners. c.add_switch.new.self ++ flat_map (acl_units c.args.records.now c.args.switch.now.id c.args.acl.now.tracks) owners) (take_all c.loop-owner.owner-index c.args.owners.now c.loop-owner-test.false))

@@ -5,4 +5,4 @@ use Rattle.nd_full.proofs.switches.add_rows_of_switch.Given as goal
 
 -- the rows of the ACLs of the owners so far come after those of the switch
 abbrev pub invariant-loop-owner : goal.invariant-loop-owner
-invariant-loop-owner l = l.made ≡ l.initial.made ++ flat_map (acl_units l.records l.switch.id l.acl_input.tracks) (take l.owner-index l.owner-items)
+invariant-loop-owner l = l.made ≡ l.initial.made ++ flat_map (acl_units l.records l.switch.id l.acl.tracks) (take l.owner-index l.owners)

@@ -1,5 +1,5 @@
 use Rattle.std.proofs.Common.{◌≡◌, drop}
-use Rattle.nv_reply.specs.inner.StruckPorts.{struck_ports}
+use Rattle.nv_reply.specs.inner.StruckObjects.{struck_ports}
 use Rattle.nv_reply.proofs.strike.strike_ports.Given as goal
 
 -- the ports that are left are struck out of this state as all were of the first

@@ -1,32 +1,36 @@
-use Rattle.std.proofs.Common.{◌≡◌, ◌++◌, false, true, map, append-nil, sym, ap, ◌∙◌}
+use Rattle.std.proofs.Common.{◌≡◌, ◌++◌, map, append-nil, sym, ap, subst, ◌∙◌}
 use Rattle.nv_base.specs.declared.object.ObjId.{ObjId}
 use Rattle.nb_model.specs.Names.{names}
 use Rattle.net_meaning.specs.Places.{datapath_at}
+use Rattle.tr_pipe.specs.Runnable.{IsRunnable}
+use Rattle.tr_stage.specs.Machine.{flows_of}
 use Rattle.tr_walk.specs.declared.event.Event.TheVariants as variants
-use Rattle.tr_walk.proofs.Runs.{no_change, no_hits, no_outcome, switch_runs}
+use Rattle.tr_walk.proofs.Runs.{datapath_runs, no_change, no_hits, no_outcome}
 use Rattle.tr_walk.proofs.run.run.Goals as goal
+use Rattle.tr_walk.proofs.run.run.Goals.{Then-dp-eq0}
 
-pub returns-then-not-is_switch-clause-hits : goal.returns-then-not-is_switch-clause-hits
-returns-then-not-is_switch-clause-hits c =
+-- there is no such port
+no_datapath : (c : Then-dp-eq0) → (datapath_at c.args.flows.records.now c.args.port).0 ≡ 0
+no_datapath c = ap (λ (dp : ObjId). dp.0) (sym c.datapath_at-dp.ensures) ∙ c.if-dp-eq0.true
+
+pub returns-then-dp-eq0-clause-hits : goal.returns-then-dp-eq0-clause-hits
+returns-then-dp-eq0-clause-hits c =
     let net = c.args.flows.records.now in
-    let other : (names net).is_switch (datapath_at net c.args.port) ≡ false = ap (λ (dp : ObjId). (names net).is_switch dp) (sym c.datapath_at-dp.ensures) ∙ sym c.is_switch.ensures ∙ c.if-not-is_switch.true in
     sym (append-nil c.args.events.now.items)
-    ∙ ap (λ hits. c.args.events.now.items ++ map variants.Hit hits) (sym (no_hits net c.requires.rows.sound (datapath_at net c.args.port) other c.args.packet.now c.args.pipeline c.args.table c.args.work.now.state))
+    ∙ ap (λ hits. c.args.events.now.items ++ map variants.Hit hits) (sym (no_hits net c.requires.rows.sound (datapath_at net c.args.port) (no_datapath c) c.args.packet.now c.args.pipeline c.args.table c.args.work.now.state))
 
-pub returns-then-not-is_switch-clause-outcome : goal.returns-then-not-is_switch-clause-outcome
-returns-then-not-is_switch-clause-outcome c =
+pub returns-then-dp-eq0-clause-outcome : goal.returns-then-dp-eq0-clause-outcome
+returns-then-dp-eq0-clause-outcome c =
     let net = c.args.flows.records.now in
-    let other : (names net).is_switch (datapath_at net c.args.port) ≡ false = ap (λ (dp : ObjId). (names net).is_switch dp) (sym c.datapath_at-dp.ensures) ∙ sym c.is_switch.ensures ∙ c.if-not-is_switch.true in
-    sym (no_outcome net c.requires.rows.sound (datapath_at net c.args.port) other c.args.packet.now c.args.pipeline c.args.table c.args.work.now.state)
+    sym (no_outcome net c.requires.rows.sound (datapath_at net c.args.port) (no_datapath c) c.args.packet.now c.args.pipeline c.args.table c.args.work.now.state)
 
-pub returns-then-not-is_switch-clause-state : goal.returns-then-not-is_switch-clause-state
-returns-then-not-is_switch-clause-state c =
+pub returns-then-dp-eq0-clause-state : goal.returns-then-dp-eq0-clause-state
+returns-then-dp-eq0-clause-state c =
     let net = c.args.flows.records.now in
-    let other : (names net).is_switch (datapath_at net c.args.port) ≡ false = ap (λ (dp : ObjId). (names net).is_switch dp) (sym c.datapath_at-dp.ensures) ∙ sym c.is_switch.ensures ∙ c.if-not-is_switch.true in
-    sym (no_change net c.requires.rows.sound (datapath_at net c.args.port) other c.args.packet.now c.args.pipeline c.args.table c.args.work.now.state)
+    sym (no_change net c.requires.rows.sound (datapath_at net c.args.port) (no_datapath c) c.args.packet.now c.args.pipeline c.args.table c.args.work.now.state)
 
 pub run_pipeline-requires-clause-rows : goal.run_pipeline-requires-clause-rows
 run_pipeline-requires-clause-rows c =
     let net = c.args.flows.records.now in
-    let there : (names net).is_switch c.datapath_at-dp.result ≡ true = sym c.is_switch.ensures ∙ c.if-not-is_switch.false in
-    switch_runs net c.args.flows.rows.now c.requires.rows c.datapath_at-dp.result there
+    subst (λ (dp : ObjId). IsRunnable (flows_of c.args.flows.rows.now (names net) dp)) (sym c.datapath_at-dp.ensures)
+    (datapath_runs net c.args.flows.rows.now c.requires.rows c.args.port (λ zero_is. c.if-dp-eq0.false (ap (λ (dp : ObjId). dp.0) c.datapath_at-dp.ensures ∙ zero_is)))

@@ -1,8 +1,7 @@
-use Rattle.std.proofs.Common.{◌≡◌, ◌≤◌, ◌∷◌, [], ◌++◌, List, Option, Some, slice_get, ap, ◌∙◌, sym, arith}
+use Rattle.std.proofs.Common.{◌∷◌, ◌++◌, ap, ◌∙◌, sym, arith}
 use Rattle.std.specs.List.{flat_map}
 use Rattle.nv_table.specs.Table.{order_at}
 use Rattle.nb_records.specs.Tags.{ips_of, ip_tags, peer_tags, tag_cmp}
-use Rattle.nb_records.specs.declared.tag.Tag.{Tag}
 use Rattle.nb_records.specs.declared.tag.Tag.TheVariants as tag_of
 use Rattle.nb_records.specs.declared.switch.PortKind.TheVariants as kind
 use Rattle.nb_records.proofs.Told.{after_two}

@@ -1,0 +1,6 @@
+//! The names of ports by their numbers.
+#![tactic(auto)]
+
+mod port_names;
+
+pub use port_names::PortNames;

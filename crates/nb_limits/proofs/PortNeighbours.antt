@@ -1,0 +1,187 @@
+-- How many neighbours there may be once a port has other addresses, or a host's port is gone.
+use Rattle.std.proofs.Common.{◌≡◌, ℕ, ◌+◌, ◌*◌, ◌≤◌, Bool, true, false, cond, not, ◌&&◌, List, [], ◌∷◌, map, Option, Some, None, arith, refl, sym, ap, ◌∙◌, subst, length}
+use Rattle.std.proofs.lemmas.Bool.{and_parts, cond_both, not-true}
+use Rattle.std.specs.Prelude.{IsTrue, find, filter, option_map}
+use Rattle.std.specs.List.{list_all}
+use Rattle.std.specs.Str.{bytes_eq}
+use Rattle.nb_records.specs.declared.refusal.Kind.TheVariants as kind
+use Rattle.nb_records.specs.declared.router.RouterPort.{RouterPort}
+use Rattle.nb_records.specs.declared.switch.Addr.{Addr}
+use Rattle.nb_records.specs.declared.switch.Port.{Port}
+use Rattle.nb_model.specs.Amounts.{amount, total, ip_count, net_count, pair_count, neighbours_across}
+use Rattle.nb_model.specs.Belongs.{is_to_router, is_name, is_port, peer_port, peer_router_port}
+use Rattle.nb_model.specs.Effect.{delete_port, set_port, without}
+use Rattle.nb_model.specs.Network.{Network, same}
+use Rattle.nb_model.specs.Readable.{are_apart}
+use Rattle.nb_model.proofs.Alike.{names_sym, same_names}
+use Rattle.nb_model.proofs.AnyOf.{all_true, find_changed}
+use Rattle.nb_model.proofs.RisesNeighbours.{is_across, is_peer_of}
+use Rattle.nb_model.proofs.Totals.{le_equal, le_self, le_trans, total_cons, total_kept_twice, total_le}
+use Rattle.nb_limits.proofs.NewVips.{one_total}
+use Rattle.nb_limits.proofs.Rest.{same_met}
+use Rattle.nb_limits.proofs.Swapped.{total_filter, total_same}
+
+-- A sum of which each part is at most so much more.
+each_more : {X : Type 0} (f g : X → ℕ) (k : ℕ) (xs : List X) → ((x : X) → f x ≤ g x + k) → total f xs ≤ total g xs + k * length xs
+each_more f g k [] less = omega arith
+each_more f g k (x ∷ xs) less =
+    joined (total f (x ∷ xs)) (f x) (total f xs) (total g (x ∷ xs)) (g x) (total g xs) (k * length (x ∷ xs)) (k * length xs) (total_cons f x xs) (total_cons g x xs) (ap (λ n. k * n) longer ∙ once (length xs)) (less x) (each_more f g k xs less)
+  where
+    longer : length (x ∷ xs) ≡ 1 + length xs
+    longer = omega arith
+
+    once : (n : ℕ) → k * (1 + n) ≡ k + k * n
+    once n = grind arith
+
+    joined : (v a b w c d m n : ℕ) → v ≡ a + b → w ≡ c + d → m ≡ k + n → a ≤ c + k → b ≤ d + n → v ≤ w + m
+    joined v a b w c d m n e f g low high = omega (arith, e, f, g, low, high)
+
+-- the port by its number alone
+same_port : (a b : Port) → a.id ≡ b.id → (found : Option Port) → is_port a found ≡ is_port b found
+same_port a b is None = refl
+same_port a b is (Some other) = ap (λ n. same n other.id) is
+
+at_most_more : (a b k : ℕ) → a ≡ b → a ≤ b + k
+at_most_more a b k is = omega (arith, is)
+
+more_of : (k n : ℕ) → k ≤ n + k
+more_of k n = omega arith
+
+-- Other addresses of one port.
+module _ (net : Network) (name : List ℕ) (list : List Addr) (apart : IsTrue (are_apart bytes_eq (map (λ (p : Port). p.name) net.ports))) where
+  abbrev more : ℕ
+  more = total ip_count list
+
+  abbrev addressed : Port → Port
+  addressed port = record port { addresses = list }
+
+  abbrev changed : Port → Port
+  changed port = cond (bytes_eq port.name name) (addressed port) port
+
+  abbrev after : Network
+  after = record net { ports = map changed net.ports }
+
+  same_id : (port : Port) → (changed port).id ≡ port.id
+  same_id port = cond_both (bytes_eq port.name name) (addressed port) port (λ p. p.id ≡ port.id) (λ is. refl) (λ is. refl)
+
+  same_switch : (port : Port) → (changed port).switch ≡ port.switch
+  same_switch port = cond_both (bytes_eq port.name name) (addressed port) port (λ p. p.switch ≡ port.switch) (λ is. refl) (λ is. refl)
+
+  same_kind : (port : Port) → is_to_router (changed port) ≡ is_to_router port
+  same_kind port = cond_both (bytes_eq port.name name) (addressed port) port (λ p. is_to_router p ≡ is_to_router port) (λ is. refl) (λ is. refl)
+
+  same_option : (port : Port) → (changed port).router_port ≡ port.router_port
+  same_option port = cond_both (bytes_eq port.name name) (addressed port) port (λ p. p.router_port ≡ port.router_port) (λ is. refl) (λ is. refl)
+
+  peers : (port : RouterPort) → peer_port after port ≡ option_map changed (peer_port net port)
+  peers port = find_changed (is_peer_of port.name) (is_peer_of port.name) changed net.ports (λ other. λ i. same_kind other i && is_name (same_option other i) port.name)
+
+  is_peer : (own : Port) (found : Option Port) → is_port own (option_map changed found) ≡ is_port own found
+  is_peer own None = refl
+  is_peer own (Some peer) = ap (same own.id) (same_id peer)
+
+  peer_ports : (own : Port) → peer_router_port after own ≡ peer_router_port net own
+  peer_ports own =
+      same_met (λ other. is_port own (peer_port after other)) (λ other. is_port own (peer_port net other)) net.router_ports (λ other. ap (is_port own) (peers other) ∙ is_peer own (peer_port net other))
+
+  pairs : (own : Port) → pair_count after own ≡ pair_count net own
+  pairs own = ap (λ o. cond (is_to_router own) (net_count o) (total ip_count own.addresses)) (peer_ports own)
+
+  addressed_pairs : (own : Port) → pair_count after (addressed own) ≤ pair_count after own + more
+  addressed_pairs own = by (is_to_router own)
+    where
+      met : peer_router_port after (addressed own) ≡ peer_router_port after own
+      met = same_met (λ other. is_port (addressed own) (peer_port after other)) (λ other. is_port own (peer_port after other)) net.router_ports (λ other. same_port (addressed own) own refl (peer_port after other))
+
+      by : (b : Bool) → cond b (net_count (peer_router_port after (addressed own))) more ≤ cond b (net_count (peer_router_port after own)) (total ip_count own.addresses) + more
+      by true = at_most_more (net_count (peer_router_port after (addressed own))) (net_count (peer_router_port after own)) more (ap net_count met)
+      by false = more_of more (total ip_count own.addresses)
+
+  -- what a port counts for across this peer
+  abbrev counted : Port → Port → ℕ
+  counted peer own = cond (is_across peer own) (pair_count after own) 0
+
+  addressed_counted : (peer own : Port) → counted peer (addressed own) ≤ counted peer own + more
+  addressed_counted peer own = by (is_across peer own)
+    where
+      by : (b : Bool) → cond b (pair_count after (addressed own)) 0 ≤ cond b (pair_count after own) 0 + more
+      by true = addressed_pairs own
+      by false = omega arith
+
+  counted_before : (peer own : Port) → counted (changed peer) own ≡ cond (is_across peer own) (pair_count net own) 0
+  counted_before peer own =
+      ap (λ id. cond (own.enabled && (same own.switch (changed peer).switch && not (same own.id id))) (pair_count after own) 0) (same_id peer)
+      ∙ ap (λ switch. cond (own.enabled && (same own.switch switch && not (same own.id peer.id))) (pair_count after own) 0) (same_switch peer)
+      ∙ ap (λ n. cond (is_across peer own) n 0) (pairs own)
+
+  across : (peer : Option Port) → neighbours_across after (option_map changed peer) ≤ neighbours_across net peer + more
+  across None = omega arith
+  across (Some peer) =
+      subst (λ n. n ≤ neighbours_across net (Some peer) + more) (sym (total_filter (pair_count after) (is_across (changed peer)) (map changed net.ports)))
+      (subst (λ n. total (counted (changed peer)) (map changed net.ports) ≤ n + more)
+      (total_same (counted (changed peer)) (λ own. cond (is_across peer own) (pair_count net own) 0) net.ports (counted_before peer) ∙ sym (total_filter (pair_count net) (is_across peer) net.ports))
+      (one_total (λ (p : Port). p.name) name addressed (counted (changed peer)) more (addressed_counted (changed peer)) net.ports apart))
+
+  pub addresses_bring : amount (set_port net name (λ p. record p { addresses = list })) kind.Neighbour ≤ amount net kind.Neighbour + total ip_count list * length net.router_ports
+  addresses_bring =
+      each_more (λ port. neighbours_across after (peer_port after port)) (λ port. neighbours_across net (peer_port net port)) more net.router_ports
+      (λ port. subst (λ peer. neighbours_across after peer ≤ neighbours_across net (peer_port net port) + more) (sym (peers port)) (across (peer_port net port)))
+
+-- A port less, which is a host's.
+
+-- what is found, if anything is, is a host's port
+abbrev pub IsHosts : Option Port → Type 0
+IsHosts None = Unit {0}
+IsHosts (Some port) = is_to_router port ≡ false
+
+module _ (name : List ℕ) where
+  abbrev gone : Port → Bool
+  gone port = bytes_eq port.name name
+
+  none_gone : (own : List ℕ) (ports : List Port) → own ≡ name → IsTrue (list_all (λ other. not (bytes_eq own other)) (map (λ (p : Port). p.name) ports)) → without gone ports ≡ ports
+  none_gone own [] is apart = refl
+  none_gone own (p ∷ ports) is apart =
+      let parts = and_parts (not (bytes_eq own p.name)) (list_all (λ other. not (bytes_eq own other)) (map (λ (x : Port). x.name) ports)) apart in
+      let other : gone p ≡ false = names_sym p.name name ∙ ap (λ n. bytes_eq n p.name) (sym is) ∙ not-true (bytes_eq own p.name) parts.0 in
+      ap (λ b. cond (not b) (p ∷ without gone ports) (without gone ports)) other ∙ ap (λ (ps : List Port). p ∷ ps) (none_gone own ports is parts.1)
+
+  module _ (q : Port → Bool) (of_routers : (port : Port) → is_to_router port ≡ false → q port ≡ false) where
+    still_found : (ports : List Port) → IsTrue (are_apart bytes_eq (map (λ (p : Port). p.name) ports)) → IsHosts (find gone ports) → find q (without gone ports) ≡ find q ports
+    still_found [] apart host = refl
+    still_found (p ∷ ports) apart host =
+        let parts = and_parts (list_all (λ other. not (bytes_eq p.name other)) (map (λ (x : Port). x.name) ports)) (are_apart bytes_eq (map (λ (x : Port). x.name) ports)) apart in
+        by (gone p) refl host parts.0 (still_found ports parts.1)
+      where
+        later : (b : Bool) → find q (without gone ports) ≡ find q ports → cond b (Some p) (find q (without gone ports)) ≡ cond b (Some p) (find q ports)
+        later b rest = ap (λ (o : Option Port). cond b (Some p) o) rest
+
+        by : (b : Bool) → gone p ≡ b → IsHosts (cond b (Some p) (find gone ports)) → IsTrue (list_all (λ other. not (bytes_eq p.name other)) (map (λ (x : Port). x.name) ports))
+            → (IsHosts (find gone ports) → find q (without gone ports) ≡ find q ports)
+            → find q (cond (not b) (p ∷ without gone ports) (without gone ports)) ≡ cond (q p) (Some p) (find q ports)
+        by true is hosts differ rest = ap (find q) (none_gone p.name ports (same_names p.name name is) differ) ∙ sym (ap (λ b. cond b (Some p) (find q ports)) (of_routers p hosts))
+        by false is hosts differ rest = later (q p) (rest hosts)
+
+module _ (net : Network) (name : List ℕ) (apart : IsTrue (are_apart bytes_eq (map (λ (p : Port). p.name) net.ports))) (host : IsHosts (find (λ port. bytes_eq port.name name) net.ports)) where
+  abbrev left : Network
+  left = delete_port net name
+
+  left_peers : (port : RouterPort) → peer_port left port ≡ peer_port net port
+  left_peers port = still_found name (is_peer_of port.name) (λ other is. ap (λ b. b && is_name other.router_port port.name) is) net.ports apart host
+
+  left_pairs : (own : Port) → pair_count left own ≡ pair_count net own
+  left_pairs own =
+      ap (λ o. cond (is_to_router own) (net_count o) (total ip_count own.addresses))
+      (same_met (λ other. is_port own (peer_port left other)) (λ other. is_port own (peer_port net other)) net.router_ports (λ other. ap (is_port own) (left_peers other)))
+
+  left_across : (peer : Option Port) → neighbours_across left peer ≤ neighbours_across net peer
+  left_across None = le_self 0
+  left_across (Some peer) =
+      le_trans (neighbours_across left (Some peer)) (total (pair_count net) (filter (is_across peer) (without (gone name) net.ports))) (neighbours_across net (Some peer))
+      (le_equal (neighbours_across left (Some peer)) (total (pair_count net) (filter (is_across peer) (without (gone name) net.ports)))
+      (total_same (pair_count left) (pair_count net) (filter (is_across peer) (without (gone name) net.ports)) left_pairs))
+      (total_kept_twice (pair_count net) (λ p. not (gone name p)) (is_across peer) net.ports)
+
+  pub hosts_leave : amount (delete_port net name) kind.Neighbour ≤ amount net kind.Neighbour
+  hosts_leave =
+      total_le (λ port. neighbours_across left (peer_port left port)) (λ port. neighbours_across net (peer_port net port)) (λ port. true) net.router_ports (all_true net.router_ports)
+      (λ port of. subst (λ peer. neighbours_across left peer ≤ neighbours_across net (peer_port net port)) (sym (left_peers port)) (left_across (peer_port net port)))

@@ -1,0 +1,3 @@
+-- What private contracts and proofs cite. The clauses of the public calls cite none of it.
+pub mod Externals
+pub mod Made

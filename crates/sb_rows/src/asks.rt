@@ -1,0 +1,533 @@
+//! What a match asks of a packet before all else, and the bucket that this tells.
+ghost use Rattle.std.specs.Prelude.{◌≡◌, ℕ, List, Some, true, bit_and, IsTrue};
+ghost use Rattle.std.specs.Option.{option_copied};
+ghost use Rattle.expr_core.specs.Formula.{formulas};
+ghost use Rattle.expr_core.specs.Formula.Formula.{Leaf, And};
+ghost use Rattle.expr_core.specs.declared.typed.TypedAtom.TheVariants.{Compare};
+ghost use Rattle.expr_core.specs.Lookup.{Lookup};
+ghost use Rattle.expr_eval.specs.MatchMeaning.{holds};
+ghost use Rattle.expr_eval.specs.Relation.{equals, equals_item};
+ghost use Rattle.pkt_core.specs.Packet.{Values, value};
+ghost use Rattle.sb_rows.specs.inner.Asks.{Adds, AreNames, HasAsked, IsKnown, bucket_at, bucket_in, bucket_of, joined, masked_bucket, mixed, name_bucket, number_bucket, port_field, shape_of};
+
+use expr_core::{Bits, Item, Node, Rel, Right, Typed, TypedAtom};
+use expr_ports::PortNames;
+use nv_base::{Field, Name, ObjId};
+use pkt_core::Packet;
+
+// By this number buckets are mixed.
+const MIX: u128 = 0x9E37_79B9_7F4A_7C15;
+
+// Which port of a packet.
+#[derive(Clone, Copy)]
+pub(crate) enum Side {
+    // That by which it came in.
+    In,
+    // That by which it goes out.
+    Out,
+}
+
+// What a bucket is told by, of the numbers of a packet.
+#[derive(Clone, Copy)]
+pub(crate) enum Part {
+    // By nothing: each packet is in one bucket.
+    Anything,
+    // By the number of a field.
+    Number(Field),
+    // By the first bits of a number of 32 bits, those of a mask.
+    Masked(Field, u32),
+}
+
+// What a bucket is told by: the name of a port, where one is asked for, and up to three numbers.
+#[derive(Clone, Copy)]
+pub(crate) struct Shape {
+    port: Option<Side>,
+    first: Part,
+    second: Part,
+    third: Part,
+}
+
+// A number that is asked of a packet, by its bucket.
+#[derive(Clone, Copy)]
+struct Asked {
+    part: Part,
+    bucket: u64,
+}
+
+// What a match asks of a packet: the name of a port, by its bucket, and the three numbers that have the most bits.
+#[derive(Clone, Copy)]
+pub(crate) struct Asks {
+    port: Option<Side>,
+    name: u64,
+    first: Asked,
+    second: Asked,
+    third: Asked,
+}
+
+// The bucket that one more number tells.
+#[inline]
+fn mixed(bucket: u64, number: u128) -> u64
+    ensures { result ≡ mixed bucket number }
+{
+    ((u128::from(bucket) * MIX + number % (1 << 64)) % (1 << 64)) as u64
+}
+
+// The bucket of a name.
+fn name_bucket(name: &Name) -> u64
+    ensures { result ≡ name_bucket name.now }
+{
+    let mut bucket = 0;
+    for byte in name.as_slice() {
+        bucket = mixed(bucket, u128::from(*byte));
+    }
+    bucket
+}
+
+// The bucket of a number of a field.
+#[inline]
+fn number_bucket(field: Field, number: u128) -> u64
+    ensures { result ≡ number_bucket field number }
+{
+    mixed(u64::from(field.number()), number)
+}
+
+// The bucket of the bits of a mask.
+#[inline]
+fn masked_bucket(field: Field, mask: u32, number: u128) -> u64
+    ensures { result ≡ masked_bucket field mask number }
+{
+    let mask = u128::from(mask);
+    mixed(mixed(u64::from(field.number()), mask), number & mask)
+}
+
+impl Part {
+    // How many bits are asked.
+    #[inline]
+    fn width(self) -> u32 {
+        match self {
+            Part::Anything => 0,
+            Part::Number(field) => u32::from(field.width()),
+            Part::Masked(_, mask) => mask.count_ones(),
+        }
+    }
+
+    // The bucket of what a packet has there.
+    #[inline]
+    fn bucket_at(self, packet: &Packet) -> u64
+        ensures { result ≡ bucket_at self packet.now }
+    {
+        match self {
+            Part::Anything => 0,
+            Part::Number(field) => number_bucket(field, packet.get(field)),
+            Part::Masked(field, mask) => masked_bucket(field, mask, packet.get(field)),
+        }
+    }
+}
+
+impl Side {
+    // The number of a packet's port.
+    #[inline]
+    pub(crate) fn port(self, packet: &Packet) -> ObjId
+        ensures { result.0 ≡ value packet.now (port_field self) }
+    {
+        match self {
+            Side::In => ObjId(packet.get(Field::Inport) as u32),
+            Side::Out => ObjId(packet.get(Field::Outport) as u32),
+        }
+    }
+}
+
+// The buckets of the names that a packet's port may have.
+#[derive(Clone, Copy)]
+pub(crate) struct Ports {
+    pub(crate) one: Option<u64>,
+    pub(crate) other: Option<u64>,
+}
+
+// Those of one of a packet's ports.
+#[derive(Clone, Copy)]
+pub(crate) struct Known {
+    side: Side,
+    ports: Ports,
+}
+
+// The bucket of a name, where there is one.
+fn bucket_of_name(name: Option<&Name>) -> Option<u64>
+    ensures { (own : List ℕ) → option_copied name.entry ≡ Some own → result ≡ Some (name_bucket own) }
+{
+    match name {
+        Some(name) => Some(name_bucket(name)),
+        None => None,
+    }
+}
+
+// The buckets of the names of a packet's port.
+fn ports_at<E: PortNames>(side: Side, packet: &Packet, env: &E) -> Ports
+    ensures { AreNames side result (E.lookup env.now) packet.now }
+{
+    let (one, other) = env.port_names(side.port(packet));
+    Ports {
+        one: bucket_of_name(one),
+        other: bucket_of_name(other),
+    }
+}
+
+// Those of a port, where it is one of which they are wanted.
+pub(crate) fn known_at<E: PortNames>(side: Option<Side>, packet: &Packet, env: &E) -> Option<Known>
+    ensures { IsKnown result (E.lookup env.now) packet.now }
+{
+    match side {
+        Some(side) => Some(Known {
+            side,
+            ports: ports_at(side, packet, env),
+        }),
+        None => None,
+    }
+}
+
+// Those of this port, which need not be asked for again where they are known.
+#[inline]
+pub(crate) fn ports_by<E: PortNames>(
+    known: Option<Known>,
+    side: Side,
+    packet: &Packet,
+    env: &E,
+) -> Ports
+    requires { IsKnown known (E.lookup env.now) packet.now }
+    ensures { AreNames side result (E.lookup env.now) packet.now }
+{
+    match known {
+        Some(known) if is_same_side(known.side, side) => known.ports,
+        _ => ports_at(side, packet, env),
+    }
+}
+
+// The bucket of a port's name, by its own, and of numbers, by theirs.
+#[inline]
+fn joined(name: u64, first: u64, second: u64, third: u64) -> u64
+    ensures { result ≡ joined name first second third }
+{
+    let named = mixed(name, u128::from(first));
+    mixed(mixed(named, u128::from(second)), u128::from(third))
+}
+
+// Whether two parts are one.
+fn is_same_part(one: Part, other: Part) -> bool
+    ensures { IsTrue result → one ≡ other }
+{
+    match (one, other) {
+        (Part::Anything, Part::Anything) => true,
+        (Part::Number(field), Part::Number(there)) => field == there,
+        (Part::Masked(field, mask), Part::Masked(there, bits)) => field == there && mask == bits,
+        _ => false,
+    }
+}
+
+// Whether two sides are one.
+#[inline]
+pub(crate) fn is_same_side(one: Side, other: Side) -> bool
+    ensures { IsTrue result → one ≡ other }
+{
+    match (one, other) {
+        (Side::In, Side::In) | (Side::Out, Side::Out) => true,
+        _ => false,
+    }
+}
+
+// Whether the name of the same port is asked for, or of none.
+fn is_same_port(one: Option<Side>, other: Option<Side>) -> bool
+    ensures { IsTrue result → one ≡ other }
+{
+    match (one, other) {
+        (None, None) => true,
+        (Some(one), Some(other)) => is_same_side(one, other),
+        _ => false,
+    }
+}
+
+impl Shape {
+    // That by which each packet is in one bucket.
+    pub(crate) fn nothing() -> Shape {
+        Asks::nothing().shape()
+    }
+
+    // Whether two shapes are one.
+    pub(crate) fn is_same(self, other: Shape) -> bool
+        ensures { IsTrue result → self ≡ other }
+    {
+        is_same_part(self.first, other.first)
+            && is_same_part(self.second, other.second)
+            && is_same_part(self.third, other.third)
+            && is_same_port(self.port, other.port)
+    }
+
+    // The port whose name is asked for.
+    #[inline]
+    pub(crate) fn port(self) -> Option<Side>
+        ensures { result ≡ self.port }
+    {
+        self.port
+    }
+
+    // The bucket of this shape that a packet is in whose port's name has a bucket.
+    #[inline]
+    pub(crate) fn bucket_in(self, name: u64, packet: &Packet) -> u64
+        ensures { result ≡ bucket_in self name packet.now }
+    {
+        let first = self.first.bucket_at(packet);
+        let second = self.second.bucket_at(packet);
+        joined(name, first, second, self.third.bucket_at(packet))
+    }
+}
+
+impl Asks {
+    // What each packet has.
+    fn nothing() -> Asks
+        ensures { (net : Lookup) (packet : Values) → HasAsked result net packet }
+    {
+        let nothing = Asked {
+            part: Part::Anything,
+            bucket: 0,
+        };
+        Asks {
+            port: None,
+            name: 0,
+            first: nothing,
+            second: nothing,
+            third: nothing,
+        }
+    }
+
+    // What the match asks: all that is kept of it, or a name and the first number alone.
+    pub(crate) fn of(matching: &Typed, all: bool) -> Asks
+        ensures { (net : Lookup) (packet : Values) → holds net packet matching.now ≡ true → HasAsked result net packet }
+    {
+        let asks = Asks::nothing().with_match(matching);
+        if all { asks } else { asks.in_short() }
+    }
+
+    // This, without the second and the third number.
+    fn in_short(self) -> Asks
+        ensures { (net : Lookup) (packet : Values) → HasAsked self net packet → HasAsked result net packet }
+    {
+        let nothing = Asked {
+            part: Part::Anything,
+            bucket: 0,
+        };
+        Asks {
+            second: nothing,
+            third: nothing,
+            ..self
+        }
+    }
+
+    // The port whose name is asked for.
+    pub(crate) fn port(self) -> Option<Side> {
+        self.port
+    }
+
+    // What its bucket is told by.
+    pub(crate) fn shape(self) -> Shape
+        ensures { result ≡ shape_of self }
+    {
+        Shape {
+            port: self.port,
+            first: self.first.part,
+            second: self.second.part,
+            third: self.third.part,
+        }
+    }
+
+    // The bucket of what is asked.
+    pub(crate) fn bucket(self) -> u64
+        ensures { result ≡ bucket_of self }
+    {
+        joined(
+            self.name,
+            self.first.bucket,
+            self.second.bucket,
+            self.third.bucket,
+        )
+    }
+
+    // This, and a number, where it has more bits than another.
+    #[inline(always)]
+    fn with_number(self, asked: Asked) -> Asks
+        ensures { (net : Lookup) (packet : Values) → HasAsked self net packet
+            → bucket_at asked.part packet ≡ asked.bucket → HasAsked result net packet }
+    {
+        let width = asked.part.width();
+        if width > self.first.part.width() {
+            Asks {
+                first: asked,
+                second: self.first,
+                third: self.second,
+                ..self
+            }
+        } else if width > self.second.part.width() {
+            Asks {
+                second: asked,
+                third: self.second,
+                ..self
+            }
+        } else if width > self.third.part.width() {
+            Asks {
+                third: asked,
+                ..self
+            }
+        } else {
+            self
+        }
+    }
+
+    // This, and the bits of a mask, where they are the first of 32, and not none.
+    fn with_masked(self, field: Field, base: u128, mask: u128) -> Asks
+        ensures { (net : Lookup) (packet : Values) → HasAsked self net packet
+            → bit_and (value packet field) mask ≡ bit_and base mask → HasAsked result net packet }
+    {
+        let all = (1 << 32) - 1;
+        if mask == 0 || mask > all || mask | (mask - 1) != all {
+            return self;
+        }
+        let mask = mask as u32;
+        self.with_number(Asked {
+            part: Part::Masked(field, mask),
+            bucket: masked_bucket(field, mask, base),
+        })
+    }
+
+    // This, and the name of a port, where none is asked for yet.
+    fn with_name(self, side: Side, name: &Name) -> Asks
+        ensures { (net : Lookup) (packet : Values) → HasAsked self net packet
+            → net.port name.now ≡ Some (record { 0 = value packet (port_field side) }) → HasAsked result net packet }
+    {
+        if self.port.is_some() {
+            return self;
+        }
+        Asks {
+            port: Some(side),
+            name: name_bucket(name),
+            ..self
+        }
+    }
+
+    // This, and the name of the port of a field, where it is a port's.
+    fn with_port(self, field: Field, name: &Name) -> Asks
+        ensures { (net : Lookup) (packet : Values) → HasAsked self net packet
+            → net.port name.now ≡ Some (record { 0 = value packet field }) → HasAsked result net packet }
+    {
+        match field {
+            Field::Inport => self.with_name(Side::In, name),
+            Field::Outport => self.with_name(Side::Out, name),
+            _ => self,
+        }
+    }
+
+    // This, and that a number of a field equals an item.
+    #[inline(always)]
+    fn with_item(self, field: Field, item: &Item) -> Asks
+        ensures { (net : Lookup) (packet : Values) (width : ℕ) → HasAsked self net packet
+            → equals_item net width (value packet field) item.now ≡ true → HasAsked result net packet }
+    {
+        match item {
+            Item::One(constant) => self.with_number(Asked {
+                part: Part::Number(field),
+                bucket: number_bucket(field, constant.value),
+            }),
+            Item::Masked(base, mask) => self.with_masked(field, base.value, base.mask_of(*mask)),
+            Item::Text(name) => self.with_port(field, name),
+            Item::AddrSet(_) | Item::Group(_) => self,
+        }
+    }
+
+    // This, and that a number of a field equals an item or one of them, where it is one.
+    #[inline(always)]
+    fn with_right(self, field: Field, right: &Right) -> Asks
+        ensures { (net : Lookup) (packet : Values) (width : ℕ) → HasAsked self net packet
+            → equals net width (value packet field) right.now ≡ true → HasAsked result net packet }
+    {
+        match right {
+            Right::Item(item) => self.with_item(field, item),
+            Right::Set(items) => match items.as_slice() {
+                [item] => self.with_item(field, item),
+                _ => self,
+            },
+        }
+    }
+
+    // This, and what the comparison of a part of a field asks.
+    #[inline(always)]
+    fn with_comparison(self, field: Field, bits: Bits, rel: Rel, right: &Right) -> Asks
+        ensures { Adds (Leaf (Compare field bits rel right.now)) self result }
+    {
+        match (bits, rel) {
+            (Bits::Whole, Rel::Eq) => self.with_right(field, right),
+            _ => self,
+        }
+    }
+
+    // This, and what an atom asks.
+    #[inline(always)]
+    fn with_atom(self, atom: &TypedAtom) -> Asks
+        ensures { Adds (Leaf atom.now) self result }
+    {
+        match atom {
+            TypedAtom::Compare(field, bits, rel, right) => {
+                self.with_comparison(*field, *bits, *rel, right)
+            }
+            _ => self,
+        }
+    }
+
+    // This, and what a match without operators asks.
+    fn with_plain(self, matching: &Typed) -> Asks
+        ensures { Adds matching.now self result }
+    {
+        match &matching.node {
+            Node::Atom(atom) => self.with_atom(atom),
+            _ => self,
+        }
+    }
+
+    // This, and what operands ask of a conjunction, those without operators.
+    fn with_plain_ones(self, operands: &[Typed]) -> Asks
+        ensures { Adds (And (formulas operands.now)) self result }
+    {
+        let mut asks = self;
+        for operand in operands {
+            asks = asks.with_plain(operand);
+        }
+        asks
+    }
+
+    // This, and what a match asks that is an operand.
+    fn with_operand(self, matching: &Typed) -> Asks
+        ensures { Adds matching.now self result }
+    {
+        match &matching.node {
+            Node::And(operands) => self.with_plain_ones(operands),
+            _ => self.with_plain(matching),
+        }
+    }
+
+    // This, and what operands ask of a conjunction.
+    fn with_operands(self, operands: &[Typed]) -> Asks
+        ensures { Adds (And (formulas operands.now)) self result }
+    {
+        let mut asks = self;
+        for operand in operands {
+            asks = asks.with_operand(operand);
+        }
+        asks
+    }
+
+    // This, and what a match asks: of a conjunction its operands, and of one among these its own.
+    fn with_match(self, matching: &Typed) -> Asks
+        ensures { Adds matching.now self result }
+    {
+        match &matching.node {
+            Node::And(operands) => self.with_operands(operands),
+            _ => self.with_plain(matching),
+        }
+    }
+}

@@ -1,0 +1,14 @@
+pub mod Alike
+pub mod Egress
+pub mod Ends
+pub mod Formed
+pub mod Hops
+pub mod Ingress
+pub mod Macs
+pub mod Networks
+pub mod Plain
+pub mod Routed
+pub mod RuleRuns
+pub mod Runs
+pub mod Taken
+pub mod TimeLeft

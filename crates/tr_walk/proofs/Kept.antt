@@ -3,10 +3,10 @@ use Rattle.std.proofs.Common.{◌≡◌, ℕ, ◌<◌, ◌^◌, Bool, true, fals
 use Rattle.std.specs.Prelude.{Option, Some, None, not, ◌&&◌}
 use Rattle.std.specs.Bool.{IsTrue}
 use Rattle.std.specs.List.{AllByRecursion, Contains, filter, list_all, flat_map}
-use Rattle.std.proofs.lemmas.Bool.{and_parts, ltb-true}
+use Rattle.std.proofs.lemmas.Bool.{and_parts, false≢true, ltb-true}
 use Rattle.nv_base.specs.declared.object.ObjId.{ObjId}
 use Rattle.nv_base.specs.declared.field.Field.{Field}
-use Rattle.nv_base.specs.declared.field.Field.TheVariants.{Inport, Outport, FlagsLoopback, ArpTpa, EthDst, CtState, CtMarkBlocked, Reg0}
+use Rattle.nv_base.specs.declared.field.Field.TheVariants.{Inport, Outport, FlagsLoopback, ArpTpa, EthDst, CtState, CtMarkBlocked, Reg0, Reg1, Reg2, Reg3, Reg4, Reg5, Reg6}
 use Rattle.nv_base.specs.Field.{is_header}
 use Rattle.pkt_core.specs.Packet.{Values, IsPacket, place, value, with_value, headers}
 use Rattle.pkt_core.specs.Prerequisite.{is_there}
@@ -31,11 +31,11 @@ use Rattle.net_meaning.specs.Walk.Passed.{GoesOn, Drops, Makes}
 use Rattle.net_meaning.specs.Walk.Target.{OnePort, Ports}
 use Rattle.net_meaning.specs.declared.answer.Answer.TheVariants.{Reject}
 use Rattle.net_meaning.specs.declared.cause.Cause.TheVariants.{Acl, PortSec}
+use Rattle.net_walks.specs.Alike.{ArePackets, IsClean, IsInside, IsKept, IsPort, is_register}
 use Rattle.net_rows.proofs.Elements.{one_first, one_later}
 use Rattle.pkt_core.proofs.Only.{only_value}
 use Rattle.net_rows.proofs.Sound.{port_of_sound}
-use Rattle.tr_walk.specs.Refined.{IsFresh, IsPort}
-use Rattle.tr_walk.proofs.Congruence.{IsInside, IsKept, ArePackets}
+use Rattle.tr_walk.specs.Refined.{IsFresh}
 use Rattle.tr_walk.proofs.NetworkPorts.{find_gives, its_port, number_fits, other_side}
 use Rattle.tr_walk.proofs.Formed.{Fit, Others, fits_values, other_values, started, started_inport, replied, replied_inport, rejection_is, rejection_inport}
 use Rattle.ls_laws.proofs.Packets.{set_value, other_value, fits_with, fits_only}
@@ -59,42 +59,49 @@ carried_inport packet is =
 no_header : (packet : Values) (field : Field) → is_header field ≡ false → value (headers packet) field ≡ 0
 no_header packet field is_not = only_value packet is_header field ∙ ap (λ b. cond b (value packet field) 0) is_not
 
--- what stages note is not carried
-carried_none : (packet : Values) (field : Field) → is_header field ≡ false → eqb (place Inport) (place field) ≡ false → eqb (place FlagsLoopback) (place field) ≡ false → value (carried packet) field ≡ 0
-carried_none packet field is_not other also =
-    other_value (with_value (headers packet) Inport (value packet Inport)) FlagsLoopback field (value packet FlagsLoopback) also ∙ other_value (headers packet) Inport field (value packet Inport) other ∙ no_header packet field is_not
+-- registers, and what says something of a connection, are neither header fields nor carried
+record IsApart (field : Field) : Type 0 where
+  no_header : is_header field ≡ false
+  no_inport : eqb (place Inport) (place field) ≡ false
+  no_outport : eqb (place Outport) (place field) ≡ false
+  no_loopback : eqb (place FlagsLoopback) (place field) ≡ false
 
-carried_fresh : (packet : Values) → IsFresh (carried packet)
-carried_fresh packet = record {
-  register = carried_none packet Reg0 refl refl refl;
-  flags = carried_none packet CtState refl refl refl;
-  mark = carried_none packet CtMarkBlocked refl refl refl;
-}
+are_apart : (field : Field) → is_register field ≡ true → IsApart field
+are_apart CtState is = record { no_header = refl; no_inport = refl; no_outport = refl; no_loopback = refl }
+are_apart CtMarkBlocked is = record { no_header = refl; no_inport = refl; no_outport = refl; no_loopback = refl }
+are_apart Reg0 is = record { no_header = refl; no_inport = refl; no_outport = refl; no_loopback = refl }
+are_apart Reg1 is = record { no_header = refl; no_inport = refl; no_outport = refl; no_loopback = refl }
+are_apart Reg2 is = record { no_header = refl; no_inport = refl; no_outport = refl; no_loopback = refl }
+are_apart Reg3 is = record { no_header = refl; no_inport = refl; no_outport = refl; no_loopback = refl }
+are_apart Reg4 is = record { no_header = refl; no_inport = refl; no_outport = refl; no_loopback = refl }
+are_apart Reg5 is = record { no_header = refl; no_inport = refl; no_outport = refl; no_loopback = refl }
+are_apart Reg6 is = record { no_header = refl; no_inport = refl; no_outport = refl; no_loopback = refl }
+are_apart _ is = absurd (false≢true is)
 
--- nor is it there in a packet that comes in
-started_none : (packet : Values) (port : ℕ) (field : Field) → is_header field ≡ false → eqb (place Inport) (place field) ≡ false → value (start packet port) field ≡ 0
-started_none packet port field is_not other =
+carried_clean : (packet : Values) → IsClean (carried packet)
+carried_clean packet field is =
+    let apart = are_apart field is in
+    other_value (with_value (headers packet) Inport (value packet Inport)) FlagsLoopback field (value packet FlagsLoopback) apart.no_loopback
+    ∙ other_value (headers packet) Inport field (value packet Inport) apart.no_inport ∙ no_header packet field apart.no_header
+
+-- nor are they there in a packet that comes in
+started_clean : (packet : Values) (port : ℕ) → IsClean (start packet port)
+started_clean packet port field is =
     let coming = with_value (headers packet) Inport port in
-    only_value coming (is_there coming) field ∙ by (is_there coming field) (other_value (headers packet) Inport field port other ∙ no_header packet field is_not)
+    let apart = are_apart field is in
+    only_value coming (is_there coming) field ∙ by (is_there coming field) (other_value (headers packet) Inport field port apart.no_inport ∙ no_header packet field apart.no_header)
   where
     by : (b : Bool) → value (with_value (headers packet) Inport port) field ≡ 0 → cond b (value (with_value (headers packet) Inport port) field) 0 ≡ 0
     by true none = none
     by false none = refl
 
-started_fresh : (packet : Values) (port : ℕ) → IsFresh (start packet port)
-started_fresh packet port = record {
-  register = started_none packet port Reg0 refl refl;
-  flags = started_none packet port CtState refl refl;
-  mark = started_none packet port CtMarkBlocked refl refl;
-}
+-- the port to go out by is none of them
+bound_clean : (packet : Values) (number : ℕ) → IsClean packet → IsClean (with_value packet Outport number)
+bound_clean packet number clean field is = other_value packet Outport field number (are_apart field is).no_outport ∙ clean field is
 
--- the port to go out by is no note
-bound_fresh : (packet : Values) (number : ℕ) → IsFresh packet → IsFresh (with_value packet Outport number)
-bound_fresh packet number fresh = record {
-  register = other_value packet Outport Reg0 number refl ∙ fresh.register;
-  flags = other_value packet Outport CtState number refl ∙ fresh.flags;
-  mark = other_value packet Outport CtMarkBlocked number refl ∙ fresh.mark;
-}
+-- so no stage has noted anything in such a packet
+pub is_fresh : (packet : Values) → IsClean packet → IsFresh packet
+is_fresh packet clean = record { register = clean Reg0 refl; flags = clean CtState refl; mark = clean CtMarkBlocked refl }
 
 pub turned_is : (packet : Values) → IsPacket packet → IsPacket (turned_back packet)
 turned_is packet is =
@@ -137,7 +144,7 @@ module _ (net : Network) where
       by false rest = rest
 
   pub inside : (packet : Values) → IsPacket packet → IsPort net (record { 0 = value packet Inport }) → IsInside net (carried packet)
-  inside packet is by = record { formed = carried_is packet is; fresh = carried_fresh packet; by = subst (λ n. IsPort net (record { 0 = n })) (sym (carried_inport packet is)) by }
+  inside packet is by = record { formed = carried_is packet is; clean = carried_clean packet; by = subst (λ n. IsPort net (record { 0 = n })) (sym (carried_inport packet is)) by }
 
   -- ---- what arrives
 
@@ -216,11 +223,11 @@ module _ (net : Network) where
 module _ (net : Network) (sound : IsSound net) where
   pub are_packets : ArePackets net
   are_packets = record {
-    starts = λ port packet is formed. (started packet port.0 formed (number_fits net sound port is), (started_fresh packet port.0, started_inport packet port.0 formed));
+    starts = λ port packet is formed. (started packet port.0 formed (number_fits net sound port is), (started_clean packet port.0, started_inport packet port.0 formed));
     leaves = λ port packet is inside. (
       record {
         formed = fits_with packet Outport port.0 inside.formed (number_fits net sound port is);
-        fresh = bound_fresh packet port.0 inside.fresh;
+        clean = bound_clean packet port.0 inside.clean;
         by = subst (λ n. IsPort net (record { 0 = n })) (sym (other_value packet Outport Inport port.0 refl)) inside.by;
       },
       set_value packet Outport port.0 inside.formed.count,

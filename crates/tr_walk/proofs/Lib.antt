@@ -1,6 +1,5 @@
 pub mod AclParts
 pub mod Carried
-pub mod Congruence
 pub mod Datapaths
 pub mod Ends
 pub mod Finds

@@ -19,12 +19,12 @@ use Rattle.nb_model.proofs.Numbered.{are_used}
 use Rattle.net_meaning.specs.Places.{datapath_at, peer_side, router_port, side_of, side_of_port, side_of_router_port, side_of_switch_port, switch_port}
 use Rattle.net_meaning.specs.Places.Side.{Host, NoPeer, Peer}
 use Rattle.net_meaning.specs.Walk.Target.{OnePort}
+use Rattle.net_walks.specs.Alike.{IsPort}
 use Rattle.net_rows.proofs.Elements.{one_first, one_later, one_of, one_of_none, Contains-from_map, Contains-map}
 use Rattle.net_rows.proofs.Pairs.{OfPairs, every_member}
 use Rattle.net_rows.proofs.Sound.{each_passes}
 use Rattle.lr_units.proofs.Numbers.{Before, port_is_no_router_port, ports_rise, router_ports_rise}
 use Rattle.tr_walk.specs.Machine.{target_of}
-use Rattle.tr_walk.specs.Refined.{IsPort}
 
 -- ---- what is found
 

@@ -17,17 +17,18 @@ use Rattle.net_meaning.specs.Switches.{Did, arriving_at, leaving_by, leaving_lat
 use Rattle.net_meaning.specs.Walk.{Part, carrying}
 use Rattle.net_router.specs.Meaning.{at_port, direct_parts, meaning}
 use Rattle.net_router.specs.Routers as routers
+use Rattle.net_walks.specs.Alike.{Agree, IsClean, IsInside, IsKept, IsPort, SamePart, SameParts}
+use Rattle.net_walks.proofs.Congruence.{walks_agree}
 use Rattle.tr_stage.specs.declared.outcome.Hit.{Hit}
 use Rattle.tr_router.specs.Parts.{DoArrive, DoLeave, DoLeaveLate, KnowsMacs}
 use Rattle.tr_router.proofs.Egress.{do_leave, do_leave_late}
 use Rattle.tr_router.proofs.Ingress.{do_arrive}
 use Rattle.tr_walk.specs.Events.{event_of, without_hits}
 use Rattle.tr_walk.specs.Machine.{ingress, egress, late_egress, late_table, machine, pipelines}
-use Rattle.tr_walk.specs.Refined.{DoesPart, IsFresh, IsIngress, IsEgress, IsLate, IsPort, Trace, IsMeant, IsRefined, KeepsMacs}
-use Rattle.tr_walk.proofs.Congruence.{Agree, IsInside, IsKept, SamePart, SameParts, walks_agree}
+use Rattle.tr_walk.specs.Refined.{DoesPart, IsIngress, IsEgress, IsLate, Trace, IsMeant, IsRefined, KeepsMacs}
 use Rattle.tr_walk.proofs.Datapaths.{late_of_switch}
 use Rattle.tr_walk.proofs.Hits.{left_out}
-use Rattle.tr_walk.proofs.Kept.{arriving_kept, leaving_kept, let_out_kept, are_packets}
+use Rattle.tr_walk.proofs.Kept.{are_packets, arriving_kept, is_fresh, leaving_kept, let_out_kept}
 use Rattle.tr_walk.proofs.Macs.{arriving_macs, leaving_macs}
 use Rattle.tr_walk.proofs.NetworkPorts.{OfRouter, OfSwitch, on_switch, switch_port_at, whose}
 use Rattle.tr_walk.proofs.Parts as parts
@@ -66,13 +67,13 @@ module _ (net : Network) (sound : IsSound net) (plain : IsPlain net) where
       abbrev Arrives : ObjId → Type 0
       Arrives number = value packet Inport ≡ number.0 → Same (ingress net number packet state) ((direct_parts net).arriving number packet state)
 
-      arriving_same : (number : ObjId) → IsPort net number → IsPacket packet → IsFresh packet → Arrives number
-      arriving_same number is formed fresh = by (whose net number is)
+      arriving_same : (number : ObjId) → IsPort net number → IsPacket packet → IsClean packet → Arrives number
+      arriving_same number is formed clean = by (whose net number is)
         where
           by : OfSwitch net number ⊎ OfRouter net number → Arrives number
           by (inl own) =
               subst Arrives own.is
-              (λ from. same_at (arriving_at net) (routers.arriving_at net) own.port packet state own.among _ (of_ingress own.port packet state own.among formed fresh from)
+              (λ from. same_at (arriving_at net) (routers.arriving_at net) own.port packet state own.among _ (of_ingress own.port packet state own.among formed (is_fresh packet clean) from)
               (arriving_kept net sound packet formed (came_by own.port.id packet (subst (IsPort net) (sym own.is) is) from) own.port state own.among) (arriving_macs net own.port packet state knows))
           by (inr own) =
               subst Arrives own.is
@@ -88,7 +89,7 @@ module _ (net : Network) (sound : IsSound net) (plain : IsPlain net) where
             by : OfSwitch net number ⊎ OfRouter net number → Leaves number
             by (inl own) =
                 subst Leaves own.is
-                (λ to. same_at (leaving_by net) (routers.leaving_by net) own.port packet state own.among _ (of_egress own.port packet state own.among inside.formed inside.fresh to)
+                (λ to. same_at (leaving_by net) (routers.leaving_by net) own.port packet state own.among _ (of_egress own.port packet state own.among inside.formed (is_fresh packet inside.clean) to)
                 (leaving_kept net sound packet inside.formed inside.by own.port state own.among) (leaving_macs net own.port packet state knows))
             by (inr own) = subst Leaves own.is (λ to. leaves_same net sound own.port own.among packet state knows plain inside.formed leave to inside.by)
 
@@ -107,7 +108,7 @@ module _ (net : Network) (sound : IsSound net) (plain : IsPlain net) where
 
     same_parts : SameParts net KnowsMacs (pipelines net) (direct_parts net)
     same_parts = record {
-      arriving = λ port packet state is formed fresh from knows. arriving_same packet state knows port is formed fresh from;
+      arriving = λ port packet state is formed clean from knows. arriving_same packet state knows port is formed clean from;
       leaving = λ port packet state is inside to knows. leaving_same packet state knows inside port is to;
       late = λ port packet state is inside to knows. leaving_late_same packet state knows inside port is to;
     }

@@ -30,6 +30,7 @@ use Rattle.net_router.specs.Resolution.{mac_for}
 use Rattle.net_router.specs.Routers.{arriving_at, asked_about, delivered, did, leaving_by, leaving_late, passed_on, redirected_on, routed, sent_by, sent_to, taken_by, unless_taken}
 use Rattle.net_router.specs.Routing.{Hop, hop_for}
 use Rattle.net_router.specs.Translation.{unsnatted}
+use Rattle.net_walks.specs.Alike.{IsKept, IsPort}
 use Rattle.net_rows.proofs.SoundObjects.{IsBlock}
 use Rattle.lr_units.proofs.SoundRouters.{router_port_is_sound}
 use Rattle.ls_laws.proofs.Packets.{set_value, other_value, fits_with}
@@ -39,8 +40,6 @@ use Rattle.tr_router.proofs.Hops.{IsHop, hop_is}
 use Rattle.tr_router.proofs.Macs.{IsMac, mac_for_fits}
 use Rattle.tr_router.proofs.Networks.{mac_fits}
 use Rattle.tr_router.proofs.Plain.{changed_out_is, dnatted_is, unsnatted_is}
-use Rattle.tr_walk.specs.Refined.{IsPort}
-use Rattle.tr_walk.proofs.Congruence.{IsKept}
 use Rattle.tr_walk.proofs.Formed.{Fit, Others, fits_exchanged, fits_values, other_exchanged, other_values, replied, replied_inport, rejection_is, rejection_inport, error_is, error_inport}
 use Rattle.tr_walk.proofs.Kept.{inside, turned_is, turned_inport}
 use Rattle.tr_walk.proofs.NetworkPorts.{its_router_port, number_fits}

@@ -22,6 +22,7 @@ use Rattle.net_meaning.specs.Walk.Target.{OnePort, Ports, Late}
 use Rattle.net_meaning.specs.declared.answer.Answer.TheVariants as answer
 use Rattle.net_router.specs.Meaning.{at_port, direct_parts}
 use Rattle.net_router.specs.Routers.{arriving_at, leaving_by, leaving_late}
+use Rattle.net_walks.specs.Alike.{IsKept, IsPort, SamePart}
 use Rattle.ls_laws.specs.Steps.{flows_at}
 use Rattle.tr_stage.specs.declared.outcome.Hit.{Hit}
 use Rattle.tr_stage.specs.declared.outcome.Outcome.{Outcome}
@@ -29,8 +30,6 @@ use Rattle.tr_pipe.specs.Machine.{run_pipeline}
 use Rattle.tr_router.specs.Parts.{Arrives, DoArrive, DoLeave, DoLeaveLate, KnowsMacs, Leaves}
 use Rattle.tr_walk.specs.Machine as walks
 use Rattle.tr_walk.specs.Machine.{after_egress, after_ingress, egress, ingress, late_egress, late_table}
-use Rattle.tr_walk.specs.Refined.{IsPort}
-use Rattle.tr_walk.proofs.Congruence.{IsKept, SamePart}
 use Rattle.tr_walk.proofs.Datapaths.{late_of_router}
 use Rattle.tr_walk.proofs.NetworkPorts.{no_switch_port_at, on_router, router_port_at, goes_to_port}
 use Rattle.tr_walk.proofs.RouterKept.{arriving_kept, arriving_macs, late_kept, leaving_kept, leaving_macs}

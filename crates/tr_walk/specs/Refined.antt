@@ -1,15 +1,15 @@
 -- That the rows of a network do what the network means.
-use Rattle.std.specs.Prelude.{◌≡◌, ℕ, List, ◌++◌, Contains, Some, option_map}
+use Rattle.std.specs.Prelude.{◌≡◌, ℕ, List, Contains, Some, option_map}
 use Rattle.ct_core.specs.State.{State}
 use Rattle.nv_base.specs.declared.object.ObjId.{ObjId}
 use Rattle.nv_base.specs.declared.field.Field.TheVariants.{Inport, Outport, CtState, CtMarkBlocked, Reg0}
 use Rattle.pkt_core.specs.Packet.{Values, IsPacket, value}
 use Rattle.nb_records.specs.declared.switch.Port.{Port}
 use Rattle.nb_model.specs.Network.{Network}
-use Rattle.nb_model.specs.Sound.{port_ids, router_port_ids}
 use Rattle.net_meaning.specs.Switches.{Did, arriving_at, leaving_by, leaving_late}
 use Rattle.net_meaning.specs.Walk.{Part, Walked, carrying, events}
 use Rattle.net_router.specs.Meaning.{meaning}
+pub use Rattle.net_walks.specs.Alike.{AreAlike, IsPort}
 use Rattle.tr_router.specs.Parts.{KnowsMacs}
 use Rattle.tr_walk.specs.Events.{without_hits}
 use Rattle.tr_stage.specs.declared.outcome.Hit.{Hit}
@@ -43,15 +43,6 @@ abbrev pub IsLate : Network → Type 0
 IsLate net =
     (port : Port) (packet : Values) (state : State) → Contains net.ports port → IsPacket packet → value packet Outport ≡ port.id.0
     → DoesPart (egress net (last_table datapath.Switch) port.id packet state) (leaving_late port packet state)
-
--- the number of a port of a datapath: of a switch, or of a router
-abbrev pub IsPort : Network → ObjId → Type 0
-IsPort net number = Contains (port_ids net ++ router_port_ids net) number
-
--- two walks tell the same of packets, and leave the same state
-pub record AreAlike {N M S : Type 0} (one : Walked N S) (other : Walked M S) : Type 0 where
-  pub told : events one.told ≡ events other.told
-  pub left : one.state ≡ other.state
 
 -- what was told of a packet, and the states before and after
 pub record Trace : Type 0 where

@@ -3,8 +3,8 @@ use Rattle.std.proofs.Common.{◌≡◌, ℕ, zero, suc, Bool, true, false, cond
 use Rattle.std.specs.Prelude.{Option, Some, None, option_map, not}
 use Rattle.std.specs.List.{AllByRecursion, filter}
 use Rattle.nv_base.specs.declared.object.ObjId.{ObjId}
-use Rattle.nv_base.specs.declared.field.Field.TheVariants.{Inport, Outport}
-use Rattle.pkt_core.specs.Packet.{Values, IsPacket, value, with_value, headers}
+use Rattle.nv_base.specs.declared.field.Field.TheVariants.{Outport}
+use Rattle.pkt_core.specs.Packet.{Values, IsPacket, with_value, headers}
 use Rattle.pkt_core.specs.Replies.{start}
 use Rattle.nb_model.specs.Network.{Network, same}
 use Rattle.net_meaning.specs.declared.answer.Answer.{Answer}
@@ -18,7 +18,7 @@ use Rattle.net_meaning.specs.Walk.{Target, Passed, Part, Parts, Told, Walked, On
 use Rattle.net_meaning.specs.Walk.Passed.{GoesOn, Drops, Makes}
 use Rattle.net_meaning.specs.Walk.Target.{OnePort, Ports, Late}
 use Rattle.net_meaning.specs.Walk.Told.{Note, Happens}
-use Rattle.tr_walk.specs.Refined.{AreAlike, IsFresh, IsPort}
+use Rattle.net_walks.specs.Alike.{Agree, AreAlike, ArePackets, IsInside, IsKept, IsPort, SamePart, SameParts}
 
 -- ---- what is told
 
@@ -44,23 +44,17 @@ all_events N (event ∷ all) = ap (λ rest. event ∷ rest) (all_events N all)
 
 module _ {N M S : Type 0} where
   -- walks that end at once
-  pub ends_alike : (happens : List PlainEvent) (state : S) → AreAlike (ends {N = N} happens state) (ends {N = M} happens state)
+  ends_alike : (happens : List PlainEvent) (state : S) → AreAlike (ends {N = N} happens state) (ends {N = M} happens state)
   ends_alike happens state = record { told = all_events N happens ∙ sym (all_events M happens); left = refl }
 
   -- the same is told first
-  pub after_alike : (one : List (Told N)) (other : List (Told M)) (w : Walked N S) (v : Walked M S) → events one ≡ events other → AreAlike w v → AreAlike (after_told one w) (after_told other v)
+  after_alike : (one : List (Told N)) (other : List (Told M)) (w : Walked N S) (v : Walked M S) → events one ≡ events other → AreAlike w v → AreAlike (after_told one w) (after_told other v)
   after_alike one other w v first rest = record {
     told = events_append one w.told ∙ ap (λ es. es ++ events w.told) first ∙ ap (λ es. events other ++ es) rest.told ∙ sym (events_append other v.told);
     left = rest.left;
   }
 
 -- ---- walks from states of a kind
-
-module _ {N M S : Type 0} (Holds : S → Type 0) where
-  -- two walks tell the same, and leave the same state, which is of the kind
-  pub record Agree (one : Walked N S) (other : Walked M S) : Type 0 where
-    pub alike : AreAlike one other
-    pub holds : Holds other.state
 
 module _ {N M S : Type 0} {Holds : S → Type 0} where
   ends_agree : (happens : List PlainEvent) (state : S) → Holds state → Agree Holds (ends {N = N} happens state) (ends {N = M} happens state)
@@ -74,48 +68,13 @@ same_told : (N M : Type 0) (answer : Answer) (arrival : ObjId) → events (told_
 same_told N M answer.Reject arrival = refl
 same_told N M answer.Arp arrival = refl
 
--- ---- ports and packets of the network
+-- ---- walks over parts that do the same
 
 module _ (net : Network) where
-  -- a packet that came in by a port of a datapath
-  pub record IsInside (packet : Values) : Type 0 where
-    pub formed : IsPacket packet
-    pub fresh : IsFresh packet
-    pub by : IsPort net (record { 0 = value packet Inport })
-
-  -- what parts make of a packet: it stays among the ports of the network
-  abbrev pub IsKept : Option Passed → Type 0
-  IsKept None = Unit {0}
-  IsKept (Some (GoesOn (OnePort port) packet)) = IsPort net port × IsInside packet
-  IsKept (Some (GoesOn (Late port) packet)) = IsPort net port × IsInside packet
-  IsKept (Some (GoesOn (Ports ports) packet)) = AllByRecursion (IsPort net) ports × IsInside packet
-  IsKept (Some (Drops why)) = Unit {0}
-  IsKept (Some (Makes answer port packet)) = IsPort net port × IsInside packet
-
-  module _ {N M S : Type 0} (Holds : S → Type 0) where
-    -- two parts make the same of a packet, which stays among the ports, and leave one state of the kind
-    pub record SamePart (one : Part N S) (other : Part M S) : Type 0 where
-      pub passed : option_map carrying one.passed ≡ option_map carrying other.passed
-      pub state : one.state ≡ other.state
-      pub kept : IsKept (option_map carrying other.passed)
-      pub holds : Holds other.state
-
-    -- so do the parts of two walks
-    pub record SameParts (ps : Parts N S) (qs : Parts M S) : Type 0 where
-      pub arriving : (port : ObjId) (packet : Values) (state : S) → IsPort net port → IsPacket packet → IsFresh packet → value packet Inport ≡ port.0 → Holds state → SamePart (ps.arriving port packet state) (qs.arriving port packet state)
-      pub leaving : (port : ObjId) (packet : Values) (state : S) → IsPort net port → IsInside packet → value packet Outport ≡ port.0 → Holds state → SamePart (ps.leaving port packet state) (qs.leaving port packet state)
-      pub late : (port : ObjId) (packet : Values) (state : S) → IsPort net port → IsInside packet → value packet Outport ≡ port.0 → Holds state → SamePart (ps.late port packet state) (qs.late port packet state)
-
-  -- what is asked of packets: numbers of ports fit, packets stay packets, and the other side of a port is one
-  pub record ArePackets : Type 0 where
-    pub starts : (port : ObjId) (packet : Values) → IsPort net port → IsPacket packet → IsPacket (start packet port.0) × (IsFresh (start packet port.0) × (value (start packet port.0) Inport ≡ port.0))
-    pub leaves : (port : ObjId) (packet : Values) → IsPort net port → IsInside packet → IsInside (with_value packet Outport port.0) × (value (with_value packet Outport port.0) Outport ≡ port.0)
-    pub sides : (port peer : ObjId) → side_of net port ≡ Peer peer → IsPort net peer
-
-  module _ {N M S : Type 0} (Holds : S → Type 0) (ps : Parts N S) (qs : Parts M S) (same_parts : SameParts Holds ps qs) (packets : ArePackets) where
+  module _ {N M S : Type 0} (Holds : S → Type 0) (ps : Parts N S) (qs : Parts M S) (same_parts : SameParts net Holds ps qs) (packets : ArePackets net) where
     -- a part, and what follows
-    then_agree : (p : Part N S) (q : Part M S) (f : Option Passed → S → Walked N S) (g : Option Passed → S → Walked M S) → SamePart Holds p q
-        → ((passed : Option Passed) (state : S) → IsKept passed → Holds state → Agree Holds (f passed state) (g passed state)) → Agree Holds (then_part p f) (then_part q g)
+    then_agree : (p : Part N S) (q : Part M S) (f : Option Passed → S → Walked N S) (g : Option Passed → S → Walked M S) → SamePart net Holds p q
+        → ((passed : Option Passed) (state : S) → IsKept net passed → Holds state → Agree Holds (f passed state) (g passed state)) → Agree Holds (then_part p f) (then_part q g)
     then_agree p q f g same_part onward =
         after_agree (map Note p.notes) (map Note q.notes) (f (option_map carrying p.passed) p.state) (g (option_map carrying q.passed) q.state) (no_notes p.notes ∙ sym (no_notes q.notes))
         (rw (same_part.passed, same_part.state) (onward (option_map carrying q.passed) q.state same_part.kept same_part.holds))
@@ -123,8 +82,8 @@ module _ (net : Network) where
     -- packets go on alike over the next hop
     record GoOnAlike (o : Onward N S) (p : Onward M S) : Type 0 where
       enters : (port : ObjId) (packet : Values) (state : S) → IsPort net port → IsPacket packet → Holds state → Agree Holds (o.enters port packet state) (p.enters port packet state)
-      leaves : (arrival : ObjId) (packet : Values) (state : S) (port : ObjId) → IsPort net arrival → IsInside packet → IsPort net port → Holds state → Agree Holds (o.leaves arrival packet state port) (p.leaves arrival packet state port)
-      leaves_late : (arrival : ObjId) (packet : Values) (state : S) (port : ObjId) → IsPort net arrival → IsInside packet → IsPort net port → Holds state → Agree Holds (o.leaves_late arrival packet state port) (p.leaves_late arrival packet state port)
+      leaves : (arrival : ObjId) (packet : Values) (state : S) (port : ObjId) → IsPort net arrival → IsInside net packet → IsPort net port → Holds state → Agree Holds (o.leaves arrival packet state port) (p.leaves arrival packet state port)
+      leaves_late : (arrival : ObjId) (packet : Values) (state : S) (port : ObjId) → IsPort net arrival → IsInside net packet → IsPort net port → Holds state → Agree Holds (o.leaves_late arrival packet state port) (p.leaves_late arrival packet state port)
 
     -- if there is one
     abbrev OnwardAlike : Option (Onward N S) → Option (Onward M S) → Type 0
@@ -140,12 +99,12 @@ module _ (net : Network) where
       crosses_agree None (Some y) peer packet state on at formed holds = absurd on
       crosses_agree (Some x) None peer packet state on at formed holds = absurd on
 
-      delivered_agree : (port : ObjId) (packet : Values) (state : S) (side : Side) → side_of net port ≡ side → IsInside packet → Holds state → Agree Holds (delivered_to net ps o port packet state side) (delivered_to net qs p port packet state side)
+      delivered_agree : (port : ObjId) (packet : Values) (state : S) (side : Side) → side_of net port ≡ side → IsInside net packet → Holds state → Agree Holds (delivered_to net ps o port packet state side) (delivered_to net qs p port packet state side)
       delivered_agree port packet state Host is inside holds = ends_agree (Output port (headers packet) ∷ []) state holds
       delivered_agree port packet state NoPeer is inside holds = ends_agree (Drop (datapath_at net port) cause.NoPeer ∷ []) state holds
       delivered_agree port packet state (Peer peer) is inside holds = crosses_agree o p peer packet state onward (packets.sides port peer is) inside.formed holds
 
-      made_agree : (answer : Answer) (a : Option (Onward N S)) (c : Option (Onward M S)) (arrival : ObjId) (port : ObjId) (packet : Values) (state : S) → OnwardAlike a c → IsPort net arrival → IsPort net port → IsInside packet → Holds state
+      made_agree : (answer : Answer) (a : Option (Onward N S)) (c : Option (Onward M S)) (arrival : ObjId) (port : ObjId) (packet : Values) (state : S) → OnwardAlike a c → IsPort net arrival → IsPort net port → IsInside net packet → Holds state
           → Agree Holds (made net ps o arrival answer a port packet state) (made net qs p arrival answer c port packet state)
       made_agree answer None None arrival port packet state on at to inside holds = ends_agree (HopLimit arrival ∷ []) state holds
       made_agree answer.Reject (Some x) (Some y) arrival port packet state on at to inside holds = on.leaves_late arrival packet state port at inside to holds
@@ -153,7 +112,7 @@ module _ (net : Network) where
       made_agree answer None (Some y) arrival port packet state on at to inside holds = absurd on
       made_agree answer (Some x) None arrival port packet state on at to inside holds = absurd on
 
-      left_agree : (arrival port : ObjId) → IsPort net arrival → (passed : Option Passed) (state : S) → IsKept passed → Holds state → Agree Holds (left net ps o arrival port passed state) (left net qs p arrival port passed state)
+      left_agree : (arrival port : ObjId) → IsPort net arrival → (passed : Option Passed) (state : S) → IsKept net passed → Holds state → Agree Holds (left net ps o arrival port passed state) (left net qs p arrival port passed state)
       left_agree arrival port at None state kept holds = ends_agree [] state holds
       left_agree arrival port at (Some (GoesOn (OnePort to) packet)) state kept holds = delivered_agree port packet state (side_of net port) refl kept.1 holds
       left_agree arrival port at (Some (GoesOn (Late to) packet)) state kept holds = delivered_agree port packet state (side_of net port) refl kept.1 holds
@@ -162,17 +121,17 @@ module _ (net : Network) where
       left_agree arrival port at (Some (Makes answer by packet)) state kept holds =
           after_agree (told_of answer arrival) (told_of answer arrival) _ _ (same_told N M answer arrival) (made_agree answer o p arrival by packet state onward at kept.0 kept.1 holds)
 
-      leaves_agree : (arrival : ObjId) (packet : Values) (state : S) (port : ObjId) → IsPort net arrival → IsInside packet → IsPort net port → Holds state → Agree Holds (leaves net ps o arrival packet state port) (leaves net qs p arrival packet state port)
+      leaves_agree : (arrival : ObjId) (packet : Values) (state : S) (port : ObjId) → IsPort net arrival → IsInside net packet → IsPort net port → Holds state → Agree Holds (leaves net ps o arrival packet state port) (leaves net qs p arrival packet state port)
       leaves_agree arrival packet state port at inside is holds =
           let out = packets.leaves port packet is inside in
           then_agree _ _ (left net ps o arrival port) (left net qs p arrival port) (same_parts.leaving port (with_value packet Outport port.0) state is out.0 out.1 holds) (left_agree arrival port at)
 
-      late_agree : (arrival : ObjId) (packet : Values) (state : S) (port : ObjId) → IsPort net arrival → IsInside packet → IsPort net port → Holds state → Agree Holds (leaves_late net ps o arrival packet state port) (leaves_late net qs p arrival packet state port)
+      late_agree : (arrival : ObjId) (packet : Values) (state : S) (port : ObjId) → IsPort net arrival → IsInside net packet → IsPort net port → Holds state → Agree Holds (leaves_late net ps o arrival packet state port) (leaves_late net qs p arrival packet state port)
       late_agree arrival packet state port at inside is holds =
           let out = packets.leaves port packet is inside in
           then_agree _ _ (left net ps o arrival port) (left net qs p arrival port) (same_parts.late port (with_value packet Outport port.0) state is out.0 out.1 holds) (left_agree arrival port at)
 
-      copies_agree : (arrival : ObjId) (packet : Values) (state : S) (ports : List ObjId) → IsPort net arrival → IsInside packet → AllByRecursion (IsPort net) ports → Holds state → Agree Holds (copies net ps o arrival packet state ports) (copies net qs p arrival packet state ports)
+      copies_agree : (arrival : ObjId) (packet : Values) (state : S) (ports : List ObjId) → IsPort net arrival → IsInside net packet → AllByRecursion (IsPort net) ports → Holds state → Agree Holds (copies net ps o arrival packet state ports) (copies net qs p arrival packet state ports)
       copies_agree arrival packet state [] at inside all holds = ends_agree [] state holds
       copies_agree arrival packet state (port ∷ ports) at inside all holds =
           let first = leaves_agree arrival packet state port at inside all.0 holds in
@@ -188,7 +147,7 @@ module _ (net : Network) where
           by true rest = (all.0, rest)
           by false rest = rest
 
-      sent_agree : (arrival : ObjId) (target : Target) (packet : Values) (state : S) → IsPort net arrival → IsKept (Some (GoesOn target packet)) → Holds state → Agree Holds (sent net ps o arrival target packet state) (sent net qs p arrival target packet state)
+      sent_agree : (arrival : ObjId) (target : Target) (packet : Values) (state : S) → IsPort net arrival → IsKept net (Some (GoesOn target packet)) → Holds state → Agree Holds (sent net ps o arrival target packet state) (sent net qs p arrival target packet state)
       sent_agree arrival (OnePort port) packet state at kept holds = by (is_same_port net ps o arrival port packet)
         where
           by : (b : Bool) → Agree Holds (cond b (ends {N = N} (Drop (datapath_at net arrival) cause.SamePort ∷ []) state) (leaves net ps o arrival packet state port)) (cond b (ends {N = M} (Drop (datapath_at net arrival) cause.SamePort ∷ []) state) (leaves net qs p arrival packet state port))
@@ -201,7 +160,7 @@ module _ (net : Network) where
           by false = late_agree arrival packet state port at kept.1 kept.0 holds
       sent_agree arrival (Ports ports) packet state at kept holds = copies_agree arrival packet state (filter (λ port. not (same port arrival)) ports) at kept.1 (others arrival ports kept.0) holds
 
-      arrived_agree : (arrival : ObjId) → IsPort net arrival → (passed : Option Passed) (state : S) → IsKept passed → Holds state → Agree Holds (arrived net ps o arrival passed state) (arrived net qs p arrival passed state)
+      arrived_agree : (arrival : ObjId) → IsPort net arrival → (passed : Option Passed) (state : S) → IsKept net passed → Holds state → Agree Holds (arrived net ps o arrival passed state) (arrived net qs p arrival passed state)
       arrived_agree arrival at None state kept holds = ends_agree [] state holds
       arrived_agree arrival at (Some (GoesOn target packet)) state kept holds = sent_agree arrival target packet state at kept holds
       arrived_agree arrival at (Some (Drops why)) state kept holds = ends_agree (Drop (datapath_at net arrival) why ∷ []) state holds

@@ -1,10 +1,12 @@
 pub mod AllAtOnce
 pub mod Among
+pub mod Apart
 pub mod Appends
 pub mod AsSet
 pub mod Asked
 pub mod Distinct
 pub mod Indexed
+pub mod KeysFirst
 pub mod Members
 pub mod Order
 pub mod Place

@@ -2,7 +2,8 @@
 use Rattle.std.proofs.Common.{◌≡◌, ℕ, ◌+◌, ◌<◌, ◌≤◌, Bool, true, false, not, List, ◌∷◌, ◌++◌, length, length-append, get_or, sym, ap, refl, ◌∙◌, arith}
 use Rattle.std.specs.declared.cmp.Ordering.{Ordering}
 use Rattle.std.specs.declared.cmp.Ordering.TheVariants.{Less, Equal, Greater}
-use Rattle.std.specs.Ordering.{is_lt, is_le, is_gt, ordering_reverse, ordering_then}
+use Rattle.std.specs.Ordering.{is_lt, is_le, is_gt, nat_cmp, ordering_reverse, ordering_then}
+use Rattle.std.specs.Cmp.Lexicographic.{slice_cmp}
 use Rattle.std.specs.Cmp.{IsTotalOrder}
 use Rattle.std.specs.List.{All}
 use Rattle.std.proofs.lemmas.List.{get_or_append_left}
@@ -74,7 +75,7 @@ pub lt_turned : (x y : Row) → is_lt (row_cmp y x) ≡ is_gt (row_cmp x y)
 lt_turned = turned row_cmp_total
 
 -- a row that is not before another is not so by its key
-key_from_row : (x y : Row) → is_lt (row_cmp y x) ≡ false → is_lt (key_cmp y x) ≡ false
+pub key_from_row : (x y : Row) → is_lt (row_cmp y x) ≡ false → is_lt (key_cmp y x) ≡ false
 unfolding row_cmp
 key_from_row x y h = first (key_cmp y x) _ h
   where
@@ -119,3 +120,17 @@ above_none_before row rows more up k d in_range =
     let there : get_or all k d ≡ get_or rows k d = get_or_append_left rows (row ∷ more) d k in_range in
     let here : get_or all n d ≡ row = get_or-append_seam rows row more d in
     sym (lt_turned (get_or rows k d) row) ∙ rw (here, there) at far
+
+-- ---- a row is after another by its key, or else by the text of its match
+
+pub less_is_not_after : (x y : Row) → Less ≡ key_cmp x y → false ≡ is_gt (row_cmp x y)
+unfolding row_cmp
+less_is_not_after x y is = rw (← is) refl
+
+pub greater_is_after : (x y : Row) → Greater ≡ key_cmp x y → true ≡ is_gt (row_cmp x y)
+unfolding row_cmp
+greater_is_after x y is = rw (← is) refl
+
+pub after_by_text : (x y : Row) → Equal ≡ key_cmp x y → is_gt (slice_cmp nat_cmp (typed_text x.matching) (typed_text y.matching)) ≡ is_gt (row_cmp x y)
+unfolding row_cmp
+after_by_text x y is = rw (← is) refl

@@ -1,5 +1,6 @@
 -- What an insert at the place that a search found does to rows in order.
-use Rattle.std.proofs.Common.{◌≡◌, ℕ, zero, suc, ◌<◌, ◌≤◌, Bool, true, false, not, List, [], ◌∷◌, length, get_or, ap, refl, ◌∙◌, add-one, arith}
+use Rattle.std.proofs.Common.{◌≡◌, ℕ, zero, suc, ◌<◌, ◌≤◌, Bool, true, false, not, List, [], ◌∷◌, length, get_or, ap, refl, sym, ◌+◌, ◌∙◌, add-one, arith}
+use Rattle.std.proofs.lemmas.List.{get_or_default}
 use mathlib.Core.Bool.{false≢true}
 use Rattle.std.specs.declared.cmp.Ordering.{Ordering}
 use Rattle.std.specs.declared.cmp.Ordering.TheVariants.{Less, Equal, Greater}
@@ -8,7 +9,7 @@ use Rattle.std.specs.List.{insert, AllWithin}
 use Rattle.std.specs.List.Sorted.{IsPartitionPoint}
 use Rattle.sb_model.specs.declared.row.Row.{Row}
 use Rattle.sb_rows.specs.Row.{row_cmp, IsInRowOrder, put_row}
-use Rattle.sb_rows.proofs.Order.{gt_from_le, lt_turned}
+use Rattle.sb_rows.proofs.Order.{gt_from_le, lt_turned, parted_at}
 
 -- what holds between two places of the tail holds one place higher in the list
 within_tail : (P : Row → Type 0) (x : Row) (xs : List Row) (low high : ℕ) → AllWithin P (x ∷ xs) (suc low) (suc high) → AllWithin P xs low high
@@ -60,3 +61,29 @@ ordered_put row (x ∷ xs) up = by_test (is_gt (row_cmp x row)) refl (ordered_pu
     by_test : (b : Bool) → is_gt (row_cmp x row) ≡ b → IsInRowOrder (put_row row xs) → IsInRowOrder (put_row row (x ∷ xs))
     by_test true is rest = rw is (ordered_cons row (x ∷ xs) (λ d _. below_above row x is) up)
     by_test false is rest = rw is (ordered_cons x (put_row row xs) (λ d _. put_first x row xs (lt_turned x row ∙ is) up d) rest)
+
+-- ---- a search among rows in order
+
+module _ (rows : List Row) (up : IsInRowOrder rows) (row : Row) (middle : ℕ) (there : Row) (inside : middle < length rows) (is : there ≡ get_or rows middle there) where
+  here : (d : Row) → get_or rows middle d ≡ there
+  here d = get_or_default rows middle d there inside ∙ sym is
+
+  -- from a row that is after the new one on all are
+  pub after_from : true ≡ is_gt (row_cmp there row) → AllWithin (λ y. is_le (row_cmp y row) ≡ false) rows middle (length rows)
+  after_from after k d from below = by (is_le (row_cmp (get_or rows k d) row)) refl
+    where
+      by : (b : Bool) → is_le (row_cmp (get_or rows k d) row) ≡ b → b ≡ false
+      by false passes = refl
+      by true passes =
+          let at_most : is_le (row_cmp there row) ≡ true = ap (λ y. is_le (row_cmp y row)) (sym (here d)) ∙ parted_at rows up row middle k d from below passes in
+          after ∙ gt_from_le (row_cmp there row) ∙ ap not at_most
+
+  -- and up to one that is not after it none is
+  pub none_after_to : false ≡ is_gt (row_cmp there row) → AllWithin (λ y. is_le (row_cmp y row) ≡ true) rows 0 (middle + 1)
+  none_after_to at_most k d from below =
+      parted_at rows up row k middle d (omega arith) inside (ap (λ y. is_le (row_cmp y row)) (here d) ∙ le_from_gt (row_cmp there row) (sym at_most))
+    where
+      le_from_gt : (o : Ordering) → is_gt o ≡ false → is_le o ≡ true
+      le_from_gt Less e = refl
+      le_from_gt Equal e = refl
+      le_from_gt Greater e = absurd (false≢true (sym e))

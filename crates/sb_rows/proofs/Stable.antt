@@ -118,7 +118,7 @@ put_row_ties row z (x ∷ xs) up = by (is_gt (row_cmp x row)) refl (put_row_ties
     by true is rest = rw is (ahead_of_none (ties before z row) row (filter (ties before z) (x ∷ xs)) (λ tied. none_kept (ties before z) (x ∷ xs) (none_ties row x z xs up is tied)))
     by false is rest = rw is (behind_first (ties before z x) x (filter (ties before z) (put_row row xs)) (filter (ties before z) xs) (filter (ties before z) (row ∷ [])) rest)
 
-put_rows_ties : (more rows : List Row) → IsInRowOrder rows → IsStable row_cmp (rows ++ more) (put_rows rows more)
+pub put_rows_ties : (more rows : List Row) → IsInRowOrder rows → IsStable row_cmp (rows ++ more) (put_rows rows more)
 put_rows_ties [] rows up z = ap (filter (ties before z)) (sym (append-nil rows))
 put_rows_ties (row ∷ more) rows up z =
     let kept = filter (ties before z) in

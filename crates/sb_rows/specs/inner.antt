@@ -1,6 +1,7 @@
 -- What private contracts and proofs cite. No clause of a public call does, so a reader need not believe it.
 pub mod Asks
 pub mod Beside
+pub mod ByText
 pub mod Exact
 pub mod Index
 pub mod Places

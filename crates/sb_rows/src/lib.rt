@@ -3,6 +3,7 @@
 #![tactic(auto)]
 
 mod asks;
+mod by_text;
 mod index;
 mod laws;
 mod listing;

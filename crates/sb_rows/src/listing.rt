@@ -6,6 +6,7 @@ ghost use Rattle.nv_base.specs.Growth.{GrowsAtEnd};
 use crate::Rows;
 use crate::stored::Stored;
 use act_core::put_actions;
+use expr_core::put_tree;
 use itoa::Buffer;
 use nv_base::{Name, ObjId, OutOfMemory};
 use sb_model::{Pipeline, Row, Stage};
@@ -68,7 +69,7 @@ fn put_rows(out: &mut Vec<u8>, rows: &[Stored], pipeline: Pipeline) -> Result<()
 {
     for stored in rows {
         if stored.row().stage.pipeline() == pipeline {
-            put_row_line(out, stored)?;
+            put_row_line(out, stored.row())?;
         }
     }
     Ok(())
@@ -87,13 +88,13 @@ fn put_heading(out: &mut Vec<u8>, name: &Name, pipeline: Pipeline) -> Result<(),
 }
 
 #[tactic(auto, unfolding(crate::specs::Listing::row_text))]
-fn put_row_line(out: &mut Vec<u8>, stored: &Stored) -> Result<(), OutOfMemory>
-    ensures ok { OnOk result (out.new.items ≡ out.old.items ++ row_text stored.now) }
+fn put_row_line(out: &mut Vec<u8>, row: &Row) -> Result<(), OutOfMemory>
+    ensures ok { OnOk result (out.new.items ≡ out.old.items ++ row_text row.now) }
     ensures err { OnErr result (GrowsAtEnd out.old.items out.new.items) }
 {
-    put_stage(out, stored.row().stage)?;
-    put_row_rank(out, stored.row())?;
-    put_row_rule(out, stored)?;
+    put_stage(out, row.stage)?;
+    put_row_rank(out, row)?;
+    put_row_rule(out, row)?;
     Ok(())
 }
 
@@ -110,14 +111,14 @@ fn put_row_rank(out: &mut Vec<u8>, row: &Row) -> Result<(), OutOfMemory>
 }
 
 #[tactic(auto, unfolding(crate::specs::Listing::row_rule))]
-fn put_row_rule(out: &mut Vec<u8>, stored: &Stored) -> Result<(), OutOfMemory>
-    ensures ok { OnOk result (out.new.items ≡ out.old.items ++ row_rule stored.now) }
+fn put_row_rule(out: &mut Vec<u8>, row: &Row) -> Result<(), OutOfMemory>
+    ensures ok { OnOk result (out.new.items ≡ out.old.items ++ row_rule row.now) }
     ensures err { OnErr result (GrowsAtEnd out.old.items out.new.items) }
 {
     out.extend_from_slice(b", match=(")?;
-    out.extend_from_slice(stored.text())?;
+    put_tree(out, &row.matching)?;
     out.extend_from_slice(b"), action=(")?;
-    put_actions(out, stored.row().actions.as_slice())?;
+    put_actions(out, row.actions.as_slice())?;
     out.extend_from_slice(b")\n")?;
     Ok(())
 }

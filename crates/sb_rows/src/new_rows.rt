@@ -1,7 +1,8 @@
-ghost use Rattle.std.specs.Prelude.{◌≡◌, [], ◌∷◌, ◌++◌, IfOk, OnOk, OnErr};
-ghost use Rattle.sb_rows.specs.Row.{put_rows};
+ghost use Rattle.std.specs.Prelude.{◌≡◌, [], ◌∷◌, ◌++◌, IfOk, IsSorted, IsTrue, OnOk, OnErr};
+ghost use Rattle.sb_rows.specs.Row.{key_cmp, put_rows};
 
 use crate::RowList;
+use crate::by_text::{Rooms, put_in_place};
 use crate::stored::Stored;
 use nv_base::OutOfMemory;
 use sb_model::Row;
@@ -15,8 +16,6 @@ const FEW: usize = 8;
 #[derive(Drop)]
 pub struct NewRows {
     stored: Vec<Stored>,
-    // Where the text of a match is written first, so that what is kept of it has no more room than it needs.
-    room: Vec<u8>,
 }
 
 impl Model for NewRows {
@@ -39,7 +38,6 @@ impl NewRows {
     {
         NewRows {
             stored: Vec::new(alloc),
-            room: Vec::new(alloc),
         }
     }
 
@@ -49,7 +47,6 @@ impl NewRows {
     {
         Ok(NewRows {
             stored: Vec::with_capacity(alloc, count)?,
-            room: Vec::new(alloc),
         })
     }
 
@@ -58,7 +55,7 @@ impl NewRows {
         ensures ok { OnOk result (self.new ≡ self.old ++ row ∷ []) }
         ensures err { OnErr result (self.new ≡ self.old) }
     {
-        let stored = Stored::new(*self.stored.allocator(), row, &mut self.room)?;
+        let stored = Stored::new(*self.stored.allocator(), row)?;
         if self.stored.is_empty() && self.stored.reserve(FEW).is_err() {
             drop(stored);
             return Err(OutOfMemory);
@@ -67,7 +64,7 @@ impl NewRows {
         Ok(())
     }
 
-    /// Puts the rows of a list last, in their order. No text is written again. After `OutOfMemory` the rows are as before.
+    /// Puts the rows of a list last, in their order. After `OutOfMemory` the rows are as before.
     pub fn append(&mut self, list: RowList) -> Result<(), OutOfMemory>
         ensures ok { OnOk result (self.new ≡ self.old ++ list) }
         ensures err { OnErr result (self.new ≡ self.old) }
@@ -88,8 +85,8 @@ impl NewRows {
         if stored.len() < 2 {
             return Ok(RowList::from_stored(stored));
         }
-        stored.sort_by(|one, other| one.order(other))?;
-        Ok(RowList::from_stored(stored))
+        stored.sort_by(|one, other| one.key_order(other))?;
+        Ok(RowList::from_stored(in_row_order(stored)?))
     }
 
     // The rows, in their order.
@@ -98,4 +95,29 @@ impl NewRows {
     {
         self.stored
     }
+}
+
+// Rows that rise by their keys, in row order. Rows that agree in it stay in the order in which they came.
+fn in_row_order(stored: Vec<Stored>) -> Result<Vec<Stored>, OutOfMemory>
+    requires { IsSorted key_cmp stored.items }
+    ensures { IfOk result (λ ordered. ordered.items ≡ put_rows [] stored.items) }
+{
+    if have_unlike_keys(&stored) {
+        return Ok(stored);
+    }
+    let alloc = *stored.allocator();
+    let mut rooms = Rooms::new(alloc);
+    let mut ordered = Vec::with_capacity(alloc, stored.len())?;
+    for row in stored {
+        put_in_place(&mut ordered, row, &mut rooms)?;
+    }
+    Ok(ordered)
+}
+
+// Whether no two rows that follow each other, and rise by their keys, have one key.
+fn have_unlike_keys(rows: &[Stored]) -> bool
+    requires { IsSorted key_cmp rows.now }
+    ensures { IsTrue result → rows.now ≡ put_rows [] rows.now }
+{
+    rows.is_sorted_by(|one, other| one.key_order(other).is_lt())
 }

@@ -8,8 +8,7 @@ use sb_model::Row;
 use std::alloc::Global;
 use std::marker::Model;
 
-/// A list of rows, each beside the text of its match, which is then not written again where the row is put among others.
-/// A clause sees it as the list of the rows.
+/// A list of rows. A clause sees it as the list of the rows.
 #[derive(Drop)]
 pub struct RowList {
     stored: Vec<Stored>,

@@ -1,12 +1,13 @@
-ghost use Rattle.std.specs.Prelude.{◌≡◌, [], ◌++◌, length, All, Contains, IsTrue, ◌↔◌, IfOk, OnOk, OnErr, slice_get};
+ghost use Rattle.std.specs.Prelude.{◌≡◌, [], length, All, Contains, IsTrue, ◌↔◌, IfOk, OnOk, OnErr, slice_get};
 ghost use Rattle.std.specs.Bool.{OnTrue, OnFalse};
 ghost use Rattle.std.specs.Option.{option_copied};
-ghost use Rattle.sb_rows.specs.Row.{AgreeAsOne, AreApart, AreRows, HasTypedMatch, IsSetOf, IsWithout, put_row, put_rows, rows_of};
+ghost use Rattle.sb_rows.specs.Row.{AgreeAsOne, AreRows, HasTypedMatch, IsSetOf, IsWithout, put_row, rows_of};
 ghost use Rattle.sb_rows.specs.Match.{select};
 
 use crate::NewRows;
+use crate::by_text::{Rooms, put_in_place};
 use crate::index::{Table, first_in_table, tables_of};
-use crate::search::{place_among, place_of, table_from};
+use crate::search::{place_of, table_from};
 use crate::stored::{Stored, table_key};
 use expr_ports::PortNames;
 use nv_base::{ObjId, OutOfMemory};
@@ -53,14 +54,14 @@ impl Rows {
 
     /// The rows of a list as a set, in row order (ovn-sb(5), 'Logical_Flow TABLE'; the order is not from OVN): one that
     /// is there twice is one row. Those that agree in datapath, stage, priority, hint and match are equal, and each match
-    /// is well-typed. No text is written again. Where memory runs out the answer is `OutOfMemory`.
+    /// is well-typed. Where memory runs out the answer is `OutOfMemory`.
     pub fn of_all(alloc: Global, new: NewRows) -> Result<Rows, OutOfMemory>
         requires agree { AgreeAsOne new }
         requires typed { All HasTypedMatch new }
         ensures { IfOk result (λ rows. IsSetOf rows new) }
     {
         let mut sorted = new.into_list()?.into_stored();
-        sorted.dedup_by(|next, last| next.order(last).is_eq());
+        sorted.dedup_by(|next, last| next.is_same(last));
         let tables = tables_of(alloc, &sorted)?;
         Ok(Rows { sorted, tables })
     }
@@ -81,42 +82,9 @@ impl Rows {
         ensures err { OnErr result (self.new ≡ self.old) }
     {
         let alloc = *self.sorted.allocator();
-        let stored = Stored::new(alloc, row, &mut Vec::new(alloc))?;
-        let at = place_among(&self.sorted, &stored);
+        let stored = Stored::new(alloc, row)?;
         self.tables.clear();
-        self.sorted.insert(at, stored)?;
-        Ok(())
-    }
-
-    /// Puts more rows, all at once, each in its place. No two of all the rows agree in datapath, stage, priority, hint
-    /// and match. After `OutOfMemory` the rows are as before.
-    pub fn put_all(&mut self, rows: Vec<Row>) -> Result<(), OutOfMemory>
-        requires apart { AreApart (self.old ++ rows.items) }
-        requires typed { All HasTypedMatch rows.items }
-        ensures ok { OnOk result (self.new ≡ put_rows self.old rows.items) }
-        ensures err { OnErr result (self.new ≡ self.old) }
-    {
-        let new = all_new(*self.sorted.allocator(), rows)?;
-        self.put_new(new)
-    }
-
-    /// The same of rows that came one by one. No row is in memory twice. After `OutOfMemory` the rows are as before.
-    pub fn put_new(&mut self, rows: NewRows) -> Result<(), OutOfMemory>
-        requires apart { AreApart (self.old ++ rows) }
-        requires typed { All HasTypedMatch rows }
-        ensures ok { OnOk result (self.new ≡ put_rows self.old rows) }
-        ensures err { OnErr result (self.new ≡ self.old) }
-    {
-        self.tables.clear();
-        let before = self.sorted.len();
-        append(&mut self.sorted, rows.into_stored())?;
-        match self.sorted.sort_by(|one, other| one.order(other)) {
-            Ok(()) => Ok(()),
-            Err(_) => {
-                self.sorted.truncate(before);
-                Err(OutOfMemory)
-            }
-        }
+        put_in_place(&mut self.sorted, stored, &mut Rooms::new(alloc))
     }
 
     /// Takes the row out, and tells whether it was there. It is looked for as `contains` does. It takes no memory.
@@ -203,28 +171,4 @@ impl Rows {
         *near = place;
         row
     }
-}
-
-// The rows, in their order, each with what is kept beside it.
-fn all_new(alloc: Global, rows: Vec<Row>) -> Result<NewRows, OutOfMemory>
-    ensures { IfOk result (λ new. new ≡ rows.items) }
-{
-    let mut new = NewRows::with_capacity(alloc, rows.len())?;
-    for row in rows {
-        new.push(row)?;
-    }
-    Ok(new)
-}
-
-// Puts more after what is there, without a copy where nothing is.
-fn append(rows: &mut Vec<Stored>, mut more: Vec<Stored>) -> Result<(), OutOfMemory>
-    ensures ok { OnOk result (rows.new.items ≡ rows.old.items ++ more.items) }
-    ensures err { OnErr result (rows.new.items ≡ rows.old.items) }
-{
-    if rows.is_empty() {
-        *rows = more;
-    } else {
-        rows.append(&mut more)?;
-    }
-    Ok(())
 }

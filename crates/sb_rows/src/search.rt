@@ -2,9 +2,8 @@
 ghost use Rattle.std.specs.Prelude.{◌≡◌, ◌<◌, ◌≤◌, ◌+◌, ◌==◌, true, false, length, Contains, IfSome, IfNone, IsTrue, ◌↔◌};
 ghost use Rattle.std.specs.List.Sorted.{IsPartitionPoint};
 ghost use Rattle.std.specs.Option.{option_copied};
-ghost use Rattle.std.specs.Ordering.{is_le};
 ghost use Rattle.expr_eval.specs.MatchMeaning.{holds};
-ghost use Rattle.sb_rows.specs.Row.{IsInRowOrder, row_cmp};
+ghost use Rattle.sb_rows.specs.Row.{IsInRowOrder};
 ghost use Rattle.sb_rows.specs.inner.Places.{IsAt};
 ghost use Rattle.sb_rows.specs.inner.Tables.{key_of, find_while};
 
@@ -14,20 +13,6 @@ use expr_core::Env;
 use pkt_core::Packet;
 use sb_model::Row;
 
-// Where a row goes among rows in order: after all that are not after it. Rows mostly come in order, so the last one
-// is looked at first.
-pub(crate) fn place_among(rows: &[Stored], row: &Stored) -> usize
-    requires { IsInRowOrder rows.now }
-    ensures bound { result ≤ length rows.now }
-    ensures point { IsPartitionPoint (λ y. is_le (row_cmp y row.now) ≡ true)
-        (λ y. is_le (row_cmp y row.now) ≡ false) rows.now result }
-{
-    match rows.last() {
-        Some(last) if last.order(row).is_le() => rows.len(),
-        _ => rows.partition_point(|there| there.order(row).is_le()),
-    }
-}
-
 // The place of a row among rows in order, if it is there. Matches and actions are compared only with rows that agree in
 // all else.
 pub(crate) fn place_of(rows: &[Stored], row: &Row) -> Option<usize>
@@ -35,9 +20,9 @@ pub(crate) fn place_of(rows: &[Stored], row: &Row) -> Option<usize>
     ensures there { IfSome result (λ at. IsAt row.now rows.now at) }
     ensures absent { IfNone result (¬ Contains rows.now row.now) }
 {
-    let low = rows.partition_point(|there| there.key_order(row).is_lt());
+    let low = rows.partition_point(|there| there.key_order_of(row).is_lt());
     let from_low = &rows[low..];
-    let count = from_low.partition_point(|there| there.key_order(row).is_le());
+    let count = from_low.partition_point(|there| there.key_order_of(row).is_le());
     let at = place_in(&from_low[..count], row)?;
     Some(low + at)
 }

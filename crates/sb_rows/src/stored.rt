@@ -1,12 +1,11 @@
-//! A row beside what searches look at first, and the text of its match, which orders it and is listed.
-ghost use Rattle.std.specs.Prelude.{◌≡◌, ◌<◌, IfOk};
-ghost use Rattle.expr_core.specs.Text.{typed_text};
+//! A row beside what searches look at first.
+ghost use Rattle.std.specs.Prelude.{◌≡◌, ◌<◌, IfOk, IsTrue, ◌↔◌};
 ghost use Rattle.expr_eval.specs.MatchMeaning.{holds};
-ghost use Rattle.sb_rows.specs.Row.{key_cmp, row_cmp};
+ghost use Rattle.sb_rows.specs.Row.{key_cmp};
 ghost use Rattle.sb_rows.specs.inner.Beside.{FitsItsKey, key_of_row, order_of_keys};
 ghost use Rattle.sb_rows.specs.inner.Tables.{table_key, rank_key, key_of};
 
-use expr_core::{Env, Typed, put_tree};
+use expr_core::Env;
 use expr_eval::holds;
 use nv_base::{Kept, ObjId, OutOfMemory};
 use pkt_core::Packet;
@@ -14,9 +13,6 @@ use sb_model::{Row, Stage};
 use std::alloc::Global;
 use std::cmp::Ordering;
 use std::marker::Model;
-
-// So many bytes most texts of matches have at most.
-const MOST_TEXTS: usize = 128;
 
 // What orders rows before the texts of their matches do: two numbers, of which the first that differs decides. The datapath
 // stands beside them.
@@ -29,18 +25,11 @@ pub(crate) struct Key {
     dp: ObjId,
 }
 
-// A row, and the text of its match.
-#[derive(Drop)]
-struct Written {
-    row: Row,
-    text: Vec<u8>,
-}
-
-// A row beside the text of its match, and what sorts and searches look at first: its key. A clause sees it as the row. It is small, since many are moved where one is put or taken, and looked at where one is searched.
+// A row beside what sorts and searches look at first: its key. A clause sees it as the row. It is small, since many are moved where rows are put in order.
 #[derive(Drop)]
 pub(crate) struct Stored {
     key: Key,
-    kept: Box<Written>,
+    row: Box<Row>,
 }
 
 impl Model for Stored {
@@ -54,54 +43,37 @@ impl Model for Stored {
 
     ghost use Rattle.sb_rows.specs.inner.Beside.{IsBeside};
 
-    ghost view = { λ s. s.kept.value.row };
+    ghost view = { λ s. s.row.value };
 
-    ghost invariant = { λ s. IsBeside s.kept.value.row s.key s.kept.value.text.items };
+    ghost invariant = { λ s. IsBeside s.row.value s.key };
 }
 
 impl Stored {
-    // The row, for which the text of its match is written. `room` is a place to write in, of which nothing stays.
-    pub(crate) fn new(alloc: Global, row: Row, room: &mut Vec<u8>) -> Result<Self, OutOfMemory>
-        ensures { IfOk result (λ stored. stored ≡ row) }
-    {
-        match text_of(alloc, &row.matching, room) {
-            Ok(text) => Stored::with_text(alloc, row, text),
-            Err(failed) => {
-                drop(row);
-                Err(failed)
-            }
-        }
-    }
-
-    // An equal row, and the text of its match, which is not written again.
-    pub(crate) fn copy(&self, alloc: Global) -> Result<Self, OutOfMemory>
-        ensures { IfOk result (λ copied. copied ≡ self.now) }
-    {
-        let text = Vec::from_slice(alloc, self.text())?;
-        Stored::with_text(alloc, self.kept.row.copy(alloc)?, text)
-    }
-
-    // The row, beside the text of its match.
-    fn with_text(alloc: Global, row: Row, text: Vec<u8>) -> Result<Self, OutOfMemory>
-        requires { text.items ≡ typed_text row.matching }
+    pub(crate) fn new(alloc: Global, row: Row) -> Result<Self, OutOfMemory>
         ensures { IfOk result (λ stored. stored ≡ row) }
     {
         let key = key_of_row(&row);
-        let kept = Box::new(alloc, Written { row, text })?;
-        Ok(Stored { key, kept })
+        let row = Box::new(alloc, row)?;
+        Ok(Stored { key, row })
+    }
+
+    // An equal row.
+    pub(crate) fn copy(&self, alloc: Global) -> Result<Self, OutOfMemory>
+        ensures { IfOk result (λ copied. copied ≡ self.now) }
+    {
+        Stored::new(alloc, self.row.copy(alloc)?)
     }
 
     pub(crate) fn row(&self) -> &Row
         ensures { result.now ≡ self.now }
     {
-        &self.kept.row
+        &self.row
     }
 
-    // The text of the match.
-    pub(crate) fn text(&self) -> &[u8]
-        ensures { result.now ≡ typed_text self.now.matching }
+    pub(crate) fn into_row(self) -> Row
+        ensures { result ≡ self }
     {
-        self.kept.text.as_slice()
+        Box::into_inner(self.row)
     }
 
     // The datapath of the row. The row is not looked at.
@@ -126,23 +98,28 @@ impl Stored {
         holds(&self.row().matching, packet, env)
     }
 
-    // The order of the row and another by all but their matches: by datapath, stage, falling priority, and hint.
+    // The order of the row and another by all but their matches: by datapath, stage, falling priority, and hint. The rows are not looked at.
     #[tactic(auto, using(crate::proofs::Tables::keys_order))]
-    pub(crate) fn key_order(&self, other: &Row) -> Ordering
+    #[inline]
+    pub(crate) fn key_order(&self, other: &Stored) -> Ordering
         ensures { result ≡ key_cmp self.now other.now }
     {
-        order_of_keys(self.key, key_of_row(other))
+        order_of_keys(self.key, other.key)
     }
 
-    // The order of the row and another. The rows are looked at only where all but their matches is equal.
-    #[tactic(auto, using(crate::proofs::Tables::keys_order), unfolding(crate::specs::Row::row_cmp))]
-    pub(crate) fn order(&self, other: &Stored) -> Ordering
-        ensures { result ≡ row_cmp self.now other.now }
+    // The same of a row whose key is not kept.
+    #[tactic(auto, using(crate::proofs::Tables::keys_order))]
+    pub(crate) fn key_order_of(&self, row: &Row) -> Ordering
+        ensures { result ≡ key_cmp self.now row.now }
     {
-        match order_of_keys(self.key, other.key) {
-            Ordering::Equal => self.text().cmp(other.text()),
-            unlike => unlike,
-        }
+        order_of_keys(self.key, key_of_row(row))
+    }
+
+    // Whether the two are one row.
+    pub(crate) fn is_same(&self, other: &Stored) -> bool
+        ensures { IsTrue result ↔ (self.now ≡ other.now) }
+    {
+        self.key_order(other).is_eq() && self.row == other.row
     }
 }
 
@@ -157,16 +134,6 @@ impl PartialEq for Stored {
     fn eq(&self, other: &Self) -> bool {
         self.row() == other.row()
     }
-}
-
-// The text of a match. `room` is a place to write in, of which nothing stays.
-fn text_of(alloc: Global, matching: &Typed, room: &mut Vec<u8>) -> Result<Vec<u8>, OutOfMemory>
-    ensures { IfOk result (λ text. text.items ≡ typed_text matching.now) }
-{
-    room.clear();
-    room.reserve(MOST_TEXTS)?;
-    put_tree(room, matching)?;
-    Ok(Vec::from_slice(alloc, room.as_slice())?)
 }
 
 // The key of a row.

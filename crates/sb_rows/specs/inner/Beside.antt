@@ -1,8 +1,7 @@
 -- What is kept beside a row.
-use Rattle.std.specs.Prelude.{◌≡◌, ◌<◌, List, ℕ}
+use Rattle.std.specs.Prelude.{◌≡◌, ◌<◌}
 use Rattle.std.specs.declared.cmp.Ordering.{Ordering}
 use Rattle.std.specs.Ordering.{nat_cmp, ordering_then}
-use Rattle.expr_core.specs.Text.{typed_text}
 use Rattle.sb_model.specs.declared.row.Row.{Row}
 use Rattle.sb_rows.specs.declared.stored.Key.{Key}
 use Rattle.sb_rows.specs.inner.Tables.{key_of, rank_key}
@@ -19,8 +18,7 @@ order_of_keys one other = ordering_then (nat_cmp one.table other.table) (nat_cmp
 abbrev pub FitsItsKey : Row → Type 0
 FitsItsKey row = (row.priority < 65536) × (row.hint.0 < 4294967296)
 
--- the row's key, and the text of its match
-pub record IsBeside (row : Row) (key : Key) (text : List ℕ) : Type 0 where
+-- the row's key
+pub record IsBeside (row : Row) (key : Key) : Type 0 where
   pub keyed : key ≡ key_of_row row
   pub fits : FitsItsKey row
-  pub written : text ≡ typed_text row.matching

@@ -68,8 +68,9 @@ fn put_rows(out: &mut Vec<u8>, rows: &[Stored], pipeline: Pipeline) -> Result<()
     ensures err { OnErr result (GrowsAtEnd out.old.items out.new.items) }
 {
     for stored in rows {
-        if stored.row().stage.pipeline() == pipeline {
-            put_row_line(out, stored.row())?;
+        let row = stored.row();
+        if row.stage.pipeline() == pipeline {
+            put_row_line(out, row)?;
         }
     }
     Ok(())

@@ -84,7 +84,8 @@ impl Rows {
         let alloc = *self.sorted.allocator();
         let stored = Stored::new(alloc, row)?;
         self.tables.clear();
-        put_in_place(&mut self.sorted, stored, &mut Rooms::new(alloc))
+        put_in_place(&mut self.sorted, stored, &mut Rooms::new(alloc))?;
+        Ok(())
     }
 
     /// Takes the row out, and tells whether it was there. It is looked for as `contains` does. It takes no memory.

@@ -1,8 +1,8 @@
 //! A row beside what searches look at first.
-ghost use Rattle.std.specs.Prelude.{◌≡◌, ◌<◌, IfOk, IsTrue, ◌↔◌};
+ghost use Rattle.std.specs.Prelude.{◌≡◌, ◌<◌, IfOk};
 ghost use Rattle.expr_eval.specs.MatchMeaning.{holds};
 ghost use Rattle.sb_rows.specs.Row.{key_cmp};
-ghost use Rattle.sb_rows.specs.inner.Beside.{FitsItsKey, key_of_row, order_of_keys};
+ghost use Rattle.sb_rows.specs.inner.Beside.{FitsItsKey, is_same, key_of_row, order_of_keys};
 ghost use Rattle.sb_rows.specs.inner.Tables.{table_key, rank_key, key_of};
 
 use expr_core::Env;
@@ -115,9 +115,9 @@ impl Stored {
         order_of_keys(self.key, key_of_row(row))
     }
 
-    // Whether the two are one row.
+    // Whether the two are one row. What is in the rows is compared only where their keys are equal.
     pub(crate) fn is_same(&self, other: &Stored) -> bool
-        ensures { IsTrue result ↔ (self.now ≡ other.now) }
+        ensures { result ≡ is_same self.now other.now }
     {
         self.key_order(other).is_eq() && self.row == other.row
     }

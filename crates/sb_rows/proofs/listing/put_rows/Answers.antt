@@ -16,9 +16,9 @@ returns-in_err-put_row_line-clause-err c =
 pub loop-stored-preserved : goal.loop-stored-preserved
 loop-stored-preserved c =
     let in_it = λ (row : Row). is_same_pipeline (pipeline_of row.stage) c.args.pipeline in
-    let pipeline : c.pipeline.result ≡ pipeline_of c.stored-item.result.stage = c.pipeline.ensures ∙ ap (λ (row : Row). pipeline_of row.stage) c.row.ensures in
+    let pipeline : c.pipeline.result ≡ pipeline_of c.stored-item.result.stage = c.pipeline.ensures ∙ ap (λ (row : Row). pipeline_of row.stage) c.row-row.ensures in
     let same : c.eq.result ≡ in_it c.stored-item.result = c.eq.ensures ∙ same_pipeline _ _ ∙ ap (λ p. is_same_pipeline p c.args.pipeline) pipeline in
     elim c.if-eq.branch [
-      | then-eq+in_ok-put_row_line w ↦ passing_more row_text in_it _ _ _ _ _ _ c.loop-stored-test.true c.stored-item.is (sym same ∙ w.if-eq.true) c.loop-stored.invariant (ap (λ v. v.items) w.out-is ∙ w.in_ok-put_row_line.ensures.ok)
+      | then-eq+in_ok-put_row_line w ↦ passing_more row_text in_it _ _ _ _ _ _ c.loop-stored-test.true c.stored-item.is (sym same ∙ w.if-eq.true) c.loop-stored.invariant (ap (λ v. v.items) w.out-is ∙ rw c.row-row.ensures at w.in_ok-put_row_line.ensures.ok)
       | else-eq w ↦ failing_more row_text in_it _ _ _ _ _ c.loop-stored-test.true c.stored-item.is (sym same ∙ w.if-eq.false) (ap (λ v. v.items) w.out-is ∙ c.loop-stored.invariant)
     ]

@@ -1,3 +1,4 @@
+pub mod Longer
 pub mod Refusal
 pub mod Tags
 pub mod inner

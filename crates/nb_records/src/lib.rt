@@ -6,6 +6,7 @@ mod balancer;
 mod edit;
 mod ips;
 mod kept;
+mod lists;
 mod named;
 mod owned;
 mod ports;

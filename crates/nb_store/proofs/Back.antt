@@ -20,11 +20,11 @@ record IsPart {R : Type 0} (list : Network → List R) (with_list : List R → N
   same : (net : Network) → with_list (list net) net ≡ net
   restores : (r : R) (net : Network) → restored (wrap r) net ≡ with_list (with_exchanged number r (list net)) net
 
-mapped : {A B : Type 0} (f : A → B) (o : Option A) (b : B) → option_map f o ≡ Some b → (a : A) × ((o ≡ Some a) × (f a ≡ b))
+pub mapped : {A B : Type 0} (f : A → B) (o : Option A) (b : B) → option_map f o ≡ Some b → (a : A) × ((o ≡ Some a) × (f a ≡ b))
 mapped f None b e = absurd (cc)
 mapped f (Some a) b e = (a, (refl, cc))
 
-unmapped : {A B : Type 0} (f : A → B) (o : Option A) → option_map f o ≡ None → o ≡ None
+pub unmapped : {A B : Type 0} (f : A → B) (o : Option A) → option_map f o ≡ None → o ≡ None
 unmapped f None e = refl
 unmapped f (Some a) e = absurd (cc)
 

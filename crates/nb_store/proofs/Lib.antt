@@ -10,4 +10,5 @@ pub mod PlacedRecords
 pub mod PortNames
 pub mod Reached
 pub mod Steps
+pub mod SwappedBack
 pub mod Touched

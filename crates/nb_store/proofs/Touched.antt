@@ -4,15 +4,19 @@ use Rattle.std.proofs.lemmas.Bool.{eqb-true}
 use Rattle.std.specs.List.{filter_map}
 use Rattle.nv_base.specs.declared.object.ObjId.{ObjId}
 use Rattle.nb_model.specs.Network.{Network}
+use Rattle.nv_table.specs.Swapped.{fits, with_swapped}
 use Rattle.nv_table.specs.Table.{has_number, record_of, with_record, without_number, with_exchanged}
-use Rattle.nb_store.specs.Undo.{restored, removed, back_steps}
-use Rattle.nb_store.specs.Touched.{place_of, touched_by, AgreeBut, AreSameBut}
+use Rattle.nb_store.specs.Undo.{restored, swapped, removed, back_steps}
+use Rattle.nb_store.specs.Touched.{place_of, place_of_lean, touched_by, AgreeBut, AreSameBut}
+use Rattle.nb_records.specs.Longer.{switch_longer, router_longer, group_longer}
+use Rattle.nb_store.specs.declared.step.LeanObject.{LeanObject}
+use Rattle.nb_store.specs.declared.step.LeanObject.TheVariants as lean
 use Rattle.nb_store.specs.declared.step.Object.{Object}
 use Rattle.nb_store.specs.declared.step.Object.TheVariants as object
 use Rattle.nb_store.specs.declared.step.Place.{Place}
 use Rattle.nb_store.specs.declared.step.Place.TheVariants as place
 use Rattle.nb_store.specs.declared.step.Step.{Step}
-use Rattle.nb_store.specs.declared.step.Step.TheVariants.{Restore, Remove, Next}
+use Rattle.nb_store.specs.declared.step.Step.TheVariants.{Restore, Swap, Remove, Next}
 
 -- ---- a list of records
 
@@ -54,6 +58,13 @@ module _ {R : Type 0} (number : R → ObjId) where
     exchanged r rs n apart =
         let differs = another n (number r) apart in
         sym (other_with n r (without_number number (number r) rs) differs ∙ other_without n (number r) rs differs)
+
+    swapped_rest : (is_longer : R → R → ℕ → Bool) (s : R × ℕ × Bool) (rs : List R) → AgreeBut (at (number s.0) ∷ []) at number rs (with_swapped number is_longer s rs)
+    swapped_rest is_longer s rs n apart = by (fits number is_longer s rs)
+      where
+        by : (b : Bool) → record_of number n rs ≡ record_of number n (cond b (with_exchanged number s.0 rs) rs)
+        by true = exchanged s.0 rs n apart
+        by false = refl
 
     taken : (m : ObjId) (rs : List R) → AgreeBut (at m ∷ []) at number rs (without_number number m rs)
     taken m rs n apart = sym (other_without n m rs (another n m apart))
@@ -139,6 +150,12 @@ restored_rest (object.Set r) net = with_sets (place.Set r.id) net _ (exchanged (
 restored_rest (object.Group r) net = with_groups (place.Group r.id) net _ (exchanged (λ x. x.id) place.Group r net.groups)
 restored_rest (object.Binding r) net = with_bindings (place.Binding r.id) net _ (exchanged (λ x. x.id) place.Binding r net.bindings)
 
+-- one that is swapped too
+pub swap_rest : (l : LeanObject) (net : Network) → AreSameBut (place_of_lean l ∷ []) net (swapped l net)
+swap_rest (lean.Switch s) net = with_switches (place.Switch s.0.id) net _ (swapped_rest (λ x. x.id) place.Switch switch_longer s net.switches)
+swap_rest (lean.Router s) net = with_routers (place.Router s.0.id) net _ (swapped_rest (λ x. x.id) place.Router router_longer s net.routers)
+swap_rest (lean.Group s) net = with_groups (place.Group s.0.id) net _ (swapped_rest (λ x. x.id) place.Group group_longer s net.groups)
+
 -- one that is taken out too
 pub removed_rest : (p : Place) (net : Network) → AreSameBut (p ∷ []) net (removed p net)
 removed_rest (place.Switch n) net = with_switches (place.Switch n) net _ (taken (λ x. x.id) place.Switch n net.switches)
@@ -219,6 +236,8 @@ pub undone_rest : (steps : List Step) (net : Network) → AreSameBut (filter_map
 undone_rest [] net = same_but [] net
 undone_rest (Restore o ∷ steps) net =
     one_more (place_of o) (filter_map touched_by steps) net (back_steps steps net) (restored o (back_steps steps net)) (undone_rest steps net) (restored_rest o (back_steps steps net))
+undone_rest (Swap s ∷ steps) net =
+    one_more (place_of_lean s) (filter_map touched_by steps) net (back_steps steps net) (swapped s (back_steps steps net)) (undone_rest steps net) (swap_rest s (back_steps steps net))
 undone_rest (Remove p ∷ steps) net =
     one_more p (filter_map touched_by steps) net (back_steps steps net) (removed p (back_steps steps net)) (undone_rest steps net) (removed_rest p (back_steps steps net))
 undone_rest (Next n ∷ steps) net =

@@ -6,12 +6,14 @@ use Rattle.nv_base.specs.declared.object.ObjId.{ObjId}
 use Rattle.nb_model.specs.Network.{Network}
 use Rattle.nv_table.specs.Table.{record_of}
 use Rattle.nb_store.specs.contracts.step.PlaceOrd.TheImpl as place_ord
+use Rattle.nb_store.specs.declared.step.LeanObject.{LeanObject}
+use Rattle.nb_store.specs.declared.step.LeanObject.TheVariants as lean
 use Rattle.nb_store.specs.declared.step.Object.{Object}
 use Rattle.nb_store.specs.declared.step.Object.TheVariants as object
 use Rattle.nb_store.specs.declared.step.Place.{Place}
 use Rattle.nb_store.specs.declared.step.Place.TheVariants as place
 use Rattle.nb_store.specs.declared.step.Step.{Step}
-use Rattle.nb_store.specs.declared.step.Step.TheVariants.{Restore, Remove, Next}
+use Rattle.nb_store.specs.declared.step.Step.TheVariants.{Restore, Swap, Remove, Next}
 use Rattle.nb_store.specs.declared.undo.Undo.{Undo}
 
 -- the kind of an object, and its number
@@ -28,9 +30,15 @@ place_of (object.Set r) = place.Set r.id
 place_of (object.Group r) = place.Group r.id
 place_of (object.Binding r) = place.Binding r.id
 
+abbrev pub place_of_lean : LeanObject → Place
+place_of_lean (lean.Switch s) = place.Switch s.0.id
+place_of_lean (lean.Router s) = place.Router s.0.id
+place_of_lean (lean.Group s) = place.Group s.0.id
+
 -- the place that undoing a change changes
 abbrev pub touched_by : Step → Option Place
 touched_by (Restore r) = Some (place_of r)
+touched_by (Swap s) = Some (place_of_lean s)
 touched_by (Remove place) = Some place
 touched_by (Next n) = None
 

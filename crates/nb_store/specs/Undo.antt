@@ -1,13 +1,17 @@
 -- What undoing changes does to a network.
 use Rattle.std.specs.Prelude.{Bool, true, false, List, [], ◌∷◌}
 use Rattle.nb_model.specs.Network.{Network}
+use Rattle.nv_table.specs.Swapped.{with_swapped}
 use Rattle.nv_table.specs.Table.{with_exchanged, without_number}
+use Rattle.nb_records.specs.Longer.{switch_longer, router_longer, group_longer}
+use Rattle.nb_store.specs.declared.step.LeanObject.{LeanObject}
+use Rattle.nb_store.specs.declared.step.LeanObject.TheVariants as lean
 use Rattle.nb_store.specs.declared.step.Object.{Object}
 use Rattle.nb_store.specs.declared.step.Object.TheVariants as object
 use Rattle.nb_store.specs.declared.step.Place.{Place}
 use Rattle.nb_store.specs.declared.step.Place.TheVariants as place
 use Rattle.nb_store.specs.declared.step.Step.{Step}
-use Rattle.nb_store.specs.declared.step.Step.TheVariants.{Restore, Remove, Next}
+use Rattle.nb_store.specs.declared.step.Step.TheVariants.{Restore, Swap, Remove, Next}
 use Rattle.nb_store.specs.declared.undo.Undo.{Undo}
 
 -- the record in place of the one of its number
@@ -23,6 +27,12 @@ restored (object.Acl r) net = record net { acls = with_exchanged (λ x. x.id) r 
 restored (object.Set r) net = record net { sets = with_exchanged (λ x. x.id) r net.sets }
 restored (object.Group r) net = record net { groups = with_exchanged (λ x. x.id) r net.groups }
 restored (object.Binding r) net = record net { bindings = with_exchanged (λ x. x.id) r net.bindings }
+
+-- the record in place of the one of its number, where the two differ by its one number
+abbrev pub swapped : LeanObject → Network → Network
+swapped (lean.Switch s) net = record net { switches = with_swapped (λ x. x.id) switch_longer s net.switches }
+swapped (lean.Router s) net = record net { routers = with_swapped (λ x. x.id) router_longer s net.routers }
+swapped (lean.Group s) net = record net { groups = with_swapped (λ x. x.id) group_longer s net.groups }
 
 -- without the record of the number
 abbrev pub removed : Place → Network → Network
@@ -41,6 +51,7 @@ removed (place.Binding n) net = record net { bindings = without_number (λ x. x.
 -- one change undone
 abbrev pub undone : Step → Network → Network
 undone (Restore r) net = restored r net
+undone (Swap s) net = swapped s net
 undone (Remove n) net = removed n net
 undone (Next n) net = record net { next = n }
 

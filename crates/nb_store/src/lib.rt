@@ -5,6 +5,7 @@
 mod belongs;
 mod env;
 mod laws;
+mod leans;
 mod likes;
 mod named;
 mod numbers;

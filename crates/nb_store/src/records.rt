@@ -1,11 +1,11 @@
 //! The tables of all kinds.
 ghost use Rattle.std.specs.Prelude.{◌≡◌, ◌+◌, ◌<◌, ◌^◌};
 ghost use Rattle.nb_model.specs.Network.{empty_network, next_number};
-ghost use Rattle.nb_store.specs.Undo.{restored, removed, undone, back, back_steps};
-ghost use Rattle.nb_store.specs.Touched.{place_of};
-ghost use Rattle.nb_store.specs.inner.Held.{held, RisesAt};
+ghost use Rattle.nb_store.specs.Undo.{restored, swapped, removed, undone, back, back_steps};
+ghost use Rattle.nb_store.specs.Touched.{place_of, place_of_lean};
+ghost use Rattle.nb_store.specs.inner.Held.{held, swaps_back, RisesAt};
 
-use crate::step::{Object, Place, Step};
+use crate::step::{LeanObject, Object, Place, Step};
 use crate::undo::Undo;
 use nb_records::{Acl, AddrSet, Binding, Group, Lb, Nat, Port, Route, Router, RouterPort, Switch};
 use nv_base::ObjId;
@@ -87,6 +87,7 @@ impl Records {
     {
         match step {
             Step::Restore(object) => drop(self.exchange(object)),
+            Step::Swap(lean) => drop(self.swap(lean)),
             Step::Remove(place) => drop(self.take(place)),
             Step::Next(next) => self.next = next,
         }
@@ -119,6 +120,20 @@ impl Records {
             Object::Set(loose) => Object::Set(self.sets.exchange(loose)?),
             Object::Group(loose) => Object::Group(self.groups.exchange(loose)?),
             Object::Binding(loose) => Object::Binding(self.bindings.exchange(loose)?),
+        })
+    }
+
+    /// Puts a record in place of the one of its number, where the two differ by its one number, and answers that one, which swaps back.
+    /// Where they do not, nothing changes.
+    pub(crate) fn swap(&mut self, lean: LeanObject) -> Option<LeanObject>
+        ensures old { result ≡ swaps_back lean self.old }
+        ensures new { self.new ≡ swapped lean self.old }
+        ensures rise { RisesAt (place_of_lean lean) self.old }
+    {
+        Some(match lean {
+            LeanObject::Switch(lean) => LeanObject::Switch(self.switches.swap(lean)?),
+            LeanObject::Router(lean) => LeanObject::Router(self.routers.swap(lean)?),
+            LeanObject::Group(lean) => LeanObject::Group(self.groups.swap(lean)?),
         })
     }
 

@@ -1,10 +1,10 @@
 //! What undoes a change of the tables.
 ghost use Rattle.std.specs.Prelude.{◌≡◌};
-ghost use Rattle.nb_store.specs.Touched.{place_of, touched_by};
+ghost use Rattle.nb_store.specs.Touched.{place_of, place_of_lean, touched_by};
 
 use nb_records::{Acl, AddrSet, Binding, Group, Lb, Nat, Port, Route, Router, RouterPort, Switch};
 use nv_base::ObjId;
-use nv_table::Loose;
+use nv_table::{Lean, Loose};
 
 /// A record of the network, with the room that it takes in its table.
 #[derive(Drop)]
@@ -20,6 +20,14 @@ pub(crate) enum Object {
     Set(Loose<AddrSet>),
     Group(Loose<Group>),
     Binding(Loose<Binding>),
+}
+
+/// A record that lists one number more, or one less, than the one whose place it takes.
+#[derive(Drop)]
+pub(crate) enum LeanObject {
+    Switch(Lean<Switch>),
+    Router(Lean<Router>),
+    Group(Lean<Group>),
 }
 
 /// The number of an object, by its kind. Places are in the order of their kinds, and of one kind in that of their numbers.
@@ -54,6 +62,8 @@ pub enum Place {
 pub(crate) enum Step {
     /// Put this record in place of the one of its number, or back where there is none.
     Restore(Object),
+    /// Put this record in place of the one of its number, where the two differ by one number that they list.
+    Swap(LeanObject),
     /// Remove the record of this number.
     Remove(Place),
     /// Set the next number to this one.
@@ -81,6 +91,19 @@ impl Object {
     }
 }
 
+impl LeanObject {
+    /// Its kind and its number.
+    pub(crate) fn place(&self) -> Place
+        ensures { result ≡ place_of_lean self.now }
+    {
+        match self {
+            LeanObject::Switch(lean) => Place::Switch(lean.record().id),
+            LeanObject::Router(lean) => Place::Router(lean.record().id),
+            LeanObject::Group(lean) => Place::Group(lean.record().id),
+        }
+    }
+}
+
 impl Step {
     /// The place that it changes, if it is that of an object.
     pub(crate) fn touched(&self) -> Option<Place>
@@ -88,6 +111,7 @@ impl Step {
     {
         match self {
             Step::Restore(object) => Some(object.place()),
+            Step::Swap(lean) => Some(lean.place()),
             Step::Remove(place) => Some(*place),
             Step::Next(_) => None,
         }

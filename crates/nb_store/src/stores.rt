@@ -17,7 +17,10 @@ impl Work {
         ensures ok { OnOk result (self.new.records ≡ record self.old.records { switches = with_exchanged (λ x. x.id) switch self.old.records.switches }) }
         ensures back { back_steps self.new.steps.items self.new.records ≡ back_steps self.old.steps.items self.old.records }
     {
-        self.store(Object::Switch(Loose::new(alloc, switch)?))
+        match self.records.lean_switch(alloc, switch)? {
+            Ok(lean) => self.swap(lean),
+            Err(switch) => self.store(Object::Switch(Loose::new(alloc, switch)?)),
+        }
     }
 
     /// Puts a port of a switch in place of the one of its number, or in where there is none.
@@ -35,7 +38,10 @@ impl Work {
         ensures ok { OnOk result (self.new.records ≡ record self.old.records { routers = with_exchanged (λ x. x.id) router self.old.records.routers }) }
         ensures back { back_steps self.new.steps.items self.new.records ≡ back_steps self.old.steps.items self.old.records }
     {
-        self.store(Object::Router(Loose::new(alloc, router)?))
+        match self.records.lean_router(alloc, router)? {
+            Ok(lean) => self.swap(lean),
+            Err(router) => self.store(Object::Router(Loose::new(alloc, router)?)),
+        }
     }
 
     /// Puts a port of a router in place of the one of its number, or in where there is none.
@@ -102,7 +108,10 @@ impl Work {
         ensures ok { OnOk result (self.new.records ≡ record self.old.records { groups = with_exchanged (λ x. x.id) group self.old.records.groups }) }
         ensures back { back_steps self.new.steps.items self.new.records ≡ back_steps self.old.steps.items self.old.records }
     {
-        self.store(Object::Group(Loose::new(alloc, group)?))
+        match self.records.lean_group(alloc, group)? {
+            Ok(lean) => self.swap(lean),
+            Err(group) => self.store(Object::Group(Loose::new(alloc, group)?)),
+        }
     }
 
     /// Puts a static binding in place of the one of its number, or in where there is none.

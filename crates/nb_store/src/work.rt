@@ -1,9 +1,9 @@
 ghost use Rattle.std.specs.Prelude.{◌≡◌, ◌+◌, ◌<◌, ◌^◌, [], OnOk, IfOk};
 ghost use Rattle.nb_model.specs.Network.{next_number};
-ghost use Rattle.nb_store.specs.Undo.{restored, removed, undone, back_steps};
+ghost use Rattle.nb_store.specs.Undo.{restored, swapped, removed, undone, back_steps};
 
 use crate::records::Records;
-use crate::step::{Object, Place, Step};
+use crate::step::{LeanObject, Object, Place, Step};
 use crate::undo::Undo;
 use nv_base::{ObjId, OutOfMemory};
 use std::alloc::Global;
@@ -37,6 +37,17 @@ impl Work {
         match self.records.exchange(object) {
             Some(old) => self.note(Step::Restore(old)),
             None => self.note(Step::Remove(place)),
+        }
+    }
+
+    /// Puts a record in place of the one of its number, where the two differ by its one number. Where they do not, nothing changes.
+    pub(crate) fn swap(&mut self, lean: LeanObject) -> Result<(), OutOfMemory>
+        ensures ok { OnOk result (self.new.records ≡ swapped lean self.old.records) }
+        ensures back { back_steps self.new.steps.items self.new.records ≡ back_steps self.old.steps.items self.old.records }
+    {
+        match self.records.swap(lean) {
+            Some(old) => self.note(Step::Swap(old)),
+            None => Ok(()),
         }
     }
 

@@ -14,7 +14,7 @@ use Rattle.nv_table.proofs.Keyed.{pair, value_keyed, entry_keyed, put_keyed, tak
 use Rattle.nv_table.proofs.Undone.{rise_with, rise_without, taken_back, found_number, any_with, length_with, sum_with, length_without, sum_without, all_with, all_left, stays_by}
 
 module _ {R T : Type 0} (number : R → ObjId) (tags : R → List T) (cmp : T → T → Ordering) where
-  not_marked : (n : ObjId) (rs : List R) (mark : Mark T) → (mark.1.0 == n.0) ≡ true → is_mark number tags cmp (without_number number n rs) mark ≡ false
+  pub not_marked : (n : ObjId) (rs : List R) (mark : Mark T) → (mark.1.0 == n.0) ≡ true → is_mark number tags cmp (without_number number n rs) mark ≡ false
   not_marked n [] mark e = refl
   not_marked n (x ∷ rs) mark e = by (has_number number n x) refl (not_marked n rs mark e)
     where

@@ -76,7 +76,7 @@ module _ {R : Type 0} (number : R → ObjId) where
   all_stay n [] a = refl
   all_stay n (r ∷ rs) a = ap (λ b. cond (not b) (r ∷ without_number number n rs) (without_number number n rs)) a.0 ∙ ap (λ l. r ∷ l) (all_stay n rs a.1)
 
-  above_apart : (n : ObjId) (low : ℕ) → n.0 ≡ low → (rs : List R) → AllByRecursion (λ x. low < (number x).0) rs → AllByRecursion (λ r. has_number number n r ≡ false) rs
+  pub above_apart : (n : ObjId) (low : ℕ) → n.0 ≡ low → (rs : List R) → AllByRecursion (λ x. low < (number x).0) rs → AllByRecursion (λ r. has_number number n r ≡ false) rs
   above_apart n low e [] a = tt
   above_apart n low e (r ∷ rs) a = (ne_eqb _ _ (λ same. omega (arith, a.0)), above_apart n low e rs a.1)
 

@@ -3,6 +3,7 @@ pub mod Found
 pub mod Keyed
 pub mod Members
 pub mod Moves
+pub mod OneApart
 pub mod Tagged
 pub mod Through
 pub mod Undone

@@ -1,2 +1,3 @@
+pub mod Swapped
 pub mod Table
 pub mod inner

@@ -3,10 +3,13 @@
 #![tactic(auto)]
 
 mod laws;
+mod lean;
+mod listing;
 mod loose;
 mod marks;
 mod probes;
 mod record;
+mod swaps;
 mod table;
 
 pub use laws::{
@@ -15,6 +18,8 @@ pub use laws::{
     put_records_are_taken_back, records_of_new_numbers_go_last, taken_records_are_put_back,
     the_record_found_is_the_least,
 };
+pub use lean::Lean;
+pub use listing::Listing;
 pub use loose::Loose;
 pub use record::Record;
 pub use table::Table;

@@ -53,8 +53,8 @@ pub(crate) fn move_marks<R: Record>(record: &R, from: &mut Marks<R>, to: &mut Ma
     }
 }
 
-// Moves one mark of a record, where it is there.
-fn move_mark<R: Record>(own: &Own<R>, from: &mut Marks<R>, to: &mut Marks<R>)
+/// Moves one mark of a record, where it is there.
+pub(crate) fn move_mark<R: Record>(own: &Own<R>, from: &mut Marks<R>, to: &mut Marks<R>)
     requires from { KeysRise (mark_cmp R.Tag.cmp) from.old }
     requires to { KeysRise (mark_cmp R.Tag.cmp) to.old }
     requires apart { AreApart R.Tag.cmp from.old to.old }

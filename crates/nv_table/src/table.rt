@@ -11,10 +11,10 @@ use std::marker::Model;
 /// Records by their numbers, and by their tags. A clause sees the list of the records, whose numbers rise, so that no two have one.
 #[derive(Drop)]
 pub struct Table<R: Record> {
-    records: Map<ObjId, R>,
-    index: Marks<R>,
+    pub(crate) records: Map<ObjId, R>,
+    pub(crate) index: Marks<R>,
     count: u64,
-    sums: (u128, u128),
+    pub(crate) sums: (u128, u128),
 }
 
 impl<R: Record> Model for Table<R> {

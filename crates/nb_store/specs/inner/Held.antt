@@ -2,7 +2,11 @@
 use Rattle.std.specs.Prelude.{Option}
 use Rattle.std.specs.Option.{option_map}
 use Rattle.nb_model.specs.Network.{Network}
+use Rattle.nv_table.specs.Swapped.{swapped_out}
 use Rattle.nv_table.specs.Table.{NumbersRise, record_of}
+use Rattle.nb_records.specs.Longer.{switch_longer, router_longer, group_longer}
+use Rattle.nb_store.specs.declared.step.LeanObject.{LeanObject}
+use Rattle.nb_store.specs.declared.step.LeanObject.TheVariants as lean
 use Rattle.nb_store.specs.declared.step.Object.{Object}
 use Rattle.nb_store.specs.declared.step.Object.TheVariants as object
 use Rattle.nb_store.specs.declared.step.Place.{Place}
@@ -21,6 +25,12 @@ held (place.Acl n) net = option_map object.Acl (record_of (λ x. x.id) n net.acl
 held (place.Set n) net = option_map object.Set (record_of (λ x. x.id) n net.sets)
 held (place.Group n) net = option_map object.Group (record_of (λ x. x.id) n net.groups)
 held (place.Binding n) net = option_map object.Binding (record_of (λ x. x.id) n net.bindings)
+
+-- what swaps back
+abbrev pub swaps_back : LeanObject → Network → Option LeanObject
+swaps_back (lean.Switch s) net = option_map lean.Switch (swapped_out switch_longer s (record_of (λ x. x.id) s.0.id net.switches))
+swaps_back (lean.Router s) net = option_map lean.Router (swapped_out router_longer s (record_of (λ x. x.id) s.0.id net.routers))
+swaps_back (lean.Group s) net = option_map lean.Group (swapped_out group_longer s (record_of (λ x. x.id) s.0.id net.groups))
 
 -- the numbers of its kind rise
 abbrev pub RisesAt : Place → Network → Type 0

@@ -1,11 +1,11 @@
 -- The records of a table by number, and the index of its tags.
-use Rattle.std.specs.Prelude.{◌≡◌, ℕ, ◌^◌, ◌<◌, ◌&&◌, ◌||◌, not, Bool, true, false, List, map, length, sum_by, is_some}
+use Rattle.std.specs.Prelude.{◌≡◌, ℕ, ◌^◌, ◌<◌, ◌&&◌, ◌||◌, not, Bool, true, false, List, map, length, sum_by, is_some, slice_get}
 use Rattle.std.specs.List.{AllByRecursion, list_any}
-use Rattle.std.specs.Ordering.{ordering_then, nat_cmp}
+use Rattle.std.specs.Ordering.{is_eq, ordering_then, nat_cmp}
 use Rattle.std.specs.declared.cmp.Ordering.{Ordering}
 use Rattle.nv_base.specs.declared.object.ObjId.{ObjId}
 use Rattle.nv_map.specs.Map.{KeysRise, value_at}
-use Rattle.nv_table.specs.Table.{unkeyed, NumbersRise, has_number, has_tag}
+use Rattle.nv_table.specs.Table.{unkeyed, NumbersRise, has_number, has_tag, order_at}
 
 -- a tag, and the number of a record that has it
 abbrev pub Mark : Type 0 → Type 0
@@ -58,6 +58,15 @@ module _ {R T : Type 0} (number : R → ObjId) (tags : R → List T) (cmp : T �
     pub bounded : (number entry.1).0 < 2 ^ 32
     pub marks_rise : KeysRise (mark_cmp cmp) marks
     pub marked : HasMarks cmp (is_mark_of entry.1) marks
+
+  -- whether this is the mark of a record by its tag at a place
+  abbrev pub is_own_mark : R → ℕ → Mark T → Bool
+  is_own_mark r place mark = is_eq (ordering_then (order_at cmp (slice_get (tags r) place) mark.0) (number_cmp (number r) mark.1))
+
+  -- the mark of a record by its tag at a place, where it has that tag more than another record
+  pub record IsLean (r : R) (place : ℕ) (is_longer : Bool) (marks : List (Mark T × Unit {0})) : Type 0 where
+    pub marks_rise : KeysRise (mark_cmp cmp) marks
+    pub marked : HasMarks cmp (λ mark. is_longer && is_own_mark r place mark) marks
 
   -- the records by number, and the index of their marks
   pub record IsIndexed (entries : List (ObjId × R)) (index : List (Mark T × Unit {0})) : Type 0 where

@@ -1,6 +1,6 @@
 -- The rows that are made of the network's objects are the rows of its units.
 use Rattle.std.proofs.Common.{◌≡◌, true, List, [], ◌++◌, append_assoc, map, sym, ap, ◌∙◌, subst}
-use Rattle.std.specs.Prelude.{filter}
+use Rattle.std.specs.Prelude.{◌↔◌, filter}
 use Rattle.std.proofs.lemmas.Bool.{eqb-true, eq-eqb}
 use Rattle.std.specs.List.{Contains, flat_map}
 use Rattle.std.proofs.lemmas.List.{map-append}
@@ -209,12 +209,12 @@ module _ (net : Network) where
       same_through all (switches ++ rows_of_each net net.routers) (rows_of_units net) (subst (λ rows. HaveSameRows all (rows ++ (switches ++ rows_of_each net net.routers))) is_none same)
       (same_both switches (all_rows net) (rows_of_each net net.routers) (router_rows net) (made_all sound) (on_each net sound))
 
-  -- the rows of a datapath, those of its ports first, put in row order
+  -- the rows of a datapath, those of its ports first, in the order of their keys
   pub made_of_datapath : (switch : Switch) (none of_ports all : List Row) → none ≡ [] → of_ports ≡ none ++ flat_map (port_units net) (ports_on net switch.id) → HaveSameRows all (of_ports ++ rows_at net switch)
-      → (list : List Row) → list ≡ put_rows [] all → HaveSameRows list (datapath_rows net switch)
+      → (list : List Row) → ((r : Row) → Contains list r ↔ Contains all r) → HaveSameRows list (datapath_rows net switch)
   made_of_datapath switch none of_ports all is_none is_ports same list is_list =
       let ports = flat_map (port_units net) (ports_on net switch.id) in
       let at = rows_at net switch in
-      same_through list all (datapath_rows net switch) (same_through list (put_rows [] all) all (same_equal list (put_rows [] all) is_list) (record { members = put_members all }))
+      same_through list all (datapath_rows net switch) (record { members = is_list })
       (same_through all (of_ports ++ at) (datapath_rows net switch) same
       (same_through (of_ports ++ at) (ports ++ at) (datapath_rows net switch) (same_equal (of_ports ++ at) (ports ++ at) (ap (λ rows. rows ++ at) (is_ports ∙ ap (λ rows. rows ++ ports) is_none))) (same_turned_round ports at)))

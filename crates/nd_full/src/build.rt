@@ -32,8 +32,8 @@ pub fn full(alloc: Global, records: &Records) -> Result<Rows, OutOfMemory>
     Rows::of_all(alloc, rows_of_units(alloc, records)?)
 }
 
-// The rows of all units, some maybe twice, one datapath after the other, by rising number. Those of each are in row order, so that all
-// are.
+// The rows of all units, some maybe twice, one datapath after the other, by rising number. Those of each are in the order of
+// their keys, so that all are.
 fn rows_of_units(alloc: Global, records: &Records) -> Result<NewRows, OutOfMemory>
     requires { IsSound records.now }
     ensures { IfOk result (λ made. HaveSameRows made (rows_of_units records.now)) }
@@ -60,7 +60,7 @@ fn add_rows_of_datapaths(
     add_rows_of_routers(alloc, made, records, last, None)
 }
 
-// The rows of a switch, of the ACLs on it and of its ports, in row order.
+// The rows of a switch, of the ACLs on it and of its ports, in the order of their keys.
 fn rows_of_datapath(
     alloc: Global,
     records: &Records,
@@ -75,7 +75,7 @@ fn rows_of_datapath(
     let acl = switch_acl_input(records, switch, &owners);
     let unknown = add_rows_of_ports(alloc, &mut made, records, switch.id, acl.tracks)?;
     add_rows_of_switch(alloc, &mut made, records, switch, &owners, &acl, unknown)?;
-    made.into_rows().into_list()
+    made.into_rows().into_list_by_key()
 }
 
 // The rows of the ports of a switch, which tracks connections or does not, come after the others. Whether an enabled port has the

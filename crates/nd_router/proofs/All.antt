@@ -1,6 +1,6 @@
 -- The rows that are made of a router's objects are the rows on it; those on each router are all.
 use Rattle.std.proofs.Common.{◌≡◌, true, List, [], ◌++◌, append_assoc, sym, ap, subst, ◌∙◌, inl, inr, ◌⊎◌}
-use Rattle.std.specs.Prelude.{Some, filter}
+use Rattle.std.specs.Prelude.{◌↔◌, Some, filter}
 use Rattle.std.specs.List.{AllByRecursion, Contains, flat_map}
 use Rattle.std.proofs.lemmas.Bool.{eq-eqb}
 use Rattle.std.proofs.lemmas.List.Elements.{Contains-append_cases, Contains-append_left, Contains-append_right}
@@ -421,11 +421,11 @@ module _ (net : Network) (sound : IsSound net) (router : Router) (there : record
     );
   }
 
-  -- and so are they in row order, as they come
+  -- and so are they in the order of their keys, as they come
   pub made_router : (none own ports routes nats all : List Row) → none ≡ [] → own ≡ none ++ own_rows net router.id → ports ≡ own ++ of_ports → routes ≡ ports ++ of_routes → nats ≡ routes ++ of_nats → all ≡ nats ++ of_lbs
-      → (list : List Row) → list ≡ put_rows [] all → HaveSameRows list (rows_on net router.id)
+      → (list : List Row) → ((r : Row) → Contains list r ↔ Contains all r) → HaveSameRows list (rows_on net router.id)
   made_router none own ports routes nats all is_none is_own is_ports is_routes is_nats is_all list is_list =
-      same_through list all (rows_on net router.id) (same_through list (put_rows [] all) all (same_equal list (put_rows [] all) is_list) (record { members = put_members all }))
+      same_through list all (rows_on net router.id) (record { members = is_list })
       (same_through all (made_rows net router) (rows_on net router.id) (same_equal all (made_rows net router) are_all) made_on)
     where
       are_all : all ≡ made_rows net router

@@ -22,7 +22,7 @@ use nv_base::OutOfMemory;
 use sb_rows::{NewRows, RowList};
 use std::alloc::Global;
 
-/// The rows on a router, in row order: those of its units, of its ports and of those across them, of its routes, of its NAT rules, and
+/// The rows on a router, in the order of datapath, stage, priority and hint: those of its units, of its ports and of those across them, of its routes, of its NAT rules, and
 /// of the load balancers attached to it; some maybe twice. Where memory runs out the answer is `OutOfMemory`.
 pub fn rows_of_router(
     alloc: Global,
@@ -40,7 +40,7 @@ pub fn rows_of_router(
     put_routes(alloc, &mut rows, records, router.id)?;
     put_nats(alloc, &mut rows, records, router.id)?;
     put_balancers(alloc, &mut rows, records, router)?;
-    rows.into_list()
+    rows.into_list_by_key()
 }
 
 // The rows of the units of the router itself come after the others.

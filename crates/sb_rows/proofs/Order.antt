@@ -1,5 +1,5 @@
 -- The order of rows is a total order, and it ranks rows by their datapath first.
-use Rattle.std.proofs.Common.{◌≡◌, ℕ, ◌+◌, ◌<◌, ◌≤◌, Bool, true, false, not, List, ◌∷◌, ◌++◌, length, length-append, get_or, sym, ap, refl, ◌∙◌, arith}
+use Rattle.std.proofs.Common.{◌≡◌, ℕ, ◌+◌, ◌<◌, ◌≤◌, true, false, not, List, ◌∷◌, ◌++◌, length, length-append, get_or, sym, ap, refl, ◌∙◌, arith}
 use Rattle.std.specs.declared.cmp.Ordering.{Ordering}
 use Rattle.std.specs.declared.cmp.Ordering.TheVariants.{Less, Equal, Greater}
 use Rattle.std.specs.Ordering.{is_lt, is_le, is_gt, nat_cmp, ordering_reverse, ordering_then}
@@ -8,10 +8,9 @@ use Rattle.std.specs.Cmp.{IsTotalOrder}
 use Rattle.std.specs.List.{All}
 use Rattle.std.proofs.lemmas.List.{get_or_append_left}
 use Rattle.std.proofs.Math.Seq.{get_or-append_seam}
-use Rattle.std.specs.List.Sorted.{IsSorted, IsPartitionedBy, IsNonDecreasingBy}
+use Rattle.std.specs.List.Sorted.{IsSorted, IsPartitionedBy}
 use Rattle.std.proofs.lemmas.Cmp.{nat_cmp_total, nat_list_cmp_total, on_total, then_total, back_total, upto}
-use Rattle.std.proofs.lemmas.List.Sorted.{sorted_far, ranks_by, IsNonDecreasingBy-from_all_adjacent}
-use Rattle.std.proofs.lemmas.Bool.Decides.{nat_tests}
+use Rattle.std.proofs.lemmas.List.Sorted.{sorted_far, ranks_by}
 use Rattle.sb_model.specs.declared.row.Row.{Row}
 use Rattle.expr_core.specs.Text.{typed_text}
 use Rattle.sb_rows.specs.Row.{key_cmp, row_cmp, IsInRowOrder}
@@ -59,17 +58,6 @@ module _ {X : Type 0} {cmp : X → X → Ordering} (total : IsTotalOrder cmp) wh
         le_from_gt : (o : Ordering) → is_gt o ≡ false → is_le o ≡ true
         le_from_gt o e = grind (arith, gt_from_le o)
 
-    -- and those below it before those that are not
-    pub parted_lt : (x : X) → IsPartitionedBy (λ y. is_lt (cmp y x)) xs
-    parted_lt x i j d le within passes = by (is_lt (cmp (get_or xs i d) x)) refl
-      where
-        by : (b : Bool) → is_lt (cmp (get_or xs i d) x) ≡ b → b ≡ true
-        by true is = refl
-        by false is =
-            let first : is_gt (cmp x (get_or xs i d)) ≡ false = sym (turned x (get_or xs i d)) ∙ is in
-            let above : is_gt (cmp x (get_or xs j d)) ≡ false = upto total x (get_or xs i d) (get_or xs j d) first (not_above i j d le within) in
-            sym (sym passes ∙ turned x (get_or xs j d) ∙ above)
-
 -- x is not above y just where y is not below x
 pub lt_turned : (x y : Row) → is_lt (row_cmp y x) ≡ is_gt (row_cmp x y)
 lt_turned = turned row_cmp_total
@@ -87,15 +75,6 @@ key_from_row x y h = first (key_cmp y x) _ h
 -- rows in order are in the order of their keys
 pub keys_in_order : (xs : List Row) → IsInRowOrder xs → IsSorted key_cmp xs
 keys_in_order xs up k d le lt = key_from_row (get_or xs k d) (get_or xs (k + 1) d) (up k d le lt)
-
--- a row that is not before another by its key has no lower datapath
-dp_from_order : (x y : Row) → is_lt (key_cmp y x) ≡ false → x.dp.0 ≤ y.dp.0
-unfolding key_cmp
-dp_from_order x y h = grind (arith, nat_tests)
-
--- rows in order are in the order of their datapaths
-pub dps_rise : (xs : List Row) → IsInRowOrder xs → IsNonDecreasingBy (λ (r : Row). r.dp.0) xs
-dps_rise xs up = IsNonDecreasingBy-from_all_adjacent (λ (r : Row). r.dp.0) xs (λ k d lt. dp_from_order _ _ (keys_in_order xs up k d (omega arith) lt))
 
 -- in rows in order, those at most a row come before those above it
 pub parted_at : (xs : List Row) → IsInRowOrder xs → (row : Row) → IsPartitionedBy (λ y. is_le (row_cmp y row)) xs

@@ -1,7 +1,5 @@
 -- The bucket of a packet that has what is asked.
-use Rattle.std.proofs.Common.{◌≡◌, ℕ, zero, suc, List, [], ◌∷◌, ◌++◌, take, drop, ap, refl, sym, subst, ◌∙◌, ◌⊎◌, inl, inr}
-use Rattle.std.specs.List.{Contains}
-use Rattle.std.proofs.lemmas.List.Elements.{Contains-append_cases, Contains-append_left, Contains-append_right}
+use Rattle.std.proofs.Common.{◌≡◌, ℕ, List, ap, sym, subst, ◌∙◌, ◌⊎◌, inl, inr}
 use Rattle.std.specs.Prelude.{Option, Some, None}
 use Rattle.expr_core.specs.Lookup.{Lookup}
 use Rattle.pkt_core.specs.Packet.{Values, value}
@@ -33,15 +31,3 @@ plain_bucket asks shape net packet shaped is has =
 pub from_either : {A B C : Type 0} → A ⊎ B → (A → C) → (B → C) → C
 from_either (inl a) f g = f a
 from_either (inr b) f g = g b
-
--- what is in a list is in it where its front is put behind the rest
-pub Contains-rotated : {X : Type 0} (n : ℕ) (xs : List X) (x : X) → Contains xs x → Contains (drop n xs ++ take n xs) x
-Contains-rotated {X} n xs x there =
-    from_either (Contains-append_cases (take n xs) (drop n xs) x (subst (λ l. Contains l x) (sym (take_drop n xs)) there))
-    (λ front. Contains-append_right (drop n xs) (take n xs) x front)
-    (λ rest. Contains-append_left (drop n xs) (take n xs) x rest)
-  where
-    take_drop : (n : ℕ) (l : List X) → take n l ++ drop n l ≡ l
-    take_drop zero l = refl
-    take_drop (suc n) [] = refl
-    take_drop (suc n) (y ∷ l) = ap (λ m. y ∷ m) (take_drop n l)

@@ -5,4 +5,5 @@ pub mod ByText
 pub mod Exact
 pub mod Index
 pub mod Places
+pub mod Store
 pub mod Tables

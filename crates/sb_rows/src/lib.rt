@@ -10,8 +10,10 @@ mod listing;
 mod new_rows;
 mod row_list;
 mod rows;
-mod search;
+mod spacing;
+mod store;
 mod stored;
+mod table;
 
 pub use laws::{rows_are_told_by_their_members, rows_that_are_put_are_in_order};
 pub use listing::put_listing;

@@ -1,10 +1,10 @@
-ghost use Rattle.std.specs.Prelude.{◌≡◌, ◌++◌, decimal, OnOk, OnErr};
+ghost use Rattle.std.specs.Prelude.{◌≡◌, ◌++◌, decimal, map, OnOk, OnErr};
 ghost use Rattle.std.specs.List.{flat_map};
 ghost use Rattle.sb_rows.specs.Listing.{pipeline_name, is_asked_for, heading, stage_text, row_text, row_rank, row_rule, rows_in, pipeline_listing, datapath_listing, listing};
+ghost use Rattle.sb_rows.specs.Row.{rows_of};
 ghost use Rattle.nv_base.specs.Growth.{GrowsAtEnd};
 
 use crate::Rows;
-use crate::stored::Stored;
 use act_core::put_actions;
 use expr_core::put_tree;
 use itoa::Buffer;
@@ -24,7 +24,7 @@ pub fn put_listing(
 {
     for (dp, name) in names {
         if is_asked_for(only, *dp) {
-            put_datapath(out, rows.of_datapath(*dp), name)?;
+            put_rows_of(out, rows, *dp, name)?;
         }
     }
     Ok(())
@@ -40,8 +40,17 @@ fn is_asked_for(only: Option<ObjId>, dp: ObjId) -> bool
     }
 }
 
-fn put_datapath(out: &mut Vec<u8>, rows: &[Stored], name: &Name) -> Result<(), OutOfMemory>
-    ensures ok { OnOk result (out.new.items ≡ out.old.items ++ datapath_listing rows.now name.now) }
+// Writes the rows of a datapath.
+fn put_rows_of(out: &mut Vec<u8>, rows: &Rows, dp: ObjId, name: &Name) -> Result<(), OutOfMemory>
+    ensures ok { OnOk result (out.new.items ≡ out.old.items ++ datapath_listing (rows_of dp rows.now) name.now) }
+    ensures err { OnErr result (GrowsAtEnd out.old.items out.new.items) }
+{
+    let listed = rows.of_datapath(dp)?;
+    put_datapath(out, &listed, name)
+}
+
+fn put_datapath(out: &mut Vec<u8>, rows: &[&Row], name: &Name) -> Result<(), OutOfMemory>
+    ensures ok { OnOk result (out.new.items ≡ out.old.items ++ datapath_listing (map (λ r. r.now) rows.now) name.now) }
     ensures err { OnErr result (GrowsAtEnd out.old.items out.new.items) }
 {
     put_pipeline(out, rows, name, Pipeline::Ingress)?;
@@ -51,11 +60,11 @@ fn put_datapath(out: &mut Vec<u8>, rows: &[Stored], name: &Name) -> Result<(), O
 
 fn put_pipeline(
     out: &mut Vec<u8>,
-    rows: &[Stored],
+    rows: &[&Row],
     name: &Name,
     pipeline: Pipeline,
 ) -> Result<(), OutOfMemory>
-    ensures ok { OnOk result (out.new.items ≡ out.old.items ++ pipeline_listing rows.now name.now pipeline) }
+    ensures ok { OnOk result (out.new.items ≡ out.old.items ++ pipeline_listing (map (λ r. r.now) rows.now) name.now pipeline) }
     ensures err { OnErr result (GrowsAtEnd out.old.items out.new.items) }
 {
     put_heading(out, name, pipeline)?;
@@ -63,12 +72,11 @@ fn put_pipeline(
     Ok(())
 }
 
-fn put_rows(out: &mut Vec<u8>, rows: &[Stored], pipeline: Pipeline) -> Result<(), OutOfMemory>
-    ensures ok { OnOk result (out.new.items ≡ out.old.items ++ flat_map row_text (rows_in pipeline rows.now)) }
+fn put_rows(out: &mut Vec<u8>, rows: &[&Row], pipeline: Pipeline) -> Result<(), OutOfMemory>
+    ensures ok { OnOk result (out.new.items ≡ out.old.items ++ flat_map row_text (rows_in pipeline (map (λ r. r.now) rows.now))) }
     ensures err { OnErr result (GrowsAtEnd out.old.items out.new.items) }
 {
-    for stored in rows {
-        let row = stored.row();
+    for row in rows {
         if row.stage.pipeline() == pipeline {
             put_row_line(out, row)?;
         }

@@ -1,4 +1,5 @@
-ghost use Rattle.std.specs.Prelude.{◌≡◌, [], ◌∷◌, ◌++◌, IfOk, IsSorted, IsTrue, OnOk, OnErr};
+ghost use Rattle.std.specs.Prelude.{◌≡◌, [], ◌∷◌, ◌++◌, ◌↔◌, Contains, IfOk, IsSorted, IsTrue, OnOk, OnErr};
+ghost use Rattle.sb_model.specs.declared.row.Row as row_of;
 ghost use Rattle.sb_rows.specs.Row.{key_cmp, put_rows};
 
 use crate::RowList;
@@ -87,6 +88,17 @@ impl NewRows {
         }
         stored.sort_by(|one, other| one.key_order(other))?;
         Ok(RowList::from_stored(in_row_order(stored)?))
+    }
+
+    /// The rows in the order of datapath, stage, falling priority and hint. Rows that agree in these stay in the order in which they came: it
+    /// writes no text of a match (not from OVN).
+    pub fn into_list_by_key(self) -> Result<RowList, OutOfMemory>
+        ensures order { IfOk result (λ list. IsSorted key_cmp list) }
+        ensures members { IfOk result (λ list. (r : row_of.Row) → Contains list r ↔ Contains self r) }
+    {
+        let mut stored = self.stored;
+        stored.sort_by(|one, other| one.key_order(other))?;
+        Ok(RowList::from_stored(stored))
     }
 
     // The rows, in their order.

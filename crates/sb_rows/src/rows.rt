@@ -1,13 +1,11 @@
-ghost use Rattle.std.specs.Prelude.{◌≡◌, [], length, All, Contains, IsTrue, ◌↔◌, IfOk, OnOk, OnErr, slice_get};
+ghost use Rattle.std.specs.Prelude.{◌≡◌, [], length, map, All, Contains, IsTrue, ◌↔◌, IfOk, OnOk, OnErr, slice_get};
 ghost use Rattle.std.specs.Bool.{OnTrue, OnFalse};
 ghost use Rattle.std.specs.Option.{option_copied};
 ghost use Rattle.sb_rows.specs.Row.{AgreeAsOne, AreRows, HasTypedMatch, IsSetOf, IsWithout, put_row, rows_of};
 ghost use Rattle.sb_rows.specs.Match.{select};
 
 use crate::NewRows;
-use crate::by_text::{Rooms, put_in_place};
-use crate::index::{Table, first_in_table, tables_of};
-use crate::search::{place_of, table_from};
+use crate::store::{Tables, drop_empty, put_in, row_at, tables_of, take_from};
 use crate::stored::{Stored, table_key};
 use expr_ports::PortNames;
 use nv_base::{ObjId, OutOfMemory};
@@ -20,15 +18,16 @@ use std::marker::Model;
 /// list of the rows.
 #[derive(Drop)]
 pub struct Rows {
-    sorted: Vec<Stored>,
-    // What is kept of the tables that have many rows. It is made with the rows; a change drops it, and then tables are looked through.
-    tables: Vec<Table>,
+    alloc: Global,
+    tables: Tables,
+    count: usize,
 }
 
 impl Model for Rows {
     ghost use Rattle.std.specs.Prelude.{List};
     ghost use Rattle.sb_model.specs.declared.row.Row.{Row};
-    ghost use Rattle.sb_rows.specs.inner.Index.{AreIndexed};
+    ghost use Rattle.std.specs.List.{flat_map};
+    ghost use Rattle.sb_rows.specs.inner.Store.{IsStore};
     ghost use Rattle.sb_model.specs.contracts.row.Row as row_of;
     ghost use Rattle.std.specs.Coded.{codes};
 
@@ -36,9 +35,9 @@ impl Model for Rows {
 
     ghost coded = { Prim.hlevel (codes, row_of.the_row.coded) };
 
-    ghost view = { λ r. r.sorted.items };
+    ghost view = { λ r. flat_map (λ table. table.1) r.tables.entries };
 
-    ghost invariant = { λ r. AreIndexed r.sorted.items r.tables.items };
+    ghost invariant = { λ r. IsStore r.tables.entries r.count };
 }
 
 impl Rows {
@@ -47,8 +46,9 @@ impl Rows {
         ensures { result ≡ [] }
     {
         Rows {
-            sorted: Vec::new(alloc),
-            tables: Vec::new(alloc),
+            alloc,
+            tables: Tables::new(alloc),
+            count: 0,
         }
     }
 
@@ -62,15 +62,23 @@ impl Rows {
     {
         let mut sorted = new.into_list()?.into_stored();
         sorted.dedup_by(|next, last| next.is_same(last));
-        let tables = tables_of(alloc, &sorted)?;
-        Ok(Rows { sorted, tables })
+        let count = sorted.len();
+        let tables = tables_of(alloc, sorted)?;
+        Ok(Rows {
+            alloc,
+            tables,
+            count,
+        })
     }
 
     /// Whether an equal row is there. Its match and actions are compared only with rows that agree with it in all else.
     pub fn contains(&self, row: &Row) -> bool
         ensures { IsTrue result ↔ Contains self.now row.now }
     {
-        place_of(&self.sorted, row).is_some()
+        match self.tables.get(&table_key(row.dp, row.stage)) {
+            Some(table) => table.contains(row),
+            None => false,
+        }
     }
 
     /// Puts one more row, unlike each that is there, in its place. After `OutOfMemory` the rows are as
@@ -81,10 +89,13 @@ impl Rows {
         ensures ok { OnOk result (self.new ≡ put_row row self.old) }
         ensures err { OnErr result (self.new ≡ self.old) }
     {
-        let alloc = *self.sorted.allocator();
-        let stored = Stored::new(alloc, row)?;
-        self.tables.clear();
-        put_in_place(&mut self.sorted, stored, &mut Rooms::new(alloc))?;
+        let Some(count) = self.count.checked_add(1) else {
+            drop(row);
+            return Err(OutOfMemory);
+        };
+        let stored = Stored::new(self.alloc, row)?;
+        put_in(self.alloc, &mut self.tables, stored)?;
+        self.count = count;
         Ok(())
     }
 
@@ -94,53 +105,51 @@ impl Rows {
         ensures taken { OnTrue result (IsWithout row.now self.old self.new) }
         ensures kept { OnFalse result (self.new ≡ self.old) }
     {
-        match place_of(&self.sorted, row) {
-            Some(at) => {
-                self.tables.clear();
-                self.sorted.remove(at);
-                true
-            }
-            None => false,
+        if !take_from(&mut self.tables, row) {
+            return false;
         }
+        drop_empty(&mut self.tables, table_key(row.dp, row.stage));
+        self.count -= 1;
+        true
     }
 
     /// How many rows there are.
     pub fn len(&self) -> usize
         ensures { result ≡ length self.now }
     {
-        self.sorted.len()
+        self.count
     }
 
     /// Whether there is no row.
     pub fn is_empty(&self) -> bool
         ensures { IsTrue result ↔ (self.now ≡ []) }
     {
-        self.sorted.is_empty()
+        self.count == 0
     }
 
-    /// The row at this place, from 0, in row order. None exactly where there are not so many.
+    /// The row at this place, from 0, in row order. None exactly where there are not so many. It goes over the tables before, and over
+    /// the rows of its own.
     pub fn get(&self, at: usize) -> Option<&Row>
         ensures row { option_copied result ≡ slice_get self.now at }
         ensures rows { AreRows self.now }
     {
-        match self.sorted.get(at) {
-            Some(stored) => Some(stored.row()),
-            None => None,
-        }
+        row_at(&self.tables, at)
     }
 
-    // The rows of one datapath, in row order. It looks at few of the others.
-    pub(crate) fn of_datapath(&self, dp: ObjId) -> &[Stored]
-        ensures { result.now ≡ rows_of dp self.now }
+    // The rows of one datapath, in row order. It looks at none of the others.
+    pub(crate) fn of_datapath(&self, dp: ObjId) -> Result<Vec<&Row>, OutOfMemory>
+        ensures { IfOk result (λ list. map (λ r. r.now) list.items ≡ rows_of dp self.now) }
     {
-        let low = self.sorted.partition_point(|stored| stored.dp().0 < dp.0);
-        let from_low = &self.sorted[low..];
-        let count = from_low.partition_point(|stored| stored.dp().0 <= dp.0);
-        &from_low[..count]
+        let first = u64::from(dp.0) * 32;
+        let mut rows = Vec::new(self.alloc);
+        for (_, table) in self.tables.range(first..first + 32) {
+            table.put_last(&mut rows)?;
+        }
+        Ok(rows)
     }
 
-    /// The row that acts on a packet in a table: the first one in row order whose match holds. It looks at few of
-    /// the rows of other tables, and takes no memory.
+    /// The row that acts on a packet in a table: the first one in row order whose match holds. Of a table of
+    /// many rows it looks at those that ask for what the packet has. It takes no memory.
     pub fn select<E: PortNames>(
         &self,
         dp: ObjId,
@@ -150,26 +159,6 @@ impl Rows {
     ) -> Option<&Row>
         ensures { option_copied result ≡ select dp stage (E.lookup env.now) packet.now self.now }
     {
-        let mut near = 0;
-        self.select_near(dp, stage, packet, env, &mut near)
-    }
-
-    /// The same, for tables one after the other. `near` is where the row of the table before was found, or anything, and
-    /// becomes where this one is. A table that begins right after it is not searched for; the answer does not depend on it.
-    pub fn select_near<E: PortNames>(
-        &self,
-        dp: ObjId,
-        stage: Stage,
-        packet: &Packet,
-        env: &E,
-        near: &mut usize,
-    ) -> Option<&Row>
-        ensures { option_copied result ≡ select dp stage (E.lookup env.now) packet.now self.now }
-    {
-        let key = table_key(dp, stage);
-        let low = table_from(&self.sorted, &self.tables, *near, key);
-        let (row, place) = first_in_table(&self.sorted, &self.tables, low, key, packet, env);
-        *near = place;
-        row
+        self.tables.get(&table_key(dp, stage))?.first(packet, env)
     }
 }

@@ -3,7 +3,7 @@ ghost use Rattle.std.specs.Prelude.{◌≡◌, ◌<◌, IfOk};
 ghost use Rattle.expr_eval.specs.MatchMeaning.{holds};
 ghost use Rattle.sb_rows.specs.Row.{key_cmp};
 ghost use Rattle.sb_rows.specs.inner.Beside.{FitsItsKey, is_same, key_of_row, order_of_keys};
-ghost use Rattle.sb_rows.specs.inner.Tables.{table_key, rank_key, key_of};
+ghost use Rattle.sb_rows.specs.inner.Tables.{table_key, rank_key, rank_of, key_of};
 
 use expr_core::Env;
 use expr_eval::holds;
@@ -14,15 +14,13 @@ use std::alloc::Global;
 use std::cmp::Ordering;
 use std::marker::Model;
 
-// What orders rows before the texts of their matches do: two numbers, of which the first that differs decides. The datapath
-// stands beside them.
+// What orders rows before the texts of their matches do: two numbers, of which the first that differs decides.
 #[derive(Clone, Copy)]
 pub(crate) struct Key {
     // The place of the row's table among all.
     table: u64,
     // The place of the row in its table.
     rank: u64,
-    dp: ObjId,
 }
 
 // A row beside what sorts and searches look at first: its key. A clause sees it as the row. It is small, since many are moved where rows are put in order.
@@ -70,24 +68,19 @@ impl Stored {
         &self.row
     }
 
-    pub(crate) fn into_row(self) -> Row
-        ensures { result ≡ self }
-    {
-        Box::into_inner(self.row)
-    }
-
-    // The datapath of the row. The row is not looked at.
-    pub(crate) fn dp(&self) -> ObjId
-        ensures { result ≡ self.now.dp }
-    {
-        self.key.dp
-    }
-
     // The place of the row's table among all. The row is not looked at.
     pub(crate) fn table_key(&self) -> u64
         ensures { result ≡ key_of self.now }
     {
         self.key.table
+    }
+
+    // The place of the row's priority and hint among those of its table. The row is not looked at.
+    pub(crate) fn rank(&self) -> u64
+        ensures rank { result ≡ rank_of self.now }
+        ensures fits { FitsItsKey self.now }
+    {
+        self.key.rank
     }
 
     // Whether the match holds of the packet.
@@ -105,14 +98,6 @@ impl Stored {
         ensures { result ≡ key_cmp self.now other.now }
     {
         order_of_keys(self.key, other.key)
-    }
-
-    // The same of a row whose key is not kept.
-    #[tactic(auto, using(crate::proofs::Tables::keys_order))]
-    pub(crate) fn key_order_of(&self, row: &Row) -> Ordering
-        ensures { result ≡ key_cmp self.now row.now }
-    {
-        order_of_keys(self.key, key_of_row(row))
     }
 
     // Whether the two are one row. What is in the rows is compared only where their keys are equal.
@@ -144,7 +129,6 @@ fn key_of_row(row: &Row) -> Key
     Key {
         table: table_key(row.dp, row.stage),
         rank: rank_key(row.priority, row.hint),
-        dp: row.dp,
     }
 }
 
@@ -164,7 +148,7 @@ pub(crate) fn table_key(dp: ObjId, stage: Stage) -> u64
 }
 
 // The place of a row in its table: by falling priority, then by hint.
-fn rank_key(priority: u16, hint: ObjId) -> u64
+pub(crate) fn rank_key(priority: u16, hint: ObjId) -> u64
     ensures key { result ≡ rank_key priority hint }
     ensures fits { (priority < 65536) × (hint.0 < 4294967296) }
 {

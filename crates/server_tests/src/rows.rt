@@ -1,4 +1,4 @@
-ghost use Rattle.std.specs.Prelude.{None, false, refl};
+ghost use Rattle.std.specs.Prelude.{◌<◌, ◌^◌, None, false, refl};
 ghost use Rattle.expr_core.specs.WellTyped.{IsTyped};
 ghost use Rattle.expr_core.specs.declared.role.Role.TheVariants as role;
 ghost use Rattle.sb_rows.specs.Row.{HasTypedMatch};
@@ -48,19 +48,21 @@ impl PortNames for Empty {
 }
 
 // The packets that a row takes.
-#[derive(Clone, Copy)]
+#[derive(Clone, Copy, PartialEq, Eq)]
 enum Takes {
     Each,
     ToMulticast,
     FromMulticast,
     // Those to the MAC 0a:00:00:00:00:xx, of this last byte.
     To(u8),
+    // Those to the MAC of this number.
+    ToMac(u64),
     // Those that came in by the port `vm-1`.
     FromPort,
 }
 
 // What a row does.
-#[derive(Clone, Copy)]
+#[derive(Clone, Copy, PartialEq, Eq)]
 enum Does {
     Next,
     Drop,
@@ -70,8 +72,20 @@ enum Does {
 }
 
 // A row as plain data: its datapath, stage, priority and hint, the packets that it takes, and what it does.
-#[derive(Clone, Copy)]
+#[derive(Clone, Copy, PartialEq, Eq)]
 struct Plain(u32, Stage, u16, u32, Takes, Does);
+
+// The match of the packets to a MAC.
+fn is_to(mac: u64) -> Typed
+    requires { mac < 2 ^ 48 }
+    ensures { IsTyped role.Row result }
+{
+    let constant = Const {
+        form: Form::Mac,
+        value: u128::from(mac),
+    };
+    equals(Field::EthDst, constant)
+}
 
 fn match_of(takes: Takes, alloc: Global, rt: &impl Abort) -> Typed
     ensures { IsTyped role.Row result }
@@ -80,13 +94,8 @@ fn match_of(takes: Takes, alloc: Global, rt: &impl Abort) -> Typed
         Takes::Each => takes_each(),
         Takes::ToMulticast => predicate(Pred::EthMcast),
         Takes::FromMulticast => bit(Field::EthSrc, 40),
-        Takes::To(last) => {
-            let constant = Const {
-                form: Form::Mac,
-                value: 0x0a00_0000_0000 + u128::from(last),
-            };
-            equals(Field::EthDst, constant)
-        }
+        Takes::To(last) => is_to(0x0a00_0000_0000 + u64::from(last)),
+        Takes::ToMac(mac) => is_to(mac % (1 << 48)),
         Takes::FromPort => is_port(Field::Inport, name("vm-1", alloc, rt)),
     }
 }
@@ -339,4 +348,166 @@ fn a_copied_row_is_equal(rt: HostRuntime) {
         let other = to_port(last, port);
         assert!(rt; is_copied_as(to_port(7, "vm-1"), other, rt.alloc(), &rt) == expected);
     }
+}
+
+// Numbers that look random, one after the other (the generator of Marsaglia's xorshift).
+#[derive(Drop)]
+struct Random {
+    state: u64,
+}
+
+impl Random {
+    // A number below this one, which is not 0.
+    fn below(&mut self, bound: u64) -> u64
+        requires { 0 < bound }
+        ensures { result < bound }
+    {
+        self.state ^= self.state << 13;
+        self.state ^= self.state >> 7;
+        self.state ^= self.state << 17;
+        self.state % bound
+    }
+}
+
+// One of few rows, so that many agree in some things.
+fn some_row(random: &mut Random) -> Plain {
+    let stage = if random.below(4) == 0 {
+        Stage::LsInCheckPortSec
+    } else {
+        Stage::LsInL2Lkup
+    };
+    let takes = match random.below(12) {
+        0 => Takes::Each,
+        1 => Takes::ToMulticast,
+        2 => Takes::FromMulticast,
+        3 => Takes::FromPort,
+        _ => Takes::To(random.below(6) as u8),
+    };
+    let does = if random.below(2) == 0 {
+        Does::Next
+    } else {
+        Does::Drop
+    };
+    let dp = 1 + random.below(2) as u32;
+    let priority = random.below(4) as u16;
+    Plain(dp, stage, priority, random.below(3) as u32, takes, does)
+}
+
+// Whether a row takes the packets from and to these MACs, which come in by no port.
+fn is_taking(takes: Takes, from: u64, to: u64) -> bool {
+    match takes {
+        Takes::Each => true,
+        Takes::ToMulticast => (to >> 40) & 1 == 1,
+        Takes::FromMulticast => (from >> 40) & 1 == 1,
+        Takes::To(last) => to == 0x0a00_0000_0000 + u64::from(last),
+        Takes::ToMac(mac) => to == mac,
+        Takes::FromPort => false,
+    }
+}
+
+// Whether a row of this priority and hint is before the one that was found.
+fn is_first(priority: u16, hint: u32, found: Option<(u16, u32)>) -> bool {
+    match found {
+        None => true,
+        Some((first, other)) => priority > first || (priority == first && hint < other),
+    }
+}
+
+// The priority and the hint of the row that a packet meets, by a look at each row.
+fn scanned(table: &[Plain], dp: u32, stage: Stage, from: u64, to: u64) -> Option<(u16, u32)> {
+    let mut found = None;
+    for Plain(own, at, priority, hint, takes, _) in table {
+        if *own == dp
+            && *at == stage
+            && is_taking(*takes, from, to)
+            && is_first(*priority, *hint, found)
+        {
+            found = Some((*priority, *hint));
+        }
+    }
+    found
+}
+
+// A MAC that some row may ask for.
+fn some_mac(random: &mut Random) -> u64
+    ensures { result < 2 ^ 48 }
+{
+    match random.below(8) {
+        0 | 1 => 1 << 40,
+        last => 0x0a00_0000_0000 + last,
+    }
+}
+
+// Whether a packet meets in a table the row that a look at each row tells.
+fn is_met_as_scanned(
+    rows: &Rows,
+    table: &[Plain],
+    dp: u32,
+    stage: Stage,
+    from: u64,
+    to: u64,
+) -> bool
+    requires from { from < 2 ^ 48 }
+    requires to { to < 2 ^ 48 }
+{
+    met(rows, dp, stage, &packet(from, to)) == scanned(table, dp, stage, from, to)
+}
+
+// Whether some packet does so in both tables of a datapath.
+fn is_some_met_as_scanned(rows: &Rows, table: &[Plain], random: &mut Random) -> bool {
+    let from = some_mac(random);
+    let to = some_mac(random);
+    let dp = 1 + random.below(2) as u32;
+    is_met_as_scanned(rows, table, dp, Stage::LsInL2Lkup, from, to)
+        && is_met_as_scanned(rows, table, dp, Stage::LsInCheckPortSec, from, to)
+}
+
+#[test]
+fn rows_that_come_and_go_are_met_as_a_scan_meets_them(rt: HostRuntime) {
+    let mut random = Random { state: 20_261_201 };
+    let mut rows = Rows::new(rt.alloc());
+    let mut table = Vec::new(rt.alloc());
+    for _ in 0..600 {
+        let plain = some_row(&mut random);
+        let there = table.contains(&plain);
+        assert!(rt; is_there(&rows, plain, rt.alloc(), &rt) == there);
+        if there {
+            assert!(rt; is_taken(&mut rows, plain, rt.alloc(), &rt));
+            table.retain(|other| *other != plain);
+        } else {
+            put_new(&mut rows, plain, rt.alloc(), &rt);
+            table.push(plain).expect(&rt, "memory");
+        }
+        assert!(rt; rows.len() == table.len());
+        assert!(rt; is_some_met_as_scanned(&rows, &table, &mut random));
+    }
+    drop(rows);
+}
+
+// A row of one priority and hint, to a MAC.
+fn to_mac(mac: u64) -> Plain {
+    Plain(1, Stage::LsInL2Lkup, 50, 9, Takes::ToMac(mac), Does::Next)
+}
+
+// Whether the row at a place is that to a MAC.
+fn is_at(rows: &Rows, at: usize, mac: u64, alloc: Global, rt: &impl Abort) -> bool {
+    match rows.get(at) {
+        Some(row) => *row == row_of(to_mac(mac), alloc, rt),
+        None => false,
+    }
+}
+
+#[test]
+fn each_row_that_comes_right_after_the_first_one_has_a_place(rt: HostRuntime) {
+    let mut rows = Rows::new(rt.alloc());
+    put_new(&mut rows, to_mac(0), rt.alloc(), &rt);
+    for bit in 0..48_u32 {
+        put_new(&mut rows, to_mac((1 << 47) >> bit), rt.alloc(), &rt);
+    }
+    assert!(rt; rows.len() == 49);
+    assert!(rt; is_at(&rows, 0, 0, rt.alloc(), &rt));
+    for bit in 0..48 {
+        assert!(rt; is_at(&rows, bit + 1, 1 << bit, rt.alloc(), &rt));
+    }
+    drop(rows);
 }

@@ -50,10 +50,9 @@ pub fn run_pipeline<E: PortNames>(
         look: None,
     };
     let mut budget = STEP_BUDGET;
-    let mut near = 0;
     while budget > 0 {
         budget -= 1;
-        let Some(row) = rows.select_near(dp, stage, &moving.packet, env, &mut near) else {
+        let Some(row) = rows.select(dp, stage, &moving.packet, env) else {
             unreachable!()
         };
         hits.push(hit_of(dp, stage, row))?;

@@ -6,11 +6,11 @@ use Rattle.sb_model.specs.declared.row.Row.{Row}
 use Rattle.sb_model.specs.inner.Exact.{same_row}
 use Rattle.sb_rows.specs.Row.{key_cmp}
 use Rattle.sb_rows.specs.declared.stored.Key.{Key}
-use Rattle.sb_rows.specs.inner.Tables.{key_of, rank_key}
+use Rattle.sb_rows.specs.inner.Tables.{key_of, rank_of}
 
--- what orders a row, but for the text of its match; and its datapath
+-- what orders a row, but for the text of its match
 abbrev pub key_of_row : Row → Key
-key_of_row row = record { table = key_of row; rank = rank_key row.priority row.hint; dp = row.dp }
+key_of_row row = record { table = key_of row; rank = rank_of row }
 
 -- by table, then by the place in it
 abbrev pub order_of_keys : Key → Key → Ordering

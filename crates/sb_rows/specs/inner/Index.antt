@@ -1,46 +1,46 @@
--- What is kept beside the rows of a table that has many: where those are that may hold of a packet.
-use Rattle.std.specs.Prelude.{◌≡◌, ℕ, ◌+◌, ◌*◌, ◌<◌, ◌≤◌, ◌==◌, Bool, true, ◌&&◌, List}
-use Rattle.std.specs.List.{All, Contains, slice_index_or}
-use Rattle.std.specs.List.Sorted.{IsNonDecreasing}
+-- What is kept of a table that has many rows: the places of the rows that may take a packet.
+use Rattle.std.specs.Prelude.{◌≡◌, ◌⊎◌, ◌≤◌, ⊤, ℕ, true, List, Option, None, Some}
+use Rattle.std.specs.List.{Contains}
+use Rattle.std.specs.BTreeMap.{get}
+use Rattle.std.specs.Ordering.{nat_cmp}
 use Rattle.expr_core.specs.Lookup.{Lookup}
 use Rattle.expr_eval.specs.MatchMeaning.{holds}
 use Rattle.pkt_core.specs.Packet.{Values}
 use Rattle.sb_model.specs.declared.row.Row.{Row}
-use Rattle.sb_rows.specs.Row.{AreRows}
 use Rattle.sb_rows.specs.declared.asks.Asks.{Asks}
-use Rattle.sb_rows.specs.declared.asks.Shape.{Shape}
-use Rattle.sb_rows.specs.declared.index.Table.{Table}
+use Rattle.sb_rows.specs.declared.index.Bucket.{Bucket}
+use Rattle.sb_rows.specs.declared.index.Index.{Index}
 use Rattle.sb_rows.specs.inner.Asks.{HasAsked, bucket_of, shape_of}
-use Rattle.sb_rows.specs.inner.Tables.{key_of}
 
--- a place in a bucket
-abbrev pub spot : ℕ → ℕ → ℕ
-spot bucket place = bucket * 18446744073709551616 + place
+-- the bucket has the place
+abbrev pub IsIn : Index → ℕ → ℕ → Type 0
+IsIn index bucket place =
+    (own : Bucket) × ((get nat_cmp index.buckets bucket ≡ Some own) × ((own.first ≡ place) ⊎ ((own.others ≡ 0 → ⊥) × Contains index.more.keys (bucket, place))))
 
--- a row at this place is in the bucket of what is asked, which has one of the shapes
-pub record IsPlaced (asks : Asks) (place : ℕ) (shapes : List Shape) (spots : List ℕ) : Type 0 where
-  pub shaped : Contains shapes (shape_of asks)
-  pub there : Contains spots (spot (bucket_of asks) place)
+-- the place is in the bucket of what is asked, which has one of the shapes
+pub record IsFiled (asks : Asks) (place : ℕ) (index : Index) : Type 0 where
+  pub shaped : Contains index.shapes.items (shape_of asks)
+  pub there : IsIn index (bucket_of asks) place
 
 -- each packet that the row at this place may take has what is asked of one of its buckets
-abbrev pub IsCovered : Row → ℕ → List Shape → List ℕ → Type 0
-IsCovered row place shapes spots =
-    (net : Lookup) (packet : Values) → holds net packet row.matching ≡ true → (asks : Asks) × (HasAsked asks net packet × IsPlaced asks place shapes spots)
+abbrev pub IsCovered : Row → ℕ → Index → Type 0
+IsCovered row place index =
+    (net : Lookup) (packet : Values) → holds net packet row.matching ≡ true → (asks : Asks) × (HasAsked asks net packet × IsFiled asks place index)
 
--- the rows between these places are covered
-abbrev pub AreCovered : List Row → ℕ → ℕ → List Shape → List ℕ → Type 0
-AreCovered rows low end shapes spots = (i : ℕ) (d : Row) → low ≤ i → i < end → IsCovered (slice_index_or rows i d) i shapes spots
+-- all rows are covered
+abbrev pub Covers : Index → List (ℕ × Row) → Type 0
+Covers index rows = (place : ℕ) (row : Row) → Contains rows (place, row) → IsCovered row place index
 
--- the places of a table's rows, each in its bucket, rise
-pub record IsTable (rows : List Row) (table : Table) : Type 0 where
-  pub rise : IsNonDecreasing table.spots.items
-  pub covered : AreCovered rows table.low table.end table.shapes.items table.spots.items
+-- the best place so far, if there is one, is that of a row that takes the packet
+abbrev pub IsTaker : Lookup → Values → List (ℕ × Row) → Option ℕ → Type 0
+IsTaker net packet rows None = ⊤
+IsTaker net packet rows (Some best) = (row : Row) × (Contains rows (best, row) × (holds net packet row.matching ≡ true))
 
--- rows, and what is kept of some of their tables
-pub record AreIndexed (all : List Row) (kept : List Table) : Type 0 where
-  pub rows : AreRows all
-  pub tables : All (IsTable all) kept
+-- the place is not before the best so far
+abbrev pub IsNoBetter : Option ℕ → ℕ → Type 0
+IsNoBetter None place = ⊥
+IsNoBetter (Some best) place = best ≤ place
 
--- the row is of the table of this key, and takes the packet
-abbrev pub acts : ℕ → Lookup → Values → Row → Bool
-acts key net packet r = (key_of r == key) && holds net packet r.matching
+-- if a row at this place takes the packet, the place is not before the best so far
+abbrev pub IsTried : Lookup → Values → List (ℕ × Row) → Option ℕ → ℕ → Type 0
+IsTried net packet rows best place = (row : Row) → Contains rows (place, row) → holds net packet row.matching ≡ true → IsNoBetter best place

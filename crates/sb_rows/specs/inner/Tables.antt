@@ -1,5 +1,5 @@
 -- The tables among all rows, by which a search finds the rows of one.
-use Rattle.std.specs.Prelude.{ℕ, ◌+◌, ◌*◌, ◌-◌, Bool, List, [], ◌∷◌, Option, Some, None, if◌then◌else◌}
+use Rattle.std.specs.Prelude.{ℕ, ◌+◌, ◌*◌, ◌-◌}
 use Rattle.nv_base.specs.declared.object.ObjId.{ObjId}
 use Rattle.sb_model.specs.declared.stage.Stage.{Stage}
 use Rattle.sb_model.specs.declared.row.Row.{Row}
@@ -13,11 +13,10 @@ table_key dp stage = dp.0 * 32 + stage_place stage
 abbrev pub rank_key : ℕ → ObjId → ℕ
 rank_key priority hint = (65535 - priority) * 4294967296 + hint.0
 
+-- that of a row
+abbrev pub rank_of : Row → ℕ
+rank_of row = rank_key row.priority row.hint
+
 -- the place of a row's table
 abbrev pub key_of : Row → ℕ
 key_of r = table_key r.dp r.stage
-
--- the first element that passes a test, before the first that does not belong
-abbrev pub find_while : {X : Type 0} → (X → Bool) → (X → Bool) → List X → Option X
-find_while belongs passes [] = None
-find_while belongs passes (x ∷ xs) = if belongs x then (if passes x then Some x else find_while belongs passes xs) else None

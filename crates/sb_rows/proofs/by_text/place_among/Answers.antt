@@ -1,4 +1,4 @@
-use Rattle.std.proofs.Common.{◌≡◌, ◌≤◌, ◌<◌, ◌+◌, ◌-◌, ◌/◌, ◌∙◌, length, sym, arith}
+use Rattle.std.proofs.Common.{◌≤◌, ◌<◌, ◌∙◌, length, sym, arith}
 use Rattle.sb_rows.proofs.Place.{after_from, none_after_to}
 use Rattle.sb_rows.proofs.by_text.place_among.Goals.{then-branch, else-branch}
 use Rattle.sb_rows.proofs.by_text.place_among.Goals as goal

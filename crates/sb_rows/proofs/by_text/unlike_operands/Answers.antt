@@ -1,4 +1,4 @@
-use Rattle.std.proofs.Common.{◌<◌, length, refl, arith}
+use Rattle.std.proofs.Common.{refl, arith}
 use Rattle.sb_rows.proofs.Apart.{unlike_at}
 use Rattle.sb_rows.proofs.by_text.unlike_operands.Goals as goal
 

@@ -1,6 +1,4 @@
-use Rattle.std.proofs.Common.{◌≡◌, ◌++◌, ℕ, List, ◌∙◌, refl}
-use Rattle.std.specs.Cmp.Lexicographic.{slice_cmp}
-use Rattle.std.specs.Ordering.{nat_cmp}
+use Rattle.std.proofs.Common.{◌∙◌, refl}
 use Rattle.sb_rows.proofs.Apart.{told_by}
 use Rattle.sb_rows.proofs.by_text.Rooms.match_order.Goals as goal
 

@@ -1,6 +1,6 @@
-use Rattle.std.proofs.Common.{◌∙◌, [], ap, arith, rules}
+use Rattle.std.proofs.Common.{◌∙◌, arith, rules}
 use Rattle.std.specs.Ordering.{is_lt}
-use Rattle.std.specs.List.Sorted.{IsSorted, IsStable}
+use Rattle.std.specs.List.Sorted.{IsStable}
 use Rattle.std.proofs.lemmas.List.Sorted.{ranks_by, answers_always}
 use Rattle.sb_model.specs.declared.row.Row.{Row}
 use Rattle.sb_rows.specs.Row.{key_cmp}

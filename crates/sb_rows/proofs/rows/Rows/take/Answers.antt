@@ -1,19 +1,14 @@
-use Rattle.std.proofs.Common.{Some, None, arith}
-use Rattle.sb_rows.proofs.Indexed.{unindexed}
-use Rattle.sb_rows.proofs.Taken.{found_where_there, removed_are_rows, removed_is_without}
+use Rattle.std.proofs.Common.{sym, subst, arith}
+use Rattle.sb_rows.specs.Row.{AreRows, IsWithout}
+use Rattle.sb_rows.specs.inner.Store.{flat}
+use Rattle.sb_rows.proofs.Made.{without_are_rows, without_is_shorter}
 use Rattle.sb_rows.proofs.rows.Rows.take.Goals as goal
 
-pub invariant_of-self : goal.invariant_of-self
-invariant_of-self c =
-    let there = rw c.deref.ensures.value at c.in-Some.ensures.there in
-    let within = there.0 in
-    unindexed _ _ c.clear.ensures.items (removed_are_rows c.self.inside.sorted.items _ _ c.remove.ensures.items (omega (arith, within)) c.self.invariant.rows)
-
-pub returns-in-Some-clause-there : goal.returns-in-Some-clause-there
-returns-in-Some-clause-there c = found_where_there _ _ (Some c.in-Some.at) (rw (c.deref.ensures.value, c.self.view_is) at c.in-Some.ensures.there) tt
-
-pub returns-in-Some-clause-taken : goal.returns-in-Some-clause-taken
-returns-in-Some-clause-taken c = removed_is_without _ _ _ _ (rw c.self.view_is at c.remove.ensures.items) (rw (c.deref.ensures.value, c.self.view_is) at c.in-Some.ensures.there)
-
-pub returns-in-None-clause-there : goal.returns-in-None-clause-there
-returns-in-None-clause-there c = found_where_there _ _ None tt (rw (c.deref.ensures.value, c.self.view_is) at c.in-None.ensures.absent)
+pub invariant_of-self-2 : goal.invariant_of-self-2
+invariant_of-self-2 c =
+    let taken : IsWithout c.args.row.now (flat c.self.inside.tables.entries) (flat c.take_from.new.tables.entries) = c.if-not-take_from.ensures.taken in
+    record {
+      tables = c.drop_empty.ensures.tables;
+      rows = subst AreRows (sym c.drop_empty.ensures.rows) (without_are_rows c.args.row.now (flat c.self.inside.tables.entries) (flat c.take_from.new.tables.entries) taken c.self.invariant.rows);
+      counted = rw c.drop_empty.ensures.rows (omega (arith, without_is_shorter c.args.row.now (flat c.self.inside.tables.entries) (flat c.take_from.new.tables.entries) taken, c.self.invariant.counted));
+    }

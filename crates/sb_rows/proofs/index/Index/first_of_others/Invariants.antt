@@ -1,0 +1,12 @@
+use Rattle.std.proofs.Common.{ℕ, Contains, map}
+use Rattle.std.specs.Map.Iter.{deref}
+use Rattle.sb_rows.specs.inner.Index.{IsNoBetter, IsTaker, IsTried}
+use Rattle.sb_rows.proofs.index.Index.first_of_others.Given as goal
+
+-- the best so far takes the packet, is none after that before, and none before a place so far whose row does
+abbrev pub invariant-loop-there : goal.invariant-loop-there
+invariant-loop-there g l = record {
+  taker : IsTaker (g.E.Env.lookup l.env) l.packet l.rows.entries l.first;
+  kept : (p : ℕ) → IsNoBetter l.fn.best p → IsNoBetter l.first p;
+  tried : (p : ℕ) → Contains (map deref l.yielded) (l.bucket, p) → IsTried (g.E.Env.lookup l.env) l.packet l.rows.entries l.first p;
+}

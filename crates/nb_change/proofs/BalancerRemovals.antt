@@ -1,7 +1,5 @@
 -- Load balancers that leave their switches and routers, and VIPs that leave their load balancer.
-use Rattle.std.proofs.Common.{◌≡◌, ℕ, ◌<◌, ◌==◌, true, false, cond, List, [], ◌∷◌, ◌++◌, map, Some, None, arith, refl, sym, ap, ◌∙◌, subst}
-use Rattle.std.proofs.lemmas.Bool.Decides.{nat_tests}
-use Rattle.std.specs.List.{AllByRecursion}
+use Rattle.std.proofs.Common.{◌≡◌, ℕ, true, false, cond, List, map, Some, None, refl, sym, ap, ◌∙◌}
 use Rattle.std.specs.Str.{bytes_eq}
 use Rattle.nv_base.specs.declared.object.ObjId.{ObjId}
 use Rattle.nb_records.specs.declared.balancer.Frontend.{Frontend}
@@ -12,7 +10,7 @@ use Rattle.nb_model.specs.Effect.{each_where, where_there, without, without_lb, 
 use Rattle.nb_model.specs.Network.{Network, same, lb_named}
 use Rattle.nv_table.specs.Table.{NumbersRise, with_exchanged}
 use Rattle.nb_change.specs.inner.Balancers.{vip_leaves}
-use Rattle.nb_store.proofs.PlacedRecords.{placed, all_at, apart_numbers}
+use Rattle.nb_store.proofs.PlacedRecords.{changed_at}
 use Rattle.nb_change.proofs.Goes.{none_goes}
 use Rattle.nb_change.proofs.ListedNumbers.{Listing}
 use Rattle.nb_change.proofs.Removed.{map_same}
@@ -43,30 +41,6 @@ no_lb net =
       routers = all;
     }) (sym (map_same _ (λ router. ap (λ (all : List ObjId). let x : Router = record router { lbs = all } in x) (none_goes router.lbs)) net.routers))
 
--- One record of a number, changed.
-
-module _ {R : Type 0} (number : R → ObjId) (n : ObjId) (change : R → R) where
-  rest_unchanged : (rs : List R) → AllByRecursion (λ r. n.0 < (number r).0) rs → each_where (λ r. same n (number r)) change rs ≡ rs
-  rest_unchanged [] all = refl
-  rest_unchanged (r ∷ rs) all =
-      ap (λ b. cond b (change r) r ∷ each_where (λ x. same n (number x)) change rs) (turn n.0 (number r).0 all.0) ∙ ap (λ l. r ∷ l) (rest_unchanged rs all.1)
-    where
-      turn : (a b : ℕ) → a < b → (a == b) ≡ false
-      turn a b lt = grind (arith, nat_tests, lt)
-
-equal : (a : ℕ) → (a == a) ≡ true
-equal a = grind (arith, nat_tests)
-
-one_changed : {R : Type 0} (number : R → ObjId) (change : R → R) (before : List R) (x : R) (after : List R) → NumbersRise number (before ++ x ∷ after)
-    → each_where (λ r. same (number x) (number r)) change (before ++ x ∷ after) ≡ before ++ change x ∷ after
-one_changed number change [] x after rise =
-    ap (λ b. cond b (change x) x ∷ each_where (λ r. same (number x) (number r)) change after) (equal (number x).0)
-    ∙ ap (λ l. change x ∷ l) (rest_unchanged number (number x) change after rise.0)
-one_changed number change (y ∷ before) x after rise =
-    ap (λ b. cond b (change y) y ∷ each_where (λ r. same (number x) (number r)) change (before ++ x ∷ after))
-    (apart_numbers (number x).0 (number y).0 (all_at (λ r. (number y).0 < (number r).0) before x after rise.0))
-    ∙ ap (λ l. y ∷ l) (one_changed number change before x after rise.1)
-
 -- The VIP of a load balancer.
 
 module _ (net : Network) (name : List ℕ) (at : Frontend) where
@@ -82,11 +56,8 @@ module _ (net : Network) (name : List ℕ) (at : Frontend) where
     pub other_vips : (left : Lb) → left ≡ vip_leaves at lb → is_last_vip at lb ≡ false → NumbersRise (λ (x : Lb). x.id) net.lbs
         → record net { lbs = with_exchanged (λ x. x.id) left net.lbs } ≡ where_there (lb_named net name) (delete_vip net at) net
     other_vips left is more rise =
-        let place = placed (λ (x : Lb). x.id) (λ (x : Lb). bytes_eq x.name name) lb net.lbs (sym found) rise in
         ap (λ (l : Lb). record net { lbs = with_exchanged (λ x. x.id) l net.lbs }) is
         ∙ ap (λ (all : List Lb). record net { lbs = all })
-        (place.exchanged (vip_leaves at lb) refl
-        ∙ sym (one_changed (λ (x : Lb). x.id) (vip_leaves at) place.before lb place.after (subst (NumbersRise (λ (x : Lb). x.id)) place.whole rise))
-        ∙ ap (each_where (λ (other : Lb). same lb.id other.id) (vip_leaves at)) (sym place.whole))
+        (changed_at (λ (x : Lb). x.id) (λ (x : Lb). bytes_eq x.name name) (vip_leaves at) lb net.lbs (sym found) rise refl)
         ∙ sym (ap (λ b. cond b (without_lb (Some lb.id) net) (record net { lbs = each_where (λ other. same lb.id other.id) (vip_leaves at) net.lbs })) more)
         ∙ ap (λ lb. where_there lb (delete_vip net at) net) found

@@ -5,12 +5,12 @@ use Rattle.std.proofs.lemmas.List.Elements.{filter-append}
 use Rattle.std.specs.Prelude.{find, filter}
 use Rattle.nv_base.specs.declared.object.ObjId.{ObjId}
 use Rattle.nb_model.specs.Belongs.{is_among}
-use Rattle.nb_model.specs.Effect.{without}
+use Rattle.nb_model.specs.Effect.{each_where, without}
 use Rattle.nb_model.specs.Network.{Network, same}
 use Rattle.nb_model.proofs.RecordLists.{found_holds}
 use Rattle.nv_table.specs.Table.{NumbersRise, with_exchanged}
 use Rattle.nv_table.proofs.Undone.{rise_exchanged}
-use Rattle.nb_store.proofs.PlacedRecords.{IsPlaced, placed, none_without}
+use Rattle.nb_store.proofs.PlacedRecords.{IsPlaced, placed, none_without, changed_at}
 use Rattle.nb_change.proofs.Removed.{without_twice, none_listed, gone, either_same}
 use Rattle.nb_change.proofs.RouterRemovals.{IsList}
 
@@ -82,10 +82,10 @@ module _ {R : Type 0} {number : R → ObjId} {listed : R → List ObjId} {with_l
     pub all_left : (net : Network) → None ≡ find lists (list net) → net ≡ with_list (map left_by (list net)) net
     all_left net none = sym (ap (λ (l : List R). with_list l net) (none_leave (list net) none) ∙ part.same net)
 
-    module _ (net now : Network) (x new : R) (found : Some x ≡ find lists (list net)) (rise : NumbersRise number (list net)) (new_is : new ≡ left_by x)
-        (now_is : now ≡ with_list (with_exchanged number new (list net)) net) where
+    module _ (net now : Network) (x : R) (found : Some x ≡ find lists (list net)) (rise : NumbersRise number (list net))
+        (now_is : now ≡ with_list (each_where (λ r. same (number x) (number r)) left_by (list net)) net) where
       left_now : now ≡ with_list (with_exchanged number (left_by x) (list net)) net
-      left_now = now_is ∙ ap (λ (r : R). with_list (with_exchanged number r (list net)) net) new_is
+      left_now = now_is ∙ ap (λ (l : List R). with_list l net) (sym (changed_at number lists left_by x (list net) (sym found) rise (law.keeps _ x)))
 
       left_list : list now ≡ with_exchanged number (left_by x) (list net)
       left_list = ap list left_now ∙ part.read _ net

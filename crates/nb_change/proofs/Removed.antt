@@ -12,14 +12,14 @@ use Rattle.nv_base.specs.declared.object.ObjId.{ObjId}
 use Rattle.nb_records.specs.declared.sets.Group.{Group}
 use Rattle.nb_records.specs.declared.switch.Port.{Port}
 use Rattle.nb_model.specs.Belongs.{is_among}
-use Rattle.nb_model.specs.Effect.{without, without_ports, delete_port}
+use Rattle.nb_model.specs.Effect.{each_where, without, without_ports, delete_port}
 use Rattle.nb_model.specs.Network.{Network, same, port_named}
 use Rattle.nb_model.specs.Readable.{are_apart}
 use Rattle.nb_model.proofs.RecordLists.{found_holds}
 use Rattle.nv_table.specs.Table.{NumbersRise, with_exchanged, without_number}
 use Rattle.nv_table.proofs.Undone.{rise_exchanged, rise_without}
 use Rattle.nb_change.specs.inner.Leaving.{leave, leaving}
-use Rattle.nb_store.proofs.PlacedRecords.{IsPlaced, placed, none_without, named_once}
+use Rattle.nb_store.proofs.PlacedRecords.{IsPlaced, placed, none_without, named_once, changed_at}
 
 -- Filters, one after another.
 
@@ -209,10 +209,10 @@ named_gone net name port found rise apart =
     sym (none_gone gone (less_port port.id net) none) ∙ one_gone gone net port place is
 
 -- A port has left one more group.
-module _ (port : ObjId) (net now : Network) (group left : Group) (found : Some group ≡ find (λ g. is_among port g.ports) net.groups) (rise : NumbersRise (λ (g : Group). g.id) net.groups)
-    (left_is : left ≡ leave port group) (now_is : now ≡ record net { groups = with_exchanged (λ x. x.id) left net.groups }) where
+module _ (port : ObjId) (net now : Network) (group : Group) (found : Some group ≡ find (λ g. is_among port g.ports) net.groups) (rise : NumbersRise (λ (g : Group). g.id) net.groups)
+    (now_is : now ≡ record net { groups = each_where (λ g. same group.id g.id) (leave port) net.groups }) where
   groups_now : now ≡ record net { groups = with_exchanged (λ x. x.id) (leave port group) net.groups }
-  groups_now = now_is ∙ ap (λ (g : Group). record net { groups = with_exchanged (λ x. x.id) g net.groups }) left_is
+  groups_now = now_is ∙ ap (λ (all : List Group). record net { groups = all }) (sym (changed_at (λ (g : Group). g.id) (λ g. is_among port g.ports) (leave port) group net.groups (sym found) rise refl))
 
   pub group_smaller : length (filter (λ g. is_among port g.ports) now.groups) < length (filter (λ g. is_among port g.ports) net.groups)
   group_smaller = subst (λ (it : Network). length (filter (λ g. is_among port g.ports) it.groups) < length (filter (λ g. is_among port g.ports) net.groups)) (sym groups_now) (fewer_list port net.groups group found rise)

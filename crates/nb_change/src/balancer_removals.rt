@@ -8,8 +8,7 @@ ghost use Rattle.nv_table.specs.Table.{NumbersRise};
 ghost use Rattle.nb_store.specs.Undo.{back_steps};
 ghost use Rattle.nb_change.specs.inner.Balancers.{switch_leaves, router_leaves, vip_leaves};
 
-use crate::switch_removals::others;
-use nb_records::{Frontend, Lb, Router, Switch, Vip};
+use nb_records::{Frontend, Lb, Vip};
 use nb_store::{Place, Work};
 use nv_base::{Items, Kept, Name, ObjId, OutOfMemory};
 use std::alloc::Global;
@@ -70,8 +69,8 @@ fn leave_switches(work: &mut Work, alloc: Global, lb: ObjId) -> Result<(), OutOf
     ensures back { back_steps work.new.steps.items work.new.records ≡ back_steps work.old.steps.items work.old.records }
 {
     while let Some(switch) = work.records.switch_with(lb, None) {
-        let left = switch_without(alloc, switch, lb)?;
-        work.store_switch(alloc, left)?;
+        let number = switch.id;
+        work.unlist_on_switch(alloc, number, lb)?;
     }
     Ok(())
 }
@@ -83,32 +82,10 @@ fn leave_routers(work: &mut Work, alloc: Global, lb: ObjId) -> Result<(), OutOfM
     ensures back { back_steps work.new.steps.items work.new.records ≡ back_steps work.old.steps.items work.old.records }
 {
     while let Some(router) = work.records.router_with(lb, None) {
-        let left = router_without(alloc, router, lb)?;
-        work.store_router(alloc, left)?;
+        let number = router.id;
+        work.unlist_on_router(alloc, number, lb)?;
     }
     Ok(())
-}
-
-// The switch without a load balancer.
-fn switch_without(alloc: Global, switch: &Switch, lb: ObjId) -> Result<Switch, OutOfMemory>
-    ensures { IfOk result (λ left. left ≡ switch_leaves lb switch.now) }
-{
-    Ok(Switch {
-        id: switch.id,
-        name: switch.name.copy(alloc)?,
-        lbs: others(alloc, switch.lbs.as_slice(), lb)?,
-    })
-}
-
-// The router without a load balancer.
-fn router_without(alloc: Global, router: &Router, lb: ObjId) -> Result<Router, OutOfMemory>
-    ensures { IfOk result (λ left. left ≡ router_leaves lb router.now) }
-{
-    Ok(Router {
-        id: router.id,
-        name: router.name.copy(alloc)?,
-        lbs: others(alloc, router.lbs.as_slice(), lb)?,
-    })
 }
 
 // Whether the load balancer has no other VIP.

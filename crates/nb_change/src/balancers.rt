@@ -2,70 +2,60 @@
 ghost use Rattle.std.specs.Prelude.{◌≡◌, ◌+◌, ◌<◌, ◌^◌, [], ◌∷◌, ◌++◌, unwrap_or, IfOk, OnOk};
 ghost use Rattle.nb_records.specs.declared.balancer.Proto.TheVariants.{Tcp};
 ghost use Rattle.nb_records.specs.declared.edit.Edit.TheVariants as edit;
-ghost use Rattle.nb_model.specs.Belongs.{is_number};
-ghost use Rattle.nb_model.specs.Network.{lb_id, next_number};
-ghost use Rattle.nb_model.specs.Effect.{effect, is_detached, with_number, without};
+ghost use Rattle.nb_model.specs.Network.{next_number};
+ghost use Rattle.nb_model.specs.Effect.{effect};
 ghost use Rattle.nb_model.specs.Sound.{IsSound};
 ghost use Rattle.nv_table.specs.Table.{with_exchanged};
 ghost use Rattle.nb_store.specs.Undo.{back_steps};
 
 use crate::balancer_removals::{remove_lb_named, remove_vip};
-use crate::switch_removals::others;
 use nb_records::{Backend, Frontend, Lb, Proto, Router, Switch, Vip};
-use nb_store::{Records, Work, add_number};
-use nv_base::{Items, Kept, Name, ObjId, OutOfMemory};
+use nb_store::Work;
+use nv_base::{Items, Kept, Name, OutOfMemory};
 use std::alloc::Global;
 
 /// `ls-lb-add`
 pub(crate) fn ls_lb_add(
     work: &mut Work,
     alloc: Global,
-    switch: Name,
+    switch: &Name,
     lb: &Name,
     may_exist: bool,
 ) -> Result<(), OutOfMemory>
     requires sound { IsSound work.old.records }
-    ensures ok { OnOk result (work.new.records ≡ effect work.old.records (edit.LsLbAdd switch lb.now may_exist)) }
+    ensures ok { OnOk result (work.new.records ≡ effect work.old.records (edit.LsLbAdd switch.now lb.now may_exist)) }
     ensures back { back_steps work.new.steps.items work.new.records ≡ back_steps work.old.steps.items work.old.records }
 {
     let Some(number) = work.records.lb_id(lb) else {
         return Ok(());
     };
-    let Some(old) = work.records.switch_named(&switch) else {
+    let Some(old) = work.records.switch_named(switch) else {
         return Ok(());
     };
-    let changed = Switch {
-        id: old.id,
-        name: switch,
-        lbs: with_number(alloc, &old.lbs, number)?,
-    };
-    work.store_switch(alloc, changed)
+    let id = old.id;
+    work.list_on_switch(alloc, id, number)
 }
 
 /// `lr-lb-add`
 pub(crate) fn lr_lb_add(
     work: &mut Work,
     alloc: Global,
-    router: Name,
+    router: &Name,
     lb: &Name,
     may_exist: bool,
 ) -> Result<(), OutOfMemory>
     requires sound { IsSound work.old.records }
-    ensures ok { OnOk result (work.new.records ≡ effect work.old.records (edit.LrLbAdd router lb.now may_exist)) }
+    ensures ok { OnOk result (work.new.records ≡ effect work.old.records (edit.LrLbAdd router.now lb.now may_exist)) }
     ensures back { back_steps work.new.steps.items work.new.records ≡ back_steps work.old.steps.items work.old.records }
 {
     let Some(number) = work.records.lb_id(lb) else {
         return Ok(());
     };
-    let Some(old) = work.records.router_named(&router) else {
+    let Some(old) = work.records.router_named(router) else {
         return Ok(());
     };
-    let changed = Router {
-        id: old.id,
-        name: router,
-        lbs: with_number(alloc, &old.lbs, number)?,
-    };
-    work.store_router(alloc, changed)
+    let id = old.id;
+    work.list_on_router(alloc, id, number)
 }
 
 /// `ls-lb-del`
@@ -83,12 +73,19 @@ pub(crate) fn ls_lb_del(
     let Some(old) = work.records.switch_named(&switch) else {
         return Ok(());
     };
-    let changed = Switch {
-        id: old.id,
-        name: switch,
-        lbs: still_attached(&work.records, alloc, &old.lbs, lb)?,
+    let id = old.id;
+    let Some(lb) = lb else {
+        let emptied = Switch {
+            id,
+            name: switch,
+            lbs: Items::new(alloc),
+        };
+        return work.store_switch(alloc, emptied);
     };
-    work.store_switch(alloc, changed)
+    let Some(number) = work.records.lb_id(lb) else {
+        return Ok(());
+    };
+    work.unlist_on_switch(alloc, id, number)
 }
 
 /// `lr-lb-del`
@@ -106,12 +103,19 @@ pub(crate) fn lr_lb_del(
     let Some(old) = work.records.router_named(&router) else {
         return Ok(());
     };
-    let changed = Router {
-        id: old.id,
-        name: router,
-        lbs: still_attached(&work.records, alloc, &old.lbs, lb)?,
+    let id = old.id;
+    let Some(lb) = lb else {
+        let emptied = Router {
+            id,
+            name: router,
+            lbs: Items::new(alloc),
+        };
+        return work.store_router(alloc, emptied);
     };
-    work.store_router(alloc, changed)
+    let Some(number) = work.records.lb_id(lb) else {
+        return Ok(());
+    };
+    work.unlist_on_router(alloc, id, number)
 }
 
 /// `lb-add`
@@ -183,49 +187,6 @@ fn add_lb(
             vips,
         },
     )
-}
-
-// The load balancers of a list that stay where the one that is named, or each, is detached.
-fn still_attached(
-    records: &Records,
-    alloc: Global,
-    lbs: &Items<ObjId>,
-    lb: &Option<Name>,
-) -> Result<Items<ObjId>, OutOfMemory>
-    ensures { IfOk result (λ left. left ≡ without (is_detached records.now lb.now) lbs.now) }
-{
-    match lb {
-        Some(name) => without_named(records, alloc, lbs, name),
-        None => Ok(Items::new(alloc)),
-    }
-}
-
-// The load balancers of a list but the one of this name.
-fn without_named(
-    records: &Records,
-    alloc: Global,
-    lbs: &Items<ObjId>,
-    lb: &Name,
-) -> Result<Items<ObjId>, OutOfMemory>
-    ensures { IfOk result (λ left. left ≡ without (is_number (lb_id records.now lb.now)) lbs.now) }
-{
-    match records.lb_id(lb) {
-        Some(number) => others(alloc, lbs.as_slice(), number),
-        None => lbs.copy(alloc),
-    }
-}
-
-// The numbers with one more, last, where it is not there.
-fn with_number(
-    alloc: Global,
-    numbers: &Items<ObjId>,
-    number: ObjId,
-) -> Result<Items<ObjId>, OutOfMemory>
-    ensures { IfOk result (λ longer. longer ≡ with_number number numbers.now) }
-{
-    let mut longer = numbers.copy(alloc)?;
-    add_number(&mut longer, number)?;
-    Ok(longer)
 }
 
 // The VIPs with one more, last.

@@ -141,12 +141,12 @@ fn run(work: &mut Work, alloc: Global, edit: Edit) -> Result<(), OutOfMemory>
             switch,
             lb,
             may_exist,
-        } => ls_lb_add(work, alloc, switch, &lb, may_exist),
+        } => ls_lb_add(work, alloc, &switch, &lb, may_exist),
         Edit::LrLbAdd {
             router,
             lb,
             may_exist,
-        } => lr_lb_add(work, alloc, router, &lb, may_exist),
+        } => lr_lb_add(work, alloc, &router, &lb, may_exist),
         Edit::LsLbDel {
             switch,
             lb,

@@ -1,16 +1,15 @@
 //! Ports that are removed from their switches and their groups.
-ghost use Rattle.std.specs.Prelude.{◌≡◌, IfOk, OnOk};
-ghost use Rattle.nb_model.specs.Effect.{without, without_ports};
+ghost use Rattle.std.specs.Prelude.{◌≡◌, OnOk};
+ghost use Rattle.nb_model.specs.Effect.{without_ports};
 ghost use Rattle.nb_model.specs.Network.{same};
 ghost use Rattle.nb_model.specs.Sound.{AreInOrder};
 ghost use Rattle.nv_table.specs.Table.{NumbersRise, without_number};
 ghost use Rattle.nb_store.specs.Undo.{back_steps};
-ghost use Rattle.nb_change.specs.inner.Leaving.{leave, leaving, without_switch};
+ghost use Rattle.nb_change.specs.inner.Leaving.{leaving, without_switch};
 
 use crate::acl_removals::remove_acls;
-use nb_records::Group;
 use nb_store::{Place, Work};
-use nv_base::{Items, Kept, ObjId, OutOfMemory};
+use nv_base::{ObjId, OutOfMemory};
 use std::alloc::Global;
 
 /// Removes a port, which leaves its groups.
@@ -59,36 +58,8 @@ fn leave_groups(work: &mut Work, alloc: Global, port: ObjId) -> Result<(), OutOf
     ensures back { back_steps work.new.steps.items work.new.records ≡ back_steps work.old.steps.items work.old.records }
 {
     while let Some(group) = work.records.group_with(port, None) {
-        let left = without_member(alloc, group, port)?;
-        work.store_group(alloc, left)?;
+        let number = group.id;
+        work.unlist_in_group(alloc, number, port)?;
     }
     Ok(())
-}
-
-// The group without a port.
-fn without_member(alloc: Global, group: &Group, port: ObjId) -> Result<Group, OutOfMemory>
-    ensures { IfOk result (λ left. left ≡ leave port group.now) }
-{
-    Ok(Group {
-        id: group.id,
-        name: group.name.copy(alloc)?,
-        ports: others(alloc, group.ports.as_slice(), port)?,
-    })
-}
-
-/// The numbers but one, in their order.
-pub(crate) fn others(
-    alloc: Global,
-    numbers: &[ObjId],
-    number: ObjId,
-) -> Result<Items<ObjId>, OutOfMemory>
-    ensures { IfOk result (λ left. left ≡ without (same number) numbers.now) }
-{
-    let mut left = Items::new(alloc);
-    for other in numbers {
-        if number.0 != other.0 {
-            left.push(*other)?;
-        }
-    }
-    Ok(left)
 }

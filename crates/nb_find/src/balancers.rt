@@ -1,15 +1,17 @@
 //! Load balancers that are there, and the switches and routers that have them.
-ghost use Rattle.std.specs.Prelude.{◌≡◌, IfOk, IfErr, None, Some, if◌then◌else◌};
+ghost use Rattle.std.specs.Prelude.{◌≡◌, Contains, IfOk, IfErr, None, Some, if◌then◌else◌, nat_le};
 ghost use Rattle.std.specs.List.{list_any};
 ghost use Rattle.nb_records.specs.declared.refusal.Refusal.TheVariants.{WrongKind};
-ghost use Rattle.nb_model.specs.Belongs.{same_frontend};
+ghost use Rattle.nv_base.specs.declared.object.ObjId as of_object;
+ghost use Rattle.nb_model.specs.Belongs.{is_among, same_frontend};
 ghost use Rattle.nb_model.specs.Network.{lb_named, lb_id};
+ghost use Rattle.nv_table.specs.Table.{is_after};
 ghost use Rattle.nb_model.specs.Tests.{other_protocol, wants_protocol, has_vip, is_attached, switch_lbs, router_lbs, wants_attached};
 
 use crate::names::with_some;
-use nb_records::{Frontend, Lb, Proto, Refusal, Vip};
-use nb_store::{Records, is_among};
-use nv_base::Name;
+use nb_records::{Frontend, Lb, Proto, Refusal, Router, Switch, Tag, Vip};
+use nb_store::Records;
+use nv_base::{Name, ObjId};
 
 // Whether one of these VIPs is at the address and port.
 fn has_frontend(at: Frontend, vips: &[Vip]) -> bool
@@ -63,12 +65,46 @@ pub fn has_vip(records: &Records, at: Frontend, name: &Name) -> bool
     }
 }
 
+// The number just below another one, if there is one.
+fn below(number: ObjId) -> Option<ObjId>
+    ensures { (other : of_object.ObjId) → is_after result other ≡ nat_le number.0 other.0 }
+{
+    match number.0 {
+        0 => None,
+        above => Some(ObjId(above - 1)),
+    }
+}
+
+// Whether a switch of the tables has the load balancer. The tables know it, and its list is not gone through.
+fn switch_has(records: &Records, switch: &Switch, lb: ObjId) -> bool
+    requires { Contains records.now.switches switch.now }
+    ensures { result ≡ is_among lb switch.now.lbs }
+{
+    let tag = Tag::Lists(lb);
+    match records.switches().tagged(&tag, below(switch.id)) {
+        Some(first) => first.id == switch.id,
+        None => false,
+    }
+}
+
+// The same of a router.
+fn router_has(records: &Records, router: &Router, lb: ObjId) -> bool
+    requires { Contains records.now.routers router.now }
+    ensures { result ≡ is_among lb router.now.lbs }
+{
+    let tag = Tag::Lists(lb);
+    match records.routers().tagged(&tag, below(router.id)) {
+        Some(first) => first.id == router.id,
+        None => false,
+    }
+}
+
 /// Whether the load balancer is attached to the switch.
 pub fn is_on_switch(records: &Records, lb: &Name, switch: &Name) -> bool
     ensures { result ≡ is_attached (lb_id records.now lb.now) (switch_lbs records.now switch.now) }
 {
     match (records.lb_id(lb), records.switch_named(switch)) {
-        (Some(lb), Some(switch)) => is_among(lb, switch.lbs.as_slice()),
+        (Some(lb), Some(switch)) => switch_has(records, switch, lb),
         (Some(_), None) => false,
         (None, _) => false,
     }
@@ -79,7 +115,7 @@ pub fn is_on_router(records: &Records, lb: &Name, router: &Name) -> bool
     ensures { result ≡ is_attached (lb_id records.now lb.now) (router_lbs records.now router.now) }
 {
     match (records.lb_id(lb), records.router_named(router)) {
-        (Some(lb), Some(router)) => is_among(lb, router.lbs.as_slice()),
+        (Some(lb), Some(router)) => router_has(records, router, lb),
         (Some(_), None) => false,
         (None, _) => false,
     }

@@ -2,6 +2,7 @@ pub mod AclLikes
 pub mod Back
 pub mod Found
 pub mod Listed
+pub mod OneNumber
 pub mod Owned
 pub mod Peering
 pub mod Pieces
@@ -9,6 +10,7 @@ pub mod PlaceOrder
 pub mod PlacedRecords
 pub mod PortNames
 pub mod Reached
+pub mod Relisted
 pub mod Steps
 pub mod SwappedBack
 pub mod Touched

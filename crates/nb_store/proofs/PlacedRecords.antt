@@ -9,6 +9,7 @@ use Rattle.std.specs.List.{list_all, AllByRecursion}
 use Rattle.std.specs.Str.{bytes_eq}
 use Rattle.nv_base.specs.declared.object.ObjId.{ObjId}
 use Rattle.nb_model.specs.Effect.{each_where}
+use Rattle.nb_model.specs.Network.{same}
 use Rattle.nb_model.specs.Readable.{are_apart}
 use Rattle.nb_model.proofs.Alike.{same_names, names_sym}
 use Rattle.nb_model.proofs.RecordLists.{all_as, found_holds}
@@ -174,3 +175,36 @@ module _ {R : Type 0} (number : R → ObjId) where
       ∙ ap (λ b. place.before ++ cond b (change x) x ∷ each_where p change place.after) is
       ∙ ap (λ l. place.before ++ change x ∷ l) (none_changed p change place.after (named_once name_of name place.before x place.after (subst (λ l. IsTrue (are_apart bytes_eq (map name_of l))) place.whole apart) is))
       ∙ sym (place.exchanged (change x) keeps)
+
+-- One record of a number, changed.
+
+module _ {R : Type 0} (number : R → ObjId) where
+  rest_unchanged : (n : ObjId) (change : R → R) (rs : List R) → AllByRecursion (λ r. n.0 < (number r).0) rs → each_where (λ r. same n (number r)) change rs ≡ rs
+  rest_unchanged n change [] all = refl
+  rest_unchanged n change (r ∷ rs) all =
+      ap (λ b. cond b (change r) r ∷ each_where (λ x. same n (number x)) change rs) (turn n.0 (number r).0 all.0) ∙ ap (λ l. r ∷ l) (rest_unchanged n change rs all.1)
+    where
+      turn : (a b : ℕ) → a < b → (a == b) ≡ false
+      turn a b lt = grind (arith, nat_tests, lt)
+
+  one_changed : (change : R → R) (before : List R) (x : R) (after : List R) → NumbersRise number (before ++ x ∷ after)
+      → each_where (λ r. same (number x) (number r)) change (before ++ x ∷ after) ≡ before ++ change x ∷ after
+  one_changed change [] x after rise =
+      ap (λ b. cond b (change x) x ∷ each_where (λ r. same (number x) (number r)) change after) (equal (number x).0)
+      ∙ ap (λ l. change x ∷ l) (rest_unchanged (number x) change after rise.0)
+    where
+      equal : (a : ℕ) → (a == a) ≡ true
+      equal a = grind (arith, nat_tests)
+  one_changed change (y ∷ before) x after rise =
+      ap (λ b. cond b (change y) y ∷ each_where (λ r. same (number x) (number r)) change (before ++ x ∷ after))
+      (apart_numbers (number x).0 (number y).0 (all_at (λ r. (number y).0 < (number r).0) before x after rise.0))
+      ∙ ap (λ l. y ∷ l) (one_changed change before x after rise.1)
+
+  -- the record that is found, changed
+  pub changed_at : (p : R → Bool) (change : R → R) (x : R) (rs : List R) → find p rs ≡ Some x → NumbersRise number rs → number (change x) ≡ number x
+      → with_exchanged number (change x) rs ≡ each_where (λ r. same (number x) (number r)) change rs
+  changed_at p change x rs found rise keeps =
+      let place = placed number p x rs found rise in
+      place.exchanged (change x) keeps
+      ∙ sym (one_changed change place.before x place.after (subst (NumbersRise number) place.whole rise))
+      ∙ ap (each_where (λ r. same (number x) (number r)) change) (sym place.whole)

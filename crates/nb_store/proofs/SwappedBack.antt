@@ -14,7 +14,7 @@ use Rattle.nb_store.specs.Undo.{swapped}
 use Rattle.nb_store.specs.inner.Held.{swaps_back, RisesAt}
 use Rattle.nb_store.specs.declared.step.LeanObject.{LeanObject}
 use Rattle.nb_store.specs.declared.step.LeanObject.TheVariants as lean
-use Rattle.nb_store.proofs.Back.{mapped, unmapped}
+use Rattle.nb_store.proofs.Back.{mapped}
 
 module _ {R : Type 0} (number : R → ObjId) (is_longer : R → R → ℕ → Bool) where
   turned : (r held : R) (place : ℕ) (longer : Bool) → differs is_longer (held, place, not longer) r ≡ differs is_longer (r, place, longer) held
@@ -47,18 +47,6 @@ module _ {R : Type 0} (number : R → ObjId) (is_longer : R → R → ℕ → Bo
       by None g h = absurd (cc)
       by (Some held) g h = by_test held g (differs is_longer s held) refl h
 
-  -- where it does not fit, nothing changes
-  pub not_swapped : (s : Swap R) (rs : List R) → swapped_out is_longer s (record_of number (number s.0) rs) ≡ None → with_swapped number is_longer s rs ≡ rs
-  not_swapped s rs e = by (record_of number (number s.0) rs) refl e
-    where
-      by_test : (held : R) → record_of number (number s.0) rs ≡ Some held → (b : Bool) → differs is_longer s held ≡ b → cond {A = Option (Swap R)} b (Some (held, s.1, not s.2)) None ≡ None → with_swapped number is_longer s rs ≡ rs
-      by_test held g true d h = absurd (cc)
-      by_test held g false d h = ap (λ b. cond b (with_exchanged number s.0 rs) rs) (ap (differs_from is_longer s) g ∙ d)
-
-      by : (o : Option R) → record_of number (number s.0) rs ≡ o → swapped_out is_longer s o ≡ None → with_swapped number is_longer s rs ≡ rs
-      by None g h = ap (λ b. cond b (with_exchanged number s.0 rs) rs) (ap (differs_from is_longer s) g)
-      by (Some held) g h = by_test held g (differs is_longer s held) refl h
-
 -- ---- networks
 
 pub swap_back : (l old : LeanObject) (net : Network) → RisesAt (place_of_lean l) net → swaps_back l net ≡ Some old → swapped old (swapped l net) ≡ net
@@ -71,11 +59,6 @@ swap_back (lean.Router s) old net rise e =
 swap_back (lean.Group s) old net rise e =
     let was = mapped lean.Group _ old e in
     ap (λ o. swapped o (swapped (lean.Group s) net)) (sym was.1.1) ∙ ap (λ all. record net { groups = all }) (swapped_back (λ x. x.id) group_longer s was.0 net.groups rise was.1.0)
-
-pub none_swapped : (l : LeanObject) (net : Network) → swaps_back l net ≡ None → swapped l net ≡ net
-none_swapped (lean.Switch s) net e = ap (λ all. record net { switches = all }) (not_swapped (λ x. x.id) switch_longer s net.switches (unmapped lean.Switch _ e))
-none_swapped (lean.Router s) net e = ap (λ all. record net { routers = all }) (not_swapped (λ x. x.id) router_longer s net.routers (unmapped lean.Router _ e))
-none_swapped (lean.Group s) net e = ap (λ all. record net { groups = all }) (not_swapped (λ x. x.id) group_longer s net.groups (unmapped lean.Group _ e))
 
 -- a record that fits takes the place of the one of its number
 pub switch_swapped : (net : Network) (s : Swap Switch) (r : Switch) → s.0 ≡ r → fits (λ x. x.id) switch_longer s net.switches ≡ true → swapped (lean.Switch s) net ≡ record net { switches = with_exchanged (λ x. x.id) r net.switches }

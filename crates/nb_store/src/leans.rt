@@ -1,7 +1,8 @@
 //! Records that list one number more, or one less, than those of their numbers.
-ghost use Rattle.std.specs.Prelude.{◌≡◌, IfOk, IfErr};
+ghost use Rattle.std.specs.Prelude.{◌≡◌, true, IfOk, IfErr};
 ghost use Rattle.nv_table.specs.Table.{with_exchanged};
 ghost use Rattle.nb_store.specs.Undo.{swapped};
+ghost use Rattle.nb_store.specs.inner.Held.{is_fitting};
 
 use crate::records::Records;
 use crate::step::LeanObject;
@@ -17,6 +18,7 @@ impl Records {
         switch: Switch,
     ) -> Result<Result<LeanObject, Switch>, OutOfMemory>
         ensures lean { IfOk result (λ left. IfOk left (λ lean. swapped lean self.now ≡ record self.now { switches = with_exchanged (λ x. x.id) switch self.now.switches })) }
+        ensures fits { IfOk result (λ left. IfOk left (λ lean. is_fitting lean self.now ≡ true)) }
         ensures alone { IfOk result (λ left. IfErr left (λ alone. alone ≡ switch)) }
     {
         match self.switches.lean(alloc, switch)? {
@@ -32,6 +34,7 @@ impl Records {
         router: Router,
     ) -> Result<Result<LeanObject, Router>, OutOfMemory>
         ensures lean { IfOk result (λ left. IfOk left (λ lean. swapped lean self.now ≡ record self.now { routers = with_exchanged (λ x. x.id) router self.now.routers })) }
+        ensures fits { IfOk result (λ left. IfOk left (λ lean. is_fitting lean self.now ≡ true)) }
         ensures alone { IfOk result (λ left. IfErr left (λ alone. alone ≡ router)) }
     {
         match self.routers.lean(alloc, router)? {
@@ -47,6 +50,7 @@ impl Records {
         group: Group,
     ) -> Result<Result<LeanObject, Group>, OutOfMemory>
         ensures lean { IfOk result (λ left. IfOk left (λ lean. swapped lean self.now ≡ record self.now { groups = with_exchanged (λ x. x.id) group self.now.groups })) }
+        ensures fits { IfOk result (λ left. IfOk left (λ lean. is_fitting lean self.now ≡ true)) }
         ensures alone { IfOk result (λ left. IfErr left (λ alone. alone ≡ group)) }
     {
         match self.groups.lean(alloc, group)? {

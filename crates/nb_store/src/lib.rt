@@ -7,6 +7,7 @@ mod env;
 mod laws;
 mod leans;
 mod likes;
+mod listings;
 mod named;
 mod numbers;
 mod peers;

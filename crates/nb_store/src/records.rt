@@ -1,9 +1,9 @@
 //! The tables of all kinds.
-ghost use Rattle.std.specs.Prelude.{◌≡◌, ◌+◌, ◌<◌, ◌^◌};
+ghost use Rattle.std.specs.Prelude.{◌≡◌, ◌+◌, ◌<◌, ◌^◌, true, Some};
 ghost use Rattle.nb_model.specs.Network.{empty_network, next_number};
 ghost use Rattle.nb_store.specs.Undo.{restored, swapped, removed, undone, back, back_steps};
 ghost use Rattle.nb_store.specs.Touched.{place_of, place_of_lean};
-ghost use Rattle.nb_store.specs.inner.Held.{held, swaps_back, RisesAt};
+ghost use Rattle.nb_store.specs.inner.Held.{held, is_fitting, swaps_back, RisesAt};
 
 use crate::step::{LeanObject, Object, Place, Step};
 use crate::undo::Undo;
@@ -135,6 +135,21 @@ impl Records {
             LeanObject::Router(lean) => LeanObject::Router(self.routers.swap(lean)?),
             LeanObject::Group(lean) => LeanObject::Group(self.groups.swap(lean)?),
         })
+    }
+
+    /// Puts a record in place of the one of its number, from which it differs by its one number, and answers that one, which swaps back.
+    /// It compares no lists.
+    pub(crate) fn swap_fitting(&mut self, lean: LeanObject) -> LeanObject
+        requires { is_fitting lean self.old ≡ true }
+        ensures old { Some result ≡ swaps_back lean self.old }
+        ensures new { self.new ≡ swapped lean self.old }
+        ensures rise { RisesAt (place_of_lean lean) self.old }
+    {
+        match lean {
+            LeanObject::Switch(lean) => LeanObject::Switch(self.switches.swap_fitting(lean)),
+            LeanObject::Router(lean) => LeanObject::Router(self.routers.swap_fitting(lean)),
+            LeanObject::Group(lean) => LeanObject::Group(self.groups.swap_fitting(lean)),
+        }
     }
 
     /// Takes the object of a kind and number out. Where there is none, nothing changes.

@@ -1,6 +1,7 @@
-ghost use Rattle.std.specs.Prelude.{◌≡◌, ◌+◌, ◌<◌, ◌^◌, [], OnOk, IfOk};
+ghost use Rattle.std.specs.Prelude.{◌≡◌, ◌+◌, ◌<◌, ◌^◌, [], true, OnOk, IfOk};
 ghost use Rattle.nb_model.specs.Network.{next_number};
 ghost use Rattle.nb_store.specs.Undo.{restored, swapped, removed, undone, back_steps};
+ghost use Rattle.nb_store.specs.inner.Held.{is_fitting};
 
 use crate::records::Records;
 use crate::step::{LeanObject, Object, Place, Step};
@@ -40,15 +41,14 @@ impl Work {
         }
     }
 
-    /// Puts a record in place of the one of its number, where the two differ by its one number. Where they do not, nothing changes.
+    /// Puts a record in place of the one of its number, from which it differs by its one number. It compares no lists.
     pub(crate) fn swap(&mut self, lean: LeanObject) -> Result<(), OutOfMemory>
+        requires { is_fitting lean self.old.records ≡ true }
         ensures ok { OnOk result (self.new.records ≡ swapped lean self.old.records) }
         ensures back { back_steps self.new.steps.items self.new.records ≡ back_steps self.old.steps.items self.old.records }
     {
-        match self.records.swap(lean) {
-            Some(old) => self.note(Step::Swap(old)),
-            None => Ok(()),
-        }
+        let old = self.records.swap_fitting(lean);
+        self.note(Step::Swap(old))
     }
 
     /// Removes the object of a kind and number. Where there is none, nothing changes. After `OutOfMemory` nothing has changed. Not from

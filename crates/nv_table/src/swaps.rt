@@ -41,14 +41,26 @@ impl<R: Listing> Table<R> {
             Some(held) => lean.differs(held),
             None => false,
         };
-        if !fits {
-            return None;
+        if fits {
+            Some(self.swap_fitting(lean))
+        } else {
+            None
         }
-        Some(if lean.is_longer {
+    }
+
+    /// Puts a record in place of the one of its number, from which it differs by its one tag, and answers that one, which swaps back.
+    /// It compares no tags, and takes no memory.
+    pub fn swap_fitting(&mut self, lean: Lean<R>) -> Lean<R>
+        requires { fits R.number R.is_longer lean self.old ≡ true }
+        ensures records { self.new ≡ with_swapped R.number R.is_longer lean self.old }
+        ensures old { Some result ≡ swapped_out R.is_longer lean (record_of R.number (R.number lean.0) self.old) }
+        ensures rise { NumbersRise R.number self.old }
+    {
+        if lean.is_longer {
             self.lengthen(lean)
         } else {
             self.shorten(lean)
-        })
+        }
     }
 
     // Puts in a record that has one tag more than the one of its number.
@@ -59,6 +71,7 @@ impl<R: Listing> Table<R> {
         ensures old { record_of R.number (R.number lean.0) self.old ≡ Some result.0 }
         ensures place { result.1 ≡ lean.1 }
         ensures shorter { result.2 ≡ false }
+        ensures rise { NumbersRise R.number self.old }
     {
         let Lean {
             record,
@@ -89,6 +102,7 @@ impl<R: Listing> Table<R> {
         ensures old { record_of R.number (R.number lean.0) self.old ≡ Some result.0 }
         ensures place { result.1 ≡ lean.1 }
         ensures longer { result.2 ≡ true }
+        ensures rise { NumbersRise R.number self.old }
     {
         let Lean {
             record,

@@ -1,8 +1,8 @@
 -- What a network holds at the number of an object.
-use Rattle.std.specs.Prelude.{Option}
+use Rattle.std.specs.Prelude.{Bool, Option}
 use Rattle.std.specs.Option.{option_map}
 use Rattle.nb_model.specs.Network.{Network}
-use Rattle.nv_table.specs.Swapped.{swapped_out}
+use Rattle.nv_table.specs.Swapped.{fits, swapped_out}
 use Rattle.nv_table.specs.Table.{NumbersRise, record_of}
 use Rattle.nb_records.specs.Longer.{switch_longer, router_longer, group_longer}
 use Rattle.nb_store.specs.declared.step.LeanObject.{LeanObject}
@@ -25,6 +25,12 @@ held (place.Acl n) net = option_map object.Acl (record_of (λ x. x.id) n net.acl
 held (place.Set n) net = option_map object.Set (record_of (λ x. x.id) n net.sets)
 held (place.Group n) net = option_map object.Group (record_of (λ x. x.id) n net.groups)
 held (place.Binding n) net = option_map object.Binding (record_of (λ x. x.id) n net.bindings)
+
+-- whether the record differs by its one number from the one of its number
+abbrev pub is_fitting : LeanObject → Network → Bool
+is_fitting (lean.Switch s) net = fits (λ x. x.id) switch_longer s net.switches
+is_fitting (lean.Router s) net = fits (λ x. x.id) router_longer s net.routers
+is_fitting (lean.Group s) net = fits (λ x. x.id) group_longer s net.groups
 
 -- what swaps back
 abbrev pub swaps_back : LeanObject → Network → Option LeanObject

@@ -1,19 +1,16 @@
 use Rattle.std.proofs.Common.{◌∙◌}
 use Rattle.std.proofs.lemmas.Result.{on_ok_weaker}
-use Rattle.nb_records.specs.declared.switch.Switch.{Switch}
 use Rattle.nb_change.proofs.BalancerEdits.{attached_to_switch, no_switch_attached, none_attached_to_switch}
 use Rattle.nb_change.proofs.balancers.ls_lb_add.Goals as goal
 
 pub returns-in_default-clause-ok : goal.returns-in_default-clause-ok
-returns-in_default-clause-ok c = none_attached_to_switch c.args.work.now.records c.requires.sound c.args.switch c.args.lb.now c.args.may_exist c.in_default.ensures
+returns-in_default-clause-ok c = none_attached_to_switch c.args.work.now.records c.requires.sound c.args.switch.now c.args.lb.now c.args.may_exist c.in_default.ensures
 
 pub returns-in_default-switch_named-clause-ok : goal.returns-in_default-switch_named-clause-ok
-returns-in_default-switch_named-clause-ok c = no_switch_attached c.args.work.now.records c.requires.sound c.args.switch c.args.lb.now c.args.may_exist c.in-Some.number c.in-Some.ensures c.in_default-switch_named.ensures
+returns-in_default-switch_named-clause-ok c =
+    no_switch_attached c.args.work.now.records c.requires.sound c.args.switch.now c.args.lb.now c.args.may_exist c.in-Some.number c.in-Some.ensures c.in_default-switch_named.ensures
 
 pub returns-clause-ok : goal.returns-clause-ok
 returns-clause-ok c =
-    let old : Switch = c.in-Some-switch_named.old.now in
-    let new : Switch = record { id = old.id; name = c.switch.inside.0.items; lbs = c.in_ok-with_number.field-0 } in
-    on_ok_weaker c.store_switch.result (λ e. e
-    ∙ attached_to_switch c.args.work.now.records c.requires.sound c.args.switch c.args.lb.now c.args.may_exist c.in-Some.number old new c.in-Some.ensures c.in-Some-switch_named.ensures
-    (λ is i. record { id = old.id; name = (c.switch.view_is ∙ is) i; lbs = c.in_ok-with_number.ensures i })) c.store_switch.ensures.ok
+    on_ok_weaker c.list_on_switch.result (λ e. e
+    ∙ attached_to_switch c.args.work.now.records c.requires.sound c.args.switch.now c.args.lb.now c.args.may_exist c.in-Some.number c.in-Some-switch_named.old.now c.in-Some.ensures c.in-Some-switch_named.ensures) c.list_on_switch.ensures.ok

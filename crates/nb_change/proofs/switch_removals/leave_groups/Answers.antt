@@ -4,16 +4,16 @@ use Rattle.nb_change.proofs.switch_removals.leave_groups.Goals as goal
 
 pub loop-group-smaller : goal.loop-group-smaller
 loop-group-smaller c =
-    group_smaller c.args.port c.loop-group.work.records c.store_group.new.self.records c.in-Some.group.now c.in_ok-left.left c.in-Some.ensures c.loop-group.invariant.rise c.in_ok-left.ensures
-    c.in_ok-store_group.ensures.ok
+    group_smaller c.args.port c.loop-group.work.records c.unlist_in_group.new.self.records c.in-Some.group.now c.in-Some.ensures c.loop-group.invariant.rise
+    c.in_ok-unlist_in_group.ensures.ok
 
 pub loop-group-preserved : goal.loop-group-preserved
 loop-group-preserved c = record {
-  rise = group_rise c.args.port c.loop-group.work.records c.store_group.new.self.records c.in-Some.group.now c.in_ok-left.left c.in-Some.ensures c.loop-group.invariant.rise c.in_ok-left.ensures
-      c.in_ok-store_group.ensures.ok;
-  same = group_same c.args.port c.loop-group.work.records c.store_group.new.self.records c.in-Some.group.now c.in_ok-left.left c.in-Some.ensures c.loop-group.invariant.rise c.in_ok-left.ensures
-      c.in_ok-store_group.ensures.ok ∙ c.loop-group.invariant.same;
-  back = c.in_ok-store_group.ensures.back ∙ c.loop-group.invariant.back;
+  rise = group_rise c.args.port c.loop-group.work.records c.unlist_in_group.new.self.records c.in-Some.group.now c.in-Some.ensures c.loop-group.invariant.rise
+      c.in_ok-unlist_in_group.ensures.ok;
+  same = group_same c.args.port c.loop-group.work.records c.unlist_in_group.new.self.records c.in-Some.group.now c.in-Some.ensures c.loop-group.invariant.rise
+      c.in_ok-unlist_in_group.ensures.ok ∙ c.loop-group.invariant.same;
+  back = c.in_ok-unlist_in_group.ensures.back ∙ c.loop-group.invariant.back;
 }
 
 pub returns-clause-ok : goal.returns-clause-ok

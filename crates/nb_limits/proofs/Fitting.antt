@@ -46,13 +46,13 @@ greatest_low f most (x ∷ xs) all =
     both : (m a b : ℕ) → nat_lt m a ≡ false → nat_lt m b ≡ false → nat_lt m (max a b) ≡ false
     both m a b e g = grind (arith, nat_tests, e, g)
 
--- the load balancer of a name is the only one of that name
-only_named : (lbs : List Lb) (name : List ℕ) (lb : Lb) → IsTrue (are_apart bytes_eq (map (λ x. x.name) lbs)) → find (λ x. bytes_eq x.name name) lbs ≡ Some lb
-    → AllByRecursion (λ own. IsTrue (bytes_eq own.name name) → own ≡ lb) lbs
-only_named lbs name lb apart is =
-    only (λ a b. bytes_eq a.name b.name) (λ x. bytes_eq x.name name) (λ x. bytes_eq x.name name) lbs lb (apart_by bytes_eq (λ (x : Lb). x.name) lbs apart) is
-    (λ own holds. subst (λ it. IsTrue (bytes_eq lb.name it)) (sym (same_names own.name name holds)) (found_holds (λ (x : Lb). bytes_eq x.name name) lbs lb is))
-    (λ own holds. subst (λ it. IsTrue (bytes_eq it lb.name)) (sym (same_names own.name name holds)) (names_sym name lb.name ∙ found_holds (λ (x : Lb). bytes_eq x.name name) lbs lb is))
+-- what has a name is the only one of that name
+pub only_named : {X : Type 0} (name_of : X → List ℕ) (xs : List X) (name : List ℕ) (x : X) → IsTrue (are_apart bytes_eq (map name_of xs)) → find (λ own. bytes_eq (name_of own) name) xs ≡ Some x
+    → AllByRecursion (λ own. IsTrue (bytes_eq (name_of own) name) → own ≡ x) xs
+only_named {X} name_of xs name x apart is =
+    only (λ a b. bytes_eq (name_of a) (name_of b)) (λ own. bytes_eq (name_of own) name) (λ own. bytes_eq (name_of own) name) xs x (apart_by bytes_eq name_of xs apart) is
+    (λ own holds. subst (λ it. IsTrue (bytes_eq (name_of x) it)) (sym (same_names (name_of own) name holds)) (found_holds (λ own. bytes_eq (name_of own) name) xs x is))
+    (λ own holds. subst (λ it. IsTrue (bytes_eq it (name_of x))) (sym (same_names (name_of own) name holds)) (names_sym name (name_of x) ∙ found_holds (λ own. bytes_eq (name_of own) name) xs x is))
 
 module _ (net : Network) (name : List ℕ) (vip : Vip) (proto : Option Proto) where
   abbrev new : Lb
@@ -78,7 +78,7 @@ module _ (net : Network) (name : List ℕ) (vip : Vip) (proto : Option Proto) wh
   vip_fits named low room =
       if_missing (λ after. nat_lt 64 (amount after kind.Vip) ≡ false) (lb_named net name) _ _
       (λ lb is. greatest_low (λ (own : Lb). length own.vips) 64 (each_where (λ own. bytes_eq own.name name) longer net.lbs)
-      (all_only few_vips (λ own. bytes_eq own.name name) longer net.lbs lb (only_named net.lbs name lb named.lbs is) (one_more lb (ap has_vip_room (sym is) ∙ room)) (each_low (λ (own : Lb). length own.vips) 64 net.lbs low)))
+      (all_only few_vips (λ own. bytes_eq own.name name) longer net.lbs lb (only_named (λ (own : Lb). own.name) net.lbs name lb named.lbs is) (one_more lb (ap has_vip_room (sym is) ∙ room)) (each_low (λ (own : Lb). length own.vips) 64 net.lbs low)))
       (λ missing. greatest_low (λ (own : Lb). length own.vips) 64 (net.lbs ++ new ∷ []) (all_push few_vips net.lbs new (each_low (λ (own : Lb). length own.vips) 64 net.lbs low) refl))
     where
       last : (vips : List Vip) → length (vips ++ vip ∷ []) ≡ length vips + 1

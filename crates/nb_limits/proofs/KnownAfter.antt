@@ -1,5 +1,5 @@
 -- What is known of a network after an edit is so.
-use Rattle.std.proofs.Common.{◌≡◌, ℕ, ◌+◌, ◌*◌, ◌≤◌, ◌++◌, map, Bool, true, false, cond, not, nat_lt, List, [], ◌∷◌, Option, Some, None, arith, refl, sym, ap, subst, length}
+use Rattle.std.proofs.Common.{◌≡◌, ℕ, ◌+◌, ◌*◌, ◌≤◌, ◌++◌, map, Bool, true, false, cond, not, nat_lt, min, List, [], ◌∷◌, Option, Some, None, arith, refl, sym, ap, subst, length}
 use Rattle.std.proofs.lemmas.Bool.Decides.{nat_tests}
 use Rattle.std.specs.Prelude.{IsTrue, find, is_some, option_map, unwrap_or}
 use Rattle.std.specs.List.{AllByRecursion}
@@ -23,11 +23,12 @@ use Rattle.nb_records.specs.declared.edit.Edit.TheVariants as edit
 use Rattle.nb_records.specs.declared.refusal.Kind.{Kind}
 use Rattle.nb_records.specs.declared.refusal.Kind.TheVariants as kind
 use Rattle.nb_records.specs.declared.refusal.Refusal.TheVariants.{Limit}
+use Rattle.nb_records.specs.declared.sets.Group.{Group}
 use Rattle.nb_model.specs.Amounts.{amount, bound, kinds, total, ip_count}
 use Rattle.nb_model.specs.Applies.{switches_of_acl}
 use Rattle.nb_model.specs.Belongs.{owner_id, is_router_kind}
-use Rattle.nb_model.specs.Effect.{effect, each_where, where_there, add_acl, delete_port, new_vip, set_port, set_router_lbs, set_switch_lbs, with_number}
-use Rattle.nb_model.specs.Network.{Network, lb_id, lb_named, next_number, port_named}
+use Rattle.nb_model.specs.Effect.{effect, each_where, where_there, add_acl, delete_port, named_port_ids, new_vip, set_port, set_router_lbs, set_switch_lbs, with_number}
+use Rattle.nb_model.specs.Network.{Network, group_id, group_named, lb_id, lb_named, next_number, port_named}
 use Rattle.nb_model.specs.Readable.{are_apart}
 use Rattle.nb_model.specs.Sound.{AreNumbered, IsSound, Refer}
 use Rattle.nb_model.proofs.RisesEdits.{edit_falls}
@@ -36,10 +37,13 @@ use Rattle.nb_store.proofs.PlacedRecords.{apart_first, rises}
 use Rattle.nv_table.specs.Table.{record_of}
 use Rattle.nb_limits.specs.declared.ceilings.Ceilings.{Ceilings}
 use Rattle.nb_limits.specs.Ceilings.{IsCeiling, AreCeilings}
-use Rattle.nb_limits.specs.inner.KnownAfter.{raised, with_acl, reach, own_vips, vips_after, with_lb, peer_named, where_unnamed, without_kind, without_port, raised_by, with_addresses, known_after}
+use Rattle.nb_limits.specs.inner.KnownAfter.{raised, with_acl, with_ports, reach, own_vips, vips_after, with_lb, peer_named, where_unnamed, without_kind, without_port, raised_by, with_addresses, known_after}
+use Rattle.nb_limits.specs.inner.Weights.{of_owner}
 use Rattle.nb_limits.specs.inner.Within.{up_to}
 use Rattle.nb_limits.specs.Limitless.{IsSoundButLimits}
-use Rattle.nb_limits.proofs.Fitting.{vip_fits, backends_fit}
+use Rattle.nb_limits.specs.declared.acl_limits.Measure.TheVariants.{Count, Text}
+use Rattle.nb_limits.proofs.Fitting.{only_named, vip_fits, backends_fit}
+use Rattle.nb_limits.proofs.NewMembers.{named_on, none_changed, set_switches, set_text, with_members}
 use Rattle.nb_limits.proofs.NewPorts.{port_fits}
 use Rattle.nb_limits.proofs.NewVips.{apart_last, new_alone, switch_more, router_more}
 use Rattle.nb_limits.proofs.PortNeighbours.{IsHosts, addresses_bring, hosts_leave}
@@ -79,6 +83,14 @@ falls limit before after (Some most) less known = let low = known.0 in (omega (a
 
 fits : (limit before after : ℕ) → after ≤ before → nat_lt limit before ≡ false → nat_lt limit after ≡ false
 fits limit before after less low = grind (arith, nat_tests, less, low)
+
+-- what is known of an amount that is raised by at most so much, where that is told
+raised_by_ceiling : (limit before after : ℕ) (most : Option ℕ) (more times : ℕ) → IsCeiling limit before most → after ≤ before + more * times → IsCeiling limit after (raised_by limit most (up_to limit more) times)
+raised_by_ceiling limit before after most more times known rise = by (up_to limit more) refl
+  where
+    by : (own : Option ℕ) → up_to limit more ≡ own → IsCeiling limit after (raised_by limit most own times)
+    by None is = tt
+    by (Some n) is = subst (λ m. IsCeiling limit after (raised limit most m times)) (sym (told limit more n (sym is)).0) (raised_ceiling limit before after most more times times known rise (le_self times))
 
 module _ (net : Network) (known : Ceilings) (are : AreCeilings net known) where
   -- where none of the kinds rises
@@ -151,6 +163,36 @@ module _ (net : Network) (known : Ceilings) (are : AreCeilings net known) where
         vip_datapaths = falls 16384 (amount net kind.VipDatapath) (amount (add_acl net (acl owner)) kind.VipDatapath) known.vip_datapaths f are.vip_datapaths;
       }
 
+  -- where a group, if it is there, has other ports
+  other_members : IsSound net → (name : List ℕ) (ports : List (List ℕ)) → AreCeilings (effect net (edit.PgSetPorts name ports)) (with_ports net known (group_id net name) (min (length ports) (length net.switches)))
+  other_members sound name ports = by (group_named net name) refl
+    where
+      given : Edit
+      given = edit.PgSetPorts name ports
+
+      after : Network
+      after = effect net given
+
+      most : ℕ
+      most = min (length ports) (length net.switches)
+
+      by : (found : Option Group) → group_named net name ≡ found → AreCeilings after (with_ports net known (option_map (λ (g : Group). g.id) found) most)
+      by None is =
+          subst (λ (groups : List Group). AreCeilings (record net { groups = groups }) known)
+          (sym (none_changed (λ (g : Group). bytes_eq g.name name) (with_members (named_port_ids net ports)) net.groups is)) are
+      by (Some group) is =
+          let only = only_named (λ (g : Group). g.name) net.groups name group sound.named.groups is in
+          record {
+            acl_switches = raised_by_ceiling 65536 (amount net kind.AclSwitch) (amount after kind.AclSwitch) known.acl_switches (of_owner Count net group.id most) 1 are.acl_switches
+                (set_switches net (but_limits net sound) name group only (named_port_ids net ports) most (named_on net (but_limits net sound) ports));
+            match_text = raised_by_ceiling 67108864 (amount net kind.MatchText) (amount after kind.MatchText) known.match_text (of_owner Text net group.id most) 1 are.match_text
+                (set_text net (but_limits net sound) name group only (named_port_ids net ports) most (named_on net (but_limits net sound) ports));
+            vips = λ is. fits 64 (amount net kind.Vip) (amount after kind.Vip) (edit_falls net given sound kind.Vip refl) (are.vips is);
+            backends = λ is. fits 64 (amount net kind.Backend) (amount after kind.Backend) (edit_falls net given sound kind.Backend refl) (are.backends is);
+            neighbours = falls 262144 (amount net kind.Neighbour) (amount after kind.Neighbour) known.neighbours (edit_falls net given sound kind.Neighbour refl) are.neighbours;
+            vip_datapaths = falls 16384 (amount net kind.VipDatapath) (amount after kind.VipDatapath) known.vip_datapaths (edit_falls net given sound kind.VipDatapath refl) are.vip_datapaths;
+          }
+
   -- where a port is gone
   one_less : (name : List ℕ) → IsTrue (are_apart bytes_eq (map (λ (p : Port). p.name) net.ports)) → IsCeiling 262144 (amount (delete_port net name) kind.Neighbour) (without_port (port_named net name) known.neighbours)
   one_less name apart = by (port_named net name) refl
@@ -169,16 +211,9 @@ module _ (net : Network) (known : Ceilings) (are : AreCeilings net known) where
   -- where a port has other addresses
   one_addressed : (name : List ℕ) (list : List Addr) → IsTrue (are_apart bytes_eq (map (λ (p : Port). p.name) net.ports))
       → IsCeiling 262144 (amount (set_port net name (λ p. record p { addresses = list })) kind.Neighbour) (with_addresses net list known.neighbours)
-  one_addressed name list apart = by (up_to 262144 (total ip_count list)) refl
-    where
-      by : (more : Option ℕ) → up_to 262144 (total ip_count list) ≡ more
-          → IsCeiling 262144 (amount (set_port net name (λ p. record p { addresses = list })) kind.Neighbour) (raised_by 262144 known.neighbours more (length net.router_ports))
-      by None is = tt
-      by (Some more) is =
-          subst (λ n. IsCeiling 262144 (amount (set_port net name (λ p. record p { addresses = list })) kind.Neighbour) (raised 262144 known.neighbours n (length net.router_ports)))
-          (sym (told 262144 (total ip_count list) more (sym is)).0)
-          (raised_ceiling 262144 (amount net kind.Neighbour) (amount (set_port net name (λ p. record p { addresses = list })) kind.Neighbour) known.neighbours (total ip_count list) (length net.router_ports) (length net.router_ports)
-          are.neighbours (addresses_bring net name list apart) (le_self (length net.router_ports)))
+  one_addressed name list apart =
+      raised_by_ceiling 262144 (amount net kind.Neighbour) (amount (set_port net name (λ p. record p { addresses = list })) kind.Neighbour) known.neighbours (total ip_count list) (length net.router_ports)
+      are.neighbours (addresses_bring net name list apart)
 
 -- no two ports have one name
 ports_apart : (net : Network) → IsSound net → IsTrue (are_apart bytes_eq (map (λ (p : Port). p.name) net.ports))
@@ -196,16 +231,7 @@ known_holds net known (edit.AclAdd name way priority matching verdict may of) so
     let given = edit.AclAdd name way priority matching verdict may of in
     one_acl net known are (but_limits net sound) (λ owner. record { id = next_number net; owner = owner; way = way; priority = priority; matching = matching; verdict = verdict }) matching (λ owner. refl) (λ owner. refl)
     (owner_id net of name) (edit_falls net given sound kind.Vip refl) (edit_falls net given sound kind.Backend refl) (edit_falls net given sound kind.Neighbour refl) (edit_falls net given sound kind.VipDatapath refl)
-known_holds net known (edit.PgSetPorts name ports) sound are =
-    let given = edit.PgSetPorts name ports in
-    record {
-      acl_switches = tt;
-      match_text = tt;
-      vips = λ is. fits 64 (amount net kind.Vip) (amount (effect net given) kind.Vip) (edit_falls net given sound kind.Vip refl) (are.vips is);
-      backends = λ is. fits 64 (amount net kind.Backend) (amount (effect net given) kind.Backend) (edit_falls net given sound kind.Backend refl) (are.backends is);
-      neighbours = falls 262144 (amount net kind.Neighbour) (amount (effect net given) kind.Neighbour) known.neighbours (edit_falls net given sound kind.Neighbour refl) are.neighbours;
-      vip_datapaths = falls 16384 (amount net kind.VipDatapath) (amount (effect net given) kind.VipDatapath) known.vip_datapaths (edit_falls net given sound kind.VipDatapath refl) are.vip_datapaths;
-    }
+known_holds net known (edit.PgSetPorts name ports) sound are = other_members net known are sound name ports
 known_holds net known (edit.LbAdd name at backends proto) sound are =
     let given = edit.LbAdd name at backends proto in
     record {

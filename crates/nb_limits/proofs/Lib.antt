@@ -8,6 +8,7 @@ pub mod Fitting
 pub mod Greatest
 pub mod KnownAfter
 pub mod Neighbours
+pub mod NewMembers
 pub mod NewPorts
 pub mod NewVips
 pub mod Noted

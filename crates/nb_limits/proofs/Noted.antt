@@ -40,7 +40,7 @@ take_next items all i d same within = ap (take (i + 1)) (sym same) ∙ take_more
 pub all_taken : (items all : List ObjId) (i : ℕ) → items ≡ all → length items ≤ i → take i all ≡ all
 all_taken items all i same past = take_all i all (subst (λ (l : List ObjId). length l ≤ i) same past)
 
-none_there : (n : ObjId) (ports : List Port) → false ≡ list_any (λ (port : Port). same port.switch n && is_among port.id []) ports
+pub none_there : (n : ObjId) (ports : List Port) → false ≡ list_any (λ (port : Port). same port.switch n && is_among port.id []) ports
 none_there n [] = refl
 none_there n (port ∷ ports) = none_there n ports ∙ ap (λ b. b || list_any (λ (port : Port). same port.switch n && is_among port.id []) ports) (sym (fails (same port.switch n)))
   where

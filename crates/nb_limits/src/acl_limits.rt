@@ -2,7 +2,7 @@
 ghost use Rattle.std.specs.Prelude.{◌≡◌, ◌*◌, IfOk};
 ghost use Rattle.nb_limits.specs.Limitless.{IsSoundButLimits};
 ghost use Rattle.nb_limits.specs.inner.GroupSwitches.{switch_count};
-ghost use Rattle.nb_limits.specs.inner.Weights.{weight, acl_weight, on_switch, on_group, on_switches, on_groups};
+ghost use Rattle.nb_limits.specs.inner.Weights.{weight, acl_weight, of_owner, on_switch, on_group, on_switches, on_groups};
 ghost use Rattle.nb_limits.specs.inner.Within.{up_to};
 ghost use Rattle.nb_records.specs.declared.refusal.Kind.TheVariants as kind;
 ghost use Rattle.nb_model.specs.Amounts.{amount, bound};
@@ -12,7 +12,7 @@ use crate::within::{add, add_times};
 use expr_core::put_tree;
 use nb_records::{Acl, Group, Kind};
 use nb_store::{Records, add_number};
-use nv_base::{Items, OutOfMemory};
+use nv_base::{Items, ObjId, OutOfMemory};
 use std::alloc::Global;
 
 /// What is added up of ACLs.
@@ -156,12 +156,27 @@ fn on_group(
         return Ok(Some(0));
     }
     let switches = switch_count(alloc, records, group)?;
+    of_owner(alloc, records, group.id, measure, switches, bound)
+}
+
+/// The weight of the ACLs of this owner, each so many times, where it is within the bound.
+pub(crate) fn of_owner(
+    alloc: Global,
+    records: &Records,
+    owner: ObjId,
+    measure: Measure,
+    times: u64,
+    bound: u64,
+) -> Result<Option<u64>, OutOfMemory>
+    requires limitless { IsSoundButLimits records.now }
+    ensures { IfOk result (λ sum. sum ≡ up_to bound (of_owner measure records.now owner times)) }
+{
     let mut room = Vec::new(alloc);
     let mut sum = 0;
     let mut after = None;
-    while let Some(acl) = records.acl_of(group.id, after) {
+    while let Some(acl) = records.acl_of(owner, after) {
         let weight = weight(acl, measure, &mut room)?;
-        let Some(total) = add_times(sum, weight, switches, bound) else {
+        let Some(total) = add_times(sum, weight, times, bound) else {
             return Ok(None);
         };
         sum = total;

@@ -7,10 +7,12 @@ ghost use Rattle.nb_model.specs.Effect.{effect};
 ghost use Rattle.nb_model.specs.Network.{Network, empty_network};
 ghost use Rattle.nb_model.specs.Sound.{IsSound};
 ghost use Rattle.nb_limits.specs.Ceilings.{AreCeilings};
-ghost use Rattle.nb_limits.specs.inner.KnownAfter.{raised, reach, with_acl, has_vip_room, own_vips, vips_after, with_lb, where_unnamed, without_port, without_kind, with_addresses, known_after};
+ghost use Rattle.nb_limits.specs.inner.KnownAfter.{raised, reach, with_acl, with_ports, raised_by, has_vip_room, own_vips, vips_after, with_lb, where_unnamed, without_port, without_kind, with_addresses, known_after};
+ghost use Rattle.nb_limits.specs.inner.Weights.{of_owner};
+ghost use Rattle.nb_limits.specs.inner.Within.{up_to};
 ghost use Rattle.nb_limits.specs.Limitless.{IsSoundButLimits};
 
-use crate::acl_limits::{acl_switches, match_text, switch_count};
+use crate::acl_limits::{Measure, acl_switches, match_text, of_owner, switch_count};
 use crate::balancer_limits::{backend_count, vip_count, vip_datapaths};
 use crate::bounds::bound;
 use crate::neighbour_limits::{ip_counts, neighbours};
@@ -99,11 +101,11 @@ impl Ceilings {
                 of,
                 ..
             } => self.with_acl(alloc, records, records.owner_id(*of, owner), matching),
-            Edit::PgSetPorts { .. } => Ok(Ceilings {
-                acl_switches: None,
-                match_text: None,
-                ..self
-            }),
+            Edit::PgSetPorts { name, ports } => {
+                let named = ports.as_slice().len() as u64;
+                let most = named.min(records.switches().count());
+                self.with_ports(alloc, records, records.group_id(name), most)
+            }
             Edit::LbAdd { lb, backends, .. } => Ok(Ceilings {
                 vips_fit: has_vip_room(records.lb_named(lb)),
                 backends_fit: do_fit(backends.as_slice()),
@@ -268,6 +270,52 @@ impl Ceilings {
             ..self
         })
     }
+
+    // What is known once the group of this number, if it is there, has other ports, which are on at most so many switches: each of its
+    // ACLs applies to at most so many more.
+    fn with_ports(
+        self,
+        alloc: Global,
+        records: &Records,
+        group: Option<ObjId>,
+        most: u64,
+    ) -> Result<Ceilings, OutOfMemory>
+        requires limitless { IsSoundButLimits records.now }
+        ensures { IfOk result (λ known. known ≡ with_ports records.now self group most) }
+    {
+        let Some(group) = group else {
+            return Ok(self);
+        };
+        let switches = owned(alloc, records, group, Measure::Count, most, Kind::AclSwitch)?;
+        let text = owned(alloc, records, group, Measure::Text, most, Kind::MatchText)?;
+        Ok(Ceilings {
+            acl_switches: raised_by(self.acl_switches, switches, 1, Kind::AclSwitch),
+            match_text: raised_by(self.match_text, text, 1, Kind::MatchText),
+            ..self
+        })
+    }
+}
+
+// What the ACLs of this owner weigh, each so many times, where that is within the bound of the kind.
+fn owned(
+    alloc: Global,
+    records: &Records,
+    owner: ObjId,
+    measure: Measure,
+    times: u64,
+    kind: Kind,
+) -> Result<Option<u64>, OutOfMemory>
+    requires limitless { IsSoundButLimits records.now }
+    ensures { IfOk result (λ more. more ≡ up_to (bound kind) (of_owner measure records.now owner times)) }
+{
+    of_owner(
+        alloc,
+        records,
+        owner,
+        measure,
+        times,
+        u64::from(bound(kind)),
+    )
 }
 
 // So many more, each of this amount, where that is known and within the bound of the kind.
@@ -275,6 +323,13 @@ fn raised(most: Option<u64>, more: u64, times: u64, kind: Kind) -> Option<u64>
     ensures { result ≡ raised (bound kind) most more times }
 {
     add_times(most?, more, times, u64::from(bound(kind)))
+}
+
+// The same, where the amount is told.
+fn raised_by(most: Option<u64>, more: Option<u64>, times: u64, kind: Kind) -> Option<u64>
+    ensures { result ≡ raised_by (bound kind) most more times }
+{
+    raised(most, more?, times, kind)
 }
 
 // To how many switches an ACL of this owner applies: a group, or a switch.
@@ -357,8 +412,8 @@ fn without_kind(kind: PortKind, known: Option<u64>) -> Option<u64>
 fn with_addresses(records: &Records, addresses: &[Addr], known: Option<u64>) -> Option<u64>
     ensures { result ≡ with_addresses records.now addresses.now known }
 {
-    let more = ip_counts(addresses, u64::from(bound(Kind::Neighbour)))?;
-    raised(known, more, records.router_ports().count(), Kind::Neighbour)
+    let more = ip_counts(addresses, u64::from(bound(Kind::Neighbour)));
+    raised_by(known, more, records.router_ports().count(), Kind::Neighbour)
 }
 
 // Whether a VIP may have these backends.

@@ -1,5 +1,5 @@
 -- What is known after an edit, by what is known before it.
-use Rattle.std.specs.Prelude.{ℕ, ◌+◌, ◌*◌, ◌&&◌, Bool, true, not, nat_lt, List, length, find, Option, Some, None}
+use Rattle.std.specs.Prelude.{ℕ, ◌+◌, ◌*◌, ◌&&◌, Bool, true, not, nat_lt, min, List, length, find, Option, Some, None}
 use Rattle.expr_core.specs.Formula.{Formula}
 use Rattle.expr_core.specs.Text.{typed_text}
 use Rattle.expr_core.specs.declared.typed.TypedAtom.{TypedAtom}
@@ -15,16 +15,23 @@ use Rattle.nb_records.specs.declared.switch.PortKind.{PortKind}
 use Rattle.nb_records.specs.declared.switch.PortKind.TheVariants as port_kind
 use Rattle.nb_model.specs.Amounts.{bound, total, ip_count}
 use Rattle.nb_model.specs.Belongs.{owner_id, is_to_router, is_name}
-use Rattle.nb_model.specs.Network.{Network, lb_named, lb_id, port_named}
+use Rattle.nb_model.specs.Network.{Network, group_id, lb_named, lb_id, port_named}
 use Rattle.nv_table.specs.Table.{record_of}
+use Rattle.nb_limits.specs.declared.acl_limits.Measure.TheVariants.{Count, Text}
 use Rattle.nb_limits.specs.declared.ceilings.Ceilings.{Ceilings}
 use Rattle.nb_limits.specs.inner.GroupSwitches.{switch_count}
+use Rattle.nb_limits.specs.inner.Weights.{of_owner}
 use Rattle.nb_limits.specs.inner.Within.{up_to}
 
 -- so many more, each of this amount, where that is known and within the bound
 abbrev pub raised : ℕ → Option ℕ → ℕ → ℕ → Option ℕ
 raised bound None more times = None
 raised bound (Some most) more times = up_to bound (most + more * times)
+
+-- so many more for each of these, where they are told
+abbrev pub raised_by : ℕ → Option ℕ → Option ℕ → ℕ → Option ℕ
+raised_by bound most None times = None
+raised_by bound most (Some more) times = raised bound most more times
 
 -- to how many switches an ACL of an owner applies: a group, or a switch
 abbrev pub owner_reach : Network → Option Group → ℕ
@@ -41,6 +48,14 @@ with_acl net known None matching = known
 with_acl net known (Some owner) matching = record known {
   acl_switches = raised (bound kind.AclSwitch) known.acl_switches 1 (reach net owner);
   match_text = raised (bound kind.MatchText) known.match_text (length (typed_text matching)) (reach net owner);
+}
+
+-- once the group of this number, if there is one, has other ports, which are on at most so many switches: each of its ACLs applies to at most so many more
+abbrev pub with_ports : Network → Ceilings → Option ObjId → ℕ → Ceilings
+with_ports net known None most = known
+with_ports net known (Some group) most = record known {
+  acl_switches = raised_by (bound kind.AclSwitch) known.acl_switches (up_to (bound kind.AclSwitch) (of_owner Count net group most)) 1;
+  match_text = raised_by (bound kind.MatchText) known.match_text (up_to (bound kind.MatchText) (of_owner Text net group most)) 1;
 }
 
 -- a load balancer may have one VIP more
@@ -82,11 +97,6 @@ abbrev pub without_port : Option Port → Option ℕ → Option ℕ
 without_port None most = most
 without_port (Some port) most = without_kind port.kind most
 
--- so many more for each of these, where they are told
-abbrev pub raised_by : ℕ → Option ℕ → Option ℕ → ℕ → Option ℕ
-raised_by bound most None times = None
-raised_by bound most (Some more) times = raised bound most more times
-
 -- of neighbours, once a port has these addresses: each router port knows no more than all of them besides
 abbrev pub with_addresses : Network → List Addr → Option ℕ → Option ℕ
 with_addresses net list most = raised_by (bound kind.Neighbour) most (up_to (bound kind.Neighbour) (total ip_count list)) (length net.router_ports)
@@ -98,7 +108,7 @@ uncounted known = record known { neighbours = None }
 -- what is known after an edit
 abbrev pub known_after : Network → Ceilings → Edit → Ceilings
 known_after net known (edit.AclAdd name way priority matching verdict may of) = with_acl net known (owner_id net of name) matching
-known_after net known (edit.PgSetPorts name ports) = record known { acl_switches = None; match_text = None }
+known_after net known (edit.PgSetPorts name ports) = with_ports net known (group_id net name) (min (length ports) (length net.switches))
 known_after net known (edit.LbAdd name at backends proto) =
     record known {
       vips_fit = has_vip_room (lb_named net name);

@@ -1,6 +1,7 @@
 -- What an ACL counts for.
 use Rattle.std.specs.Prelude.{ℕ, ◌*◌, length, filter, Option, Some, None}
 use Rattle.expr_core.specs.Text.{typed_text}
+use Rattle.nv_base.specs.declared.object.ObjId.{ObjId}
 use Rattle.nb_records.specs.declared.acl.Acl.{Acl}
 use Rattle.nb_records.specs.declared.sets.Group.{Group}
 use Rattle.nb_model.specs.Amounts.{total}
@@ -33,9 +34,13 @@ on_switch measure net acl = weight measure acl * found_count (record_of (λ swit
 abbrev pub on_switches : Measure → Network → ℕ
 on_switches measure net = total (on_switch measure net) net.acls
 
+-- the weight of the ACLs of an owner, each so many times
+abbrev pub of_owner : Measure → Network → ObjId → ℕ → ℕ
+of_owner measure net owner times = total (λ acl. weight measure acl * times) (filter (λ acl. same owner acl.owner) net.acls)
+
 -- the weight of the ACLs that a group owns, each once for each switch of the group
 abbrev pub on_group : Measure → Network → Group → ℕ
-on_group measure net group = total (λ acl. weight measure acl * switch_count net group) (filter (λ acl. same group.id acl.owner) net.acls)
+on_group measure net group = of_owner measure net group.id (switch_count net group)
 
 -- that of the ACLs that groups own
 abbrev pub on_groups : Measure → Network → ℕ

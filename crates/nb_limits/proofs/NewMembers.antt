@@ -1,0 +1,251 @@
+-- By how much other ports of a group raise the amounts of ACLs.
+use Rattle.std.proofs.Common.{◌≡◌, ℕ, ◌+◌, ◌*◌, ◌≤◌, min, ⊎_elim, Bool, true, false, cond, not, ◌&&◌, ◌||◌, List, [], ◌∷◌, Option, Some, None, arith, refl, sym, ap, ◌∙◌, subst, length}
+use Rattle.std.proofs.lemmas.Bool.{false≢true, or_cases, or_left, or_right}
+use Rattle.std.proofs.lemmas.Nat.{mul-le}
+use Rattle.std.proofs.Math.Nat.{le-min}
+use Rattle.std.specs.Prelude.{IsTrue, filter, find}
+use Rattle.std.specs.List.{list_any, filter_map, cons_option, AllByRecursion}
+use Rattle.std.specs.Str.{bytes_eq}
+use Rattle.nv_base.specs.declared.object.ObjId.{ObjId}
+use Rattle.nb_records.specs.declared.acl.Acl.{Acl}
+use Rattle.nb_records.specs.declared.refusal.Kind.TheVariants as kind
+use Rattle.nb_records.specs.declared.sets.Group.{Group}
+use Rattle.nb_records.specs.declared.switch.Port.{Port}
+use Rattle.nb_records.specs.declared.switch.Switch.{Switch}
+use Rattle.nb_model.specs.Amounts.{amount, total}
+use Rattle.nb_model.specs.Applies.{switches_of_acl}
+use Rattle.nb_model.specs.Belongs.{is_among, once}
+use Rattle.nb_model.specs.Effect.{each_where, named_port_ids}
+use Rattle.nb_model.specs.Network.{Network, port_id, same}
+use Rattle.nb_model.proofs.Alike.{same_sym}
+use Rattle.nb_model.proofs.AnyOf.{all_true}
+use Rattle.nb_model.proofs.RisesApplies.{applies, has_port}
+use Rattle.nb_model.proofs.Totals.{le_self, le_trans, length_fewer, length_kept, sums, total_le}
+use Rattle.nb_store.proofs.PlacedRecords.{rises}
+use Rattle.nv_table.specs.Table.{record_of}
+use Rattle.nb_limits.specs.Limitless.{IsSoundButLimits}
+use Rattle.nb_limits.specs.inner.Weights.{weight, acl_weight, of_owner}
+use Rattle.nb_limits.specs.declared.acl_limits.Measure.{Measure}
+use Rattle.nb_limits.specs.declared.acl_limits.Measure.TheVariants.{Count, Text}
+use Rattle.nb_limits.proofs.AclSums.{count_weight}
+use Rattle.nb_limits.proofs.Counted.{any_or, any_same, any_of_number, found_list, holds_of, none_kept, of_number}
+use Rattle.nb_limits.proofs.Noted.{none_there}
+use Rattle.nb_limits.proofs.Rest.{same_kept}
+use Rattle.nb_limits.proofs.Swapped.{total_filter, total_plus}
+
+-- The ports of a list of names are no more than the names.
+
+once_fewer : (numbers : List ObjId) → length (once numbers) ≤ length numbers
+once_fewer [] = le_self 0
+once_fewer (n ∷ numbers) = one_more (filter (λ other. not (same n other)) (once numbers)) (once numbers) (length_kept (λ other. not (same n other)) (once numbers)) (once_fewer numbers)
+  where
+    one_more : (kept all : List ObjId) → length kept ≤ length all → length all ≤ length numbers → length (n ∷ kept) ≤ length (n ∷ numbers)
+    one_more kept all low high = omega (arith, low, high)
+
+found_fewer : {X Y : Type 0} (look : X → Option Y) (xs : List X) → length (filter_map look xs) ≤ length xs
+found_fewer look [] = le_self 0
+found_fewer {X} {Y} look (x ∷ xs) = by (look x) (found_fewer look xs)
+  where
+    by : (one : Option Y) → length (filter_map look xs) ≤ length xs → length (cons_option one (filter_map look xs)) ≤ length (x ∷ xs)
+    by None low = omega (arith, low)
+    by (Some y) low = omega (arith, low)
+
+named_fewer : (net : Network) (names : List (List ℕ)) → length (named_port_ids net names) ≤ length names
+named_fewer net names =
+    le_trans (length (named_port_ids net names)) (length (filter_map (port_id net) names)) (length names)
+    (once_fewer (filter_map (port_id net) names)) (found_fewer (port_id net) names)
+
+-- Ports are on no more switches than there are of them.
+
+-- what passes one of two tests is no more than what passes either
+either_length : {X : Type 0} (p q : X → Bool) (xs : List X) → length (filter (λ x. p x || q x) xs) ≤ length (filter p xs) + length (filter q xs)
+either_length p q [] = le_self 0
+either_length {X} p q (x ∷ xs) = by (p x) (q x) (filter (λ y. p y || q y) xs) (filter p xs) (filter q xs) (either_length p q xs)
+  where
+    by : (c d : Bool) (some ones others : List X) → length some ≤ length ones + length others → length (cond (c || d) (x ∷ some) some) ≤ length (cond c (x ∷ ones) ones) + length (cond d (x ∷ others) others)
+    by true true some ones others low = omega (arith, low)
+    by true false some ones others low = omega (arith, low)
+    by false true some ones others low = omega (arith, low)
+    by false false some ones others low = low
+
+module _ (net : Network) (limitless : IsSoundButLimits net) where
+  -- the switches of one port
+  one_switch : (found : Option Port) → length (filter (λ (s : Switch). holds_of (λ (port : Port). same port.switch s.id) found) net.switches) ≤ 1
+  one_switch None = subst (λ n. n ≤ 1) (sym (none_kept net.switches)) (omega arith)
+  one_switch (Some port) =
+      subst (λ (l : List Switch). length l ≤ 1)
+      (sym (same_kept (λ (s : Switch). same port.switch s.id) (λ s. same s.id port.switch) net.switches (λ s. same_sym port.switch s.id)
+      ∙ of_number (λ (s : Switch). s.id) port.switch net.switches (rises (λ (s : Switch). s.id) net.switches limitless.numbered.order.switches)))
+      (alone (record_of (λ (s : Switch). s.id) port.switch net.switches))
+    where
+      alone : (found : Option Switch) → length (found_list (λ (s : Switch). s.id) port.switch found) ≤ 1
+      alone None = omega arith
+      alone (Some s) = omega arith
+
+  few_switches : (numbers : List ObjId) → length (filter (λ (s : Switch). has_port net.ports s.id numbers) net.switches) ≤ length numbers
+  few_switches [] =
+      subst (λ n. n ≤ 0) (sym (ap length (same_kept (λ (s : Switch). has_port net.ports s.id []) (λ s. false) net.switches (λ s. sym (none_there s.id net.ports))) ∙ none_kept net.switches)) (le_self 0)
+  few_switches (n ∷ numbers) =
+      subst (λ (l : List Switch). length l ≤ length (n ∷ numbers)) (sym (same_kept (λ (s : Switch). has_port net.ports s.id (n ∷ numbers)) (λ s. first s.id || has_port net.ports s.id numbers) net.switches (λ s. parts s.id)))
+      (grown (length (filter (λ (s : Switch). first s.id || has_port net.ports s.id numbers) net.switches)) (length (filter (λ (s : Switch). first s.id) net.switches)) (length (filter (λ (s : Switch). has_port net.ports s.id numbers) net.switches))
+      (either_length (λ (s : Switch). first s.id) (λ s. has_port net.ports s.id numbers) net.switches) (one_switch (record_of (λ (port : Port). port.id) n net.ports)) (few_switches numbers))
+    where
+      -- the first port is on this switch
+      first : ObjId → Bool
+      first switch = holds_of (λ (port : Port). same port.switch switch) (record_of (λ (port : Port). port.id) n net.ports)
+
+      spread : (a b c : Bool) → (a && (b || c)) ≡ ((b && a) || (a && c))
+      spread true true c = refl
+      spread true false c = refl
+      spread false true c = refl
+      spread false false c = refl
+
+      parts : (switch : ObjId) → has_port net.ports switch (n ∷ numbers) ≡ (first switch || has_port net.ports switch numbers)
+      parts switch =
+          any_same (λ (port : Port). same port.switch switch && is_among port.id (n ∷ numbers)) (λ port. (same port.id n && same port.switch switch) || (same port.switch switch && is_among port.id numbers)) net.ports
+          (λ port. spread (same port.switch switch) (same port.id n) (is_among port.id numbers))
+          ∙ any_or (λ (port : Port). same port.id n && same port.switch switch) (λ port. same port.switch switch && is_among port.id numbers) net.ports
+          ∙ ap (λ b. b || has_port net.ports switch numbers)
+          (any_of_number (λ (port : Port). port.id) n (λ port. same port.switch switch) net.ports (rises (λ (port : Port). port.id) net.ports limitless.numbered.order.ports))
+
+      grown : (all one more : ℕ) → all ≤ one + more → one ≤ 1 → more ≤ length numbers → all ≤ length (n ∷ numbers)
+      grown all one more low first rest = omega (arith, low, first, rest)
+
+  -- those of a list of names are on no more switches than there are names, and than there are at all
+  pub named_on : (names : List (List ℕ)) → length (filter (λ (s : Switch). has_port net.ports s.id (named_port_ids net names)) net.switches) ≤ min (length names) (length net.switches)
+  named_on names =
+      le-min
+      (le_trans (length (filter on net.switches)) (length (named_port_ids net names)) (length names) (few_switches (named_port_ids net names)) (named_fewer net names))
+      (length_kept on net.switches)
+    where
+      on : Switch → Bool
+      on s = has_port net.ports s.id (named_port_ids net names)
+
+-- Where a group has other ports, an ACL of it applies to their switches besides, and another to none more.
+
+abbrev pub with_members : List ObjId → Group → Group
+with_members members group = record group { ports = members }
+
+-- none changes where none is found
+pub none_changed : {X : Type 0} (holds : X → Bool) (change : X → X) (xs : List X) → find holds xs ≡ None → each_where holds change xs ≡ xs
+none_changed holds change [] none = refl
+none_changed {X} holds change (x ∷ xs) none = by (holds x) none (none_changed holds change xs)
+  where
+    by : (here : Bool) → cond here (Some x) (find holds xs) ≡ None → (find holds xs ≡ None → each_where holds change xs ≡ xs) → (cond here (change x) x ∷ each_where holds change xs) ≡ x ∷ xs
+    by true is more = absurd (cc)
+    by false is more = ap (λ (ys : List X). x ∷ ys) (more is)
+
+-- an owner has a port on a switch then only where it had one, or is the group and one of its new ports is there
+owner_after : (has : List ObjId → Bool) (owner : ObjId) (named : Group → Bool) (members : List ObjId) (own : Group) (groups : List Group) → AllByRecursion (λ (g : Group). IsTrue (named g) → g ≡ own) groups
+    → IsTrue (list_any (λ g. same g.id owner && has g.ports) (each_where named (with_members members) groups))
+    → IsTrue (list_any (λ g. same g.id owner && has g.ports) groups || (same own.id owner && has members))
+owner_after has owner named members own [] only there = absurd (false≢true there)
+owner_after has owner named members own (g ∷ groups) only there = by (named g) only.0 there (owner_after has owner named members own groups only.1)
+  where
+    before : Bool
+    before = list_any (λ (x : Group). same x.id owner && has x.ports) groups
+
+    after : Bool
+    after = list_any (λ (x : Group). same x.id owner && has x.ports) (each_where named (with_members members) groups)
+
+    new : Bool
+    new = same own.id owner && has members
+
+    here : (a b c : Bool) → IsTrue c → IsTrue ((a || b) || c)
+    here true b c is = refl
+    here false true c is = refl
+    here false false c is = is
+
+    old : (a b c : Bool) → IsTrue a → IsTrue ((a || b) || c)
+    old true b c is = refl
+    old false b c is = absurd (false≢true is)
+
+    later : (a b c : Bool) → IsTrue (b || c) → IsTrue ((a || b) || c)
+    later true b c is = refl
+    later false b c is = is
+
+    by : (is : Bool) → (IsTrue is → g ≡ own) → IsTrue ((same (cond is (with_members members g) g).id owner && has (cond is (with_members members g) g).ports) || after)
+        → (IsTrue after → IsTrue (before || new)) → IsTrue (((same g.id owner && has g.ports) || before) || new)
+    by true is there more =
+        ⊎_elim (λ first. here (same g.id owner && has g.ports) before new (subst (λ (x : Group). IsTrue (same x.id owner && has members)) (is refl) first))
+        (λ rest. later (same g.id owner && has g.ports) before new (more rest)) (or_cases (same g.id owner && has members) after there)
+    by false is there more =
+        ⊎_elim (λ first. old (same g.id owner && has g.ports) before new first)
+        (λ rest. later (same g.id owner && has g.ports) before new (more rest)) (or_cases (same g.id owner && has g.ports) after there)
+
+-- a sum in which some are raised by at most so much
+raised_sum : {X : Type 0} (w f g : X → ℕ) (q : X → Bool) (more : ℕ) → ((x : X) → f x ≤ g x + cond (q x) more 0) → (xs : List X)
+    → total (λ x. w x * f x) xs ≤ total (λ x. w x * g x) xs + total (λ x. w x * more) (filter q xs)
+raised_sum {X} w f g q more less xs =
+    subst (λ n. total (λ x. w x * f x) xs ≤ n)
+    (total_plus (λ x. w x * g x) (λ x. cond (q x) (w x * more) 0) xs ∙ ap (λ n. total (λ x. w x * g x) xs + n) (sym (total_filter (λ x. w x * more) q xs)))
+    (total_le (λ x. w x * f x) (λ x. w x * g x + cond (q x) (w x * more) 0) (λ x. true) xs (all_true xs) (λ x is. each x (q x) (less x)))
+  where
+    both : (w f g m : ℕ) → f ≤ g + m → w * f ≤ w * g + w * m
+    both w f g m low = subst (λ n. w * f ≤ n) (spread w g m) (mul-le w f w (g + m) (le_self w) low)
+      where
+        spread : (w g m : ℕ) → w * (g + m) ≡ w * g + w * m
+        spread w g m = grind arith
+
+    none : (w f g : ℕ) → f ≤ g + 0 → w * f ≤ w * g + 0
+    none w f g low = subst (λ n. w * f ≤ n) (plus_none (w * g)) (mul-le w f w g (le_self w) (omega (arith, low)))
+      where
+        plus_none : (n : ℕ) → n ≡ n + 0
+        plus_none n = omega arith
+
+    each : (x : X) (is : Bool) → f x ≤ g x + cond is more 0 → w x * f x ≤ w x * g x + cond is (w x * more) 0
+    each x true low = both (w x) (f x) (g x) more low
+    each x false low = none (w x) (f x) (g x) low
+
+module _ (net : Network) (limitless : IsSoundButLimits net) (name : List ℕ) (own : Group)
+    (only : AllByRecursion (λ (g : Group). IsTrue (bytes_eq g.name name) → g ≡ own) net.groups) (members : List ObjId) (most : ℕ)
+    (few : length (filter (λ (s : Switch). has_port net.ports s.id members) net.switches) ≤ most) where
+  abbrev changed : Network
+  changed = record net { groups = each_where (λ group. bytes_eq group.name name) (with_members members) net.groups }
+
+  -- where an ACL of an owner applies then
+  owned_after : (owner switch : ObjId) → IsTrue (applies net.ports changed.groups owner switch)
+      → IsTrue (applies net.ports net.groups owner switch || (same own.id owner && has_port net.ports switch members))
+  owned_after owner switch there =
+      by (same switch owner) (list_any (λ (g : Group). same g.id owner && has_port net.ports switch g.ports) net.groups) (same own.id owner && has_port net.ports switch members)
+      (⊎_elim (λ is. or_left (same switch owner) _ is) (λ is. or_right (same switch owner) _ (owner_after (has_port net.ports switch) owner (λ group. bytes_eq group.name name) members own net.groups only is))
+      (or_cases (same switch owner) (list_any (λ (g : Group). same g.id owner && has_port net.ports switch g.ports) changed.groups) there))
+    where
+      by : (a b c : Bool) → IsTrue (a || (b || c)) → IsTrue ((a || b) || c)
+      by true b c is = refl
+      by false b c is = is
+
+  switches_after : (acl : Acl) → length (switches_of_acl changed acl) ≤ length (switches_of_acl net acl) + cond (same own.id acl.owner) most 0
+  switches_after acl =
+      le_trans (length (switches_of_acl changed acl)) (length (switches_of_acl net acl) + length (filter (λ (s : Switch). new s.id) net.switches)) (length (switches_of_acl net acl) + cond (same own.id acl.owner) most 0)
+      (le_trans (length (switches_of_acl changed acl)) (length (filter (λ (s : Switch). old s.id || new s.id) net.switches)) (length (switches_of_acl net acl) + length (filter (λ (s : Switch). new s.id) net.switches))
+      (length_fewer (λ (s : Switch). applies net.ports changed.groups acl.owner s.id) (λ s. old s.id || new s.id) net.switches (λ s. owned_after acl.owner s.id))
+      (either_length (λ (s : Switch). old s.id) (λ s. new s.id) net.switches))
+      (sums (length (switches_of_acl net acl)) (length (filter (λ (s : Switch). new s.id) net.switches)) (length (switches_of_acl net acl)) (cond (same own.id acl.owner) most 0) (le_self (length (switches_of_acl net acl)))
+      (by (same own.id acl.owner)))
+    where
+      old : ObjId → Bool
+      old switch = applies net.ports net.groups acl.owner switch
+
+      new : ObjId → Bool
+      new switch = same own.id acl.owner && has_port net.ports switch members
+
+      by : (is : Bool) → length (filter (λ (s : Switch). is && has_port net.ports s.id members) net.switches) ≤ cond is most 0
+      by true = few
+      by false = subst (λ n. n ≤ 0) (sym (none_kept net.switches)) (le_self 0)
+
+  weight_after : (measure : Measure) → acl_weight measure changed ≤ acl_weight measure net + of_owner measure net own.id most
+  weight_after measure = raised_sum (weight measure) (λ acl. length (switches_of_acl changed acl)) (λ acl. length (switches_of_acl net acl)) (λ acl. same own.id acl.owner) most switches_after net.acls
+
+  pub set_switches : amount changed kind.AclSwitch ≤ amount net kind.AclSwitch + of_owner Count net own.id most * 1
+  set_switches =
+      once_more (amount changed kind.AclSwitch) (acl_weight Count changed) (acl_weight Count net) (amount net kind.AclSwitch) (of_owner Count net own.id most) (sym (count_weight changed)) (count_weight net) (weight_after Count)
+    where
+      once_more : (a b c d n : ℕ) → a ≡ b → c ≡ d → b ≤ c + n → a ≤ d + n * 1
+      once_more a b c d n e f low = omega (arith, e, f, low)
+
+  pub set_text : amount changed kind.MatchText ≤ amount net kind.MatchText + of_owner Text net own.id most * 1
+  set_text = once_more (amount changed kind.MatchText) (amount net kind.MatchText) (of_owner Text net own.id most) (weight_after Text)
+    where
+      once_more : (a d n : ℕ) → a ≤ d + n → a ≤ d + n * 1
+      once_more a d n low = omega (arith, low)

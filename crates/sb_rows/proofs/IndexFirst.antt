@@ -1,5 +1,6 @@
 -- The first of the rows that take a packet, by their places.
 use Rattle.std.proofs.Common.{◌≡◌, ℕ, zero, suc, ◌+◌, ◌<◌, ◌≤◌, Bool, true, false, get_or, ltb, List, [], ◌∷◌, Contains, length, ap, sym, subst, refl, ◌∙◌, ◌⊎◌, inl, inr, arith}
+use Rattle.std.specs.Borrow.{Bor}
 use Rattle.std.specs.Prelude.{Option, None, Some}
 use Rattle.std.specs.BTreeMap.{BTreeMap, get}
 use Rattle.std.specs.List.{find}
@@ -18,8 +19,8 @@ use Rattle.expr_eval.specs.MatchMeaning.{holds}
 use Rattle.pkt_core.specs.Packet.{Values}
 use Rattle.sb_model.specs.declared.row.Row.{Row}
 use Rattle.sb_rows.specs.declared.asks.Asks.{Asks}
-use Rattle.sb_rows.specs.declared.asks.Shape.{Shape}
 use Rattle.sb_rows.specs.declared.index.Index.{Index}
+use Rattle.sb_rows.specs.declared.index.Shaped.{Shaped}
 use Rattle.sb_rows.specs.inner.Asks.{HasAsked, bucket_of, shape_of}
 use Rattle.sb_rows.specs.inner.Index.{Covers, IsIn, IsNoBetter, IsTaker, IsTried}
 use Rattle.sb_rows.specs.inner.Store.{NumbersRise, rows_of_places}
@@ -33,7 +34,7 @@ pub row_looked_up : (rows : BTreeMap ℕ Row) (place : ℕ) (row : Row) → Numb
 row_looked_up rows place row rise there = (btree_map_get_iff nat_cmp_total exact_unsigned rows rise place row).1 there
 
 -- a place is tried whose row does not take the packet
-pub tried_in_vain : (rows : BTreeMap ℕ Row) (net : Lookup) (packet : Values) (best : Option ℕ) (place : ℕ) (row : Row) → NumbersRise rows.entries → get nat_cmp rows place ≡ Some row
+pub tried_in_vain : (rows : BTreeMap ℕ Row) (net : Lookup) (packet : Values) (best : Option (ℕ × Bor Row)) (place : ℕ) (row : Row) → NumbersRise rows.entries → get nat_cmp rows place ≡ Some row
     → holds net packet row.matching ≡ false → IsTried net packet rows.entries best place
 tried_in_vain rows net packet best place row rise found fails other there takes =
     let same : Some row ≡ Some other = sym found ∙ row_looked_up rows place other rise there in
@@ -41,7 +42,7 @@ tried_in_vain rows net packet best place row rise found fails other there takes 
     let wrong : true ≡ false = sym takes ∙ ap (λ (r : Row). holds net packet r.matching) (sym is) ∙ fails in absurd (cc)
 
 -- a place that has no row is tried
-pub tried_in_none : (rows : BTreeMap ℕ Row) (net : Lookup) (packet : Values) (best : Option ℕ) (place : ℕ) → NumbersRise rows.entries → get nat_cmp rows place ≡ None
+pub tried_in_none : (rows : BTreeMap ℕ Row) (net : Lookup) (packet : Values) (best : Option (ℕ × Bor Row)) (place : ℕ) → NumbersRise rows.entries → get nat_cmp rows place ≡ None
     → IsTried net packet rows.entries best place
 tried_in_none rows net packet best place rise none other there takes =
     let wrong : None ≡ Some other = sym none ∙ row_looked_up rows place other rise there in absurd (cc)
@@ -106,45 +107,49 @@ module _ (net : Lookup) (packet : Values) where
 -- ---- the buckets of the shapes, so far
 
 -- the places are tried in the buckets that the packet is in of the shapes so far
-abbrev pub AreTried : Lookup → Values → List (ℕ × Row) → Index → Option ℕ → ℕ → Type 0
+abbrev pub AreTried : Lookup → Values → List (ℕ × Row) → Index → Option (ℕ × Bor Row) → ℕ → Type 0
 AreTried net packet rows index best at =
-    (k : ℕ) (e : Shape) (asks : Asks) (place : ℕ) → k < at → shape_of asks ≡ get_or index.shapes.items k e → HasAsked asks net packet → IsIn index (bucket_of asks) place → IsTried net packet rows best place
+    (k from : ℕ) (e : Shaped) (asks : Asks) (place : ℕ) → k < at → record { shape = shape_of asks; from = from } ≡ get_or index.shapes.items k e → from ≤ place → HasAsked asks net packet
+    → IsIn index (bucket_of asks) place → IsTried net packet rows best place
 
 -- so they are with one more shape
-pub shape_next : (net : Lookup) (packet : Values) (rows : List (ℕ × Row)) (index : Index) (at : ℕ) (best new : Option ℕ) (items : List Shape) (s : Shape) → items ≡ index.shapes.items → at < length items
+pub shape_next : (net : Lookup) (packet : Values) (rows : List (ℕ × Row)) (index : Index) (at : ℕ) (best new : Option (ℕ × Bor Row)) (items : List Shaped) (s : Shaped) → items ≡ index.shapes.items → at < length items
     → ((place : ℕ) → IsNoBetter best place → IsNoBetter new place)
-    → ((asks : Asks) (place : ℕ) → shape_of asks ≡ get_or items at s → HasAsked asks net packet → IsIn index (bucket_of asks) place → IsTried net packet rows new place)
+    → ((asks : Asks) (place : ℕ) → shape_of asks ≡ (get_or items at s).shape → (get_or items at s).from ≤ place → HasAsked asks net packet → IsIn index (bucket_of asks) place → IsTried net packet rows new place)
     → AreTried net packet rows index best at → AreTried net packet rows index new (at + 1)
-shape_next net packet rows index at best new items s is within kept here so_far k e asks place lt shaped has there row among takes = by (ltb k at) refl
+shape_next net packet rows index at best new items s is within kept here so_far k from e asks place lt shaped low has there row among takes = by (ltb k at) refl
   where
     by : (b : Bool) → ltb k at ≡ b → IsNoBetter new place
-    by true earlier = kept place (so_far k e asks place (ltb-true k at earlier) shaped has there row among takes)
+    by true earlier = kept place (so_far k from e asks place (ltb-true k at earlier) shaped low has there row among takes)
     by false not =
         let at_k : k ≡ at = omega (arith, ltb-false k at not, lt) in
-        let same : shape_of asks ≡ get_or items at s = shaped ∙ ap (λ l. get_or l k e) (sym is) ∙ ap (λ n. get_or items n e) at_k ∙ get_or_default items at e s within in
-        here asks place same has there row among takes
+        let same : record { shape = shape_of asks; from = from } ≡ get_or items at s = shaped ∙ ap (λ l. get_or l k e) (sym is) ∙ ap (λ n. get_or items n e) at_k ∙ get_or_default items at e s within in
+        here asks place (ap (λ (x : Shaped). x.shape) same) (subst (λ (n : ℕ). n ≤ place) (ap (λ (x : Shaped). x.from) same) low) has there row among takes
+
+-- places from one on that is no better are no better
+pub no_better_from : (best : Option (ℕ × Bor Row)) (from place : ℕ) → from ≤ place → IsNoBetter best from → IsNoBetter best place
+no_better_from None from place le none = none
+no_better_from (Some b) from place le after = omega arith
 
 -- with all shapes each place is, of rows that are covered
-pub each_tried : (net : Lookup) (packet : Values) (rows : List (ℕ × Row)) (index : Index) (best : Option ℕ) (at : ℕ) → Covers index rows → length index.shapes.items ≤ at → AreTried net packet rows index best at
+pub each_tried : (net : Lookup) (packet : Values) (rows : List (ℕ × Row)) (index : Index) (best : Option (ℕ × Bor Row)) (at : ℕ) → Covers index rows → length index.shapes.items ≤ at → AreTried net packet rows index best at
     → (place : ℕ) → IsTried net packet rows best place
 each_tried net packet rows index best at covers all so_far place row there takes =
     let it = covers place row there net packet takes in
-    let shaped = it.1.1.shaped in
-    so_far shaped.0 (shape_of it.0) it.0 place (omega (arith, shaped.1, all)) (sym shaped.2) it.1.0 it.1.1.there row there takes
+    let has = it.1.1.shaped in
+    let among = has.1.0 in
+    so_far among.0 has.0 (record { shape = shape_of it.0; from = has.0 }) it.0 place (omega (arith, among.1, all)) (sym among.2) has.1.1 it.1.0 it.1.1.there row there takes
 
 -- ---- what the best place is at the end
 
--- the row at it is the first that takes the packet
-pub first_is : (net : Lookup) (packet : Values) (rows : BTreeMap ℕ Row) (best : Option ℕ) (at : ℕ) (found : Option Row) → NumbersRise rows.entries → best ≡ Some at → get nat_cmp rows at ≡ found
-    → IsTaker net packet rows.entries best → ((place : ℕ) → IsTried net packet rows.entries best place) → found ≡ find (λ r. holds net packet r.matching) (rows_of_places rows.entries)
-first_is net packet rows best at found rise is looked taker tried = by (subst (λ (b : Option ℕ). IsTaker net packet rows.entries b) is taker)
-  where
-    by : IsTaker net packet rows.entries (Some at) → found ≡ find (λ r. holds net packet r.matching) (rows_of_places rows.entries)
-    by (row, (there, takes)) =
-        sym looked ∙ row_looked_up rows at row rise there
-        ∙ sym (first_found net packet rows.entries at row rise there takes (subst (λ (b : Option ℕ). (place : ℕ) → IsTried net packet rows.entries b place) is tried))
+-- it is the first that takes the packet
+pub first_is : (net : Lookup) (packet : Values) (rows : List (ℕ × Row)) (best : Option (ℕ × Bor Row)) (found : ℕ × Bor Row) → NumbersRise rows → best ≡ Some found
+    → IsTaker net packet rows best → ((place : ℕ) → IsTried net packet rows best place) → Some found.1.now ≡ find (λ r. holds net packet r.matching) (rows_of_places rows)
+first_is net packet rows best found rise is taker tried =
+    let takes = subst (λ (b : Option (ℕ × Bor Row)). IsTaker net packet rows b) is taker in
+    sym (first_found net packet rows found.0 found.1.now rise takes.0 takes.1 (subst (λ (b : Option (ℕ × Bor Row)). (place : ℕ) → IsTried net packet rows b place) is tried))
 
 -- where there is none, no row takes the packet
-pub none_is : (net : Lookup) (packet : Values) (rows : List (ℕ × Row)) (best : Option ℕ) → best ≡ None → ((place : ℕ) → IsTried net packet rows best place)
+pub none_is : (net : Lookup) (packet : Values) (rows : List (ℕ × Row)) (best : Option (ℕ × Bor Row)) → best ≡ None → ((place : ℕ) → IsTried net packet rows best place)
     → None ≡ find (λ r. holds net packet r.matching) (rows_of_places rows)
-none_is net packet rows best is tried = sym (none_found net packet rows (subst (λ (b : Option ℕ). (place : ℕ) → IsTried net packet rows b place) is tried))
+none_is net packet rows best is tried = sym (none_found net packet rows (subst (λ (b : Option (ℕ × Bor Row)). (place : ℕ) → IsTried net packet rows b place) is tried))

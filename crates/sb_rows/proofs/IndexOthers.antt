@@ -1,5 +1,6 @@
 -- The other places of a bucket, in their order.
 use Rattle.std.proofs.Common.{◌≡◌, ℕ, zero, ◌<◌, ◌≤◌, Bool, true, false, List, [], ◌∷◌, ◌++◌, Contains, ap, sym, subst, refl, ◌∙◌, ◌⊎◌, inl, inr, arith}
+use Rattle.std.specs.Borrow.{Bor}
 use Rattle.std.specs.Prelude.{Option, None, Some}
 use Rattle.std.specs.BTreeMap.Range.{range_contains}
 use Rattle.std.specs.List.{filter}
@@ -13,12 +14,14 @@ use Rattle.std.proofs.lemmas.List.Elements.{All-contains, Contains-append_cases,
 use Rattle.std.proofs.lemmas.List.Kept.{IsStrictlySortedBy-filter}
 use Rattle.std.proofs.lemmas.Map.Keys.{sorted_tail}
 use Rattle.std.proofs.lemmas.Map.Views.{All-after_first, IsInRange-from_range_contains, range_contains-from_IsInRange}
+use Rattle.sb_model.specs.declared.row.Row.{Row}
 use Rattle.sb_rows.specs.inner.Index.{IsNoBetter}
-use Rattle.sb_rows.proofs.Covered.{pair_cmp, pairs_total}
+use Rattle.sb_rows.specs.inner.Filled.{pair_cmp}
+use Rattle.sb_rows.proofs.InOrder.{pairs_total}
 use Rattle.sb_rows.proofs.IndexFirst.{first_or_later, later}
 
 -- what passes a test is among what a filter keeps
-among_kept : {X : Type 0} (test : X → Bool) (xs : List X) (x : X) → test x ≡ true → Contains xs x → Contains (filter test xs) x
+pub among_kept : {X : Type 0} (test : X → Bool) (xs : List X) (x : X) → test x ≡ true → Contains xs x → Contains (filter test xs) x
 among_kept test [] x passes there = there
 among_kept {X} test (e ∷ es) x passes there = by (test e) refl (among_kept test es x passes)
   where
@@ -93,7 +96,7 @@ so_far_or_not_before keys seen rest x y rise split there =
     by (inr after) = inr (not_before (first_or_later x y rest after))
 
 -- what is not before a place that is no better is none either
-no_better_up : (best : Option ℕ) (p q : ℕ) → p ≤ q → IsNoBetter best p → IsNoBetter best q
+no_better_up : (best : Option (ℕ × Bor Row)) (p q : ℕ) → p ≤ q → IsNoBetter best p → IsNoBetter best q
 no_better_up None p q le none = none
 no_better_up (Some b) p q le after = omega arith
 
@@ -102,7 +105,7 @@ abbrev pub keys_from : ℕ → List (ℕ × ℕ) → List (ℕ × ℕ)
 keys_from bucket keys = filter (range_contains pair_cmp (Included (bucket, 0)) Unbounded) keys
 
 -- a place of the bucket is among those so far, or no better where the key at hand is of another bucket or no better
-pub seen_or_no_better : (keys all seen rest : List (ℕ × ℕ)) (x : ℕ × ℕ) (bucket p : ℕ) (best : Option ℕ) → IsStrictlySortedBy pair_cmp keys → all ≡ keys_from bucket keys → all ≡ seen ++ (x ∷ rest)
+pub seen_or_no_better : (keys all seen rest : List (ℕ × ℕ)) (x : ℕ × ℕ) (bucket p : ℕ) (best : Option (ℕ × Bor Row)) → IsStrictlySortedBy pair_cmp keys → all ≡ keys_from bucket keys → all ≡ seen ++ (x ∷ rest)
     → (x.0 ≡ bucket → IsNoBetter best x.1) → Contains keys (bucket, p) → Contains seen (bucket, p) ⊎ IsNoBetter best p
 seen_or_no_better keys all seen rest x bucket p best rise from split ends there =
     by (so_far_or_not_before (keys_from bucket keys) seen rest x (bucket, p) (IsStrictlySortedBy-filter pair_cmp (range_contains pair_cmp (Included (bucket, 0)) Unbounded) keys rise) parts (among_from keys bucket p there))

@@ -7,11 +7,13 @@ pub mod Asked
 pub mod Covered
 pub mod Distinct
 pub mod Flat
+pub mod InOrder
 pub mod IndexFirst
 pub mod IndexOthers
 pub mod KeysFirst
 pub mod Made
 pub mod Members
+pub mod OfDatapath
 pub mod Order
 pub mod Place
 pub mod PlacedAll
@@ -26,3 +28,4 @@ pub mod Tables
 pub mod Tail
 pub mod Taken
 pub mod Texts
+pub mod ToldRows

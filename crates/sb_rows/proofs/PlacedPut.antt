@@ -196,8 +196,8 @@ module _ (old new : BTreeMap ℕ Row) (place : ℕ) (row : Row) (at : Contains o
   }
 
   -- what covered them all still covers the others
-  pub covers_struck : (was is : Index) → Covers was old.entries → ((r : Row) (p : ℕ) → (p ≡ place → ⊥) → IsCovered r p was → IsCovered r p is) → Covers is new.entries
-  covers_struck was is covers kept q y there = let other = other_and_old q y there in kept y q other.0 (covers q y other.1)
+  pub covers_struck : (was is : Index) → Covers was old.entries → ((r : Row) (p : ℕ) → Contains new.entries (p, r) → (p ≡ place → ⊥) → IsCovered r p was → IsCovered r p is) → Covers is new.entries
+  covers_struck was is covers kept q y there = let other = other_and_old q y there in kept y q there other.0 (covers q y other.1)
 
 -- ---- what is kept covers the rows
 

@@ -3,7 +3,10 @@ pub mod Asks
 pub mod Beside
 pub mod ByText
 pub mod Exact
+pub mod Filled
 pub mod Index
+pub mod OfDatapath
 pub mod Places
 pub mod Store
 pub mod Tables
+pub mod Told

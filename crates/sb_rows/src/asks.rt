@@ -83,12 +83,13 @@ fn name_bucket(name: &Name) -> u64
     bucket
 }
 
-// The bucket of a number of a field.
+// The bucket of a number of a field, of both of its halves.
 #[inline]
 fn number_bucket(field: Field, number: u128) -> u64
     ensures { result ≡ number_bucket field number }
 {
-    mixed(u64::from(field.number()), number)
+    let high = mixed(u64::from(field.number()), number / (1 << 64));
+    mixed(high, number)
 }
 
 // The bucket of the bits of a mask.
@@ -246,11 +247,6 @@ fn is_same_port(one: Option<Side>, other: Option<Side>) -> bool
 }
 
 impl Shape {
-    // That by which each packet is in one bucket.
-    pub(crate) fn nothing() -> Shape {
-        Asks::nothing().shape()
-    }
-
     // Whether two shapes are one.
     pub(crate) fn is_same(self, other: Shape) -> bool
         ensures { IsTrue result → self ≡ other }
@@ -298,16 +294,15 @@ impl Asks {
         }
     }
 
-    // What the match asks: all that is kept of it, or a name and the first number alone.
-    pub(crate) fn of(matching: &Typed, all: bool) -> Asks
+    // What the match asks.
+    pub(crate) fn of(matching: &Typed) -> Asks
         ensures { (net : Lookup) (packet : Values) → holds net packet matching.now ≡ true → HasAsked result net packet }
     {
-        let asks = Asks::nothing().with_match(matching);
-        if all { asks } else { asks.in_short() }
+        Asks::nothing().with_match(matching)
     }
 
     // This, without the second and the third number.
-    fn in_short(self) -> Asks
+    pub(crate) fn in_short(self) -> Asks
         ensures { (net : Lookup) (packet : Values) → HasAsked self net packet → HasAsked result net packet }
     {
         let nothing = Asked {

@@ -1,18 +1,19 @@
 //! What is kept of a table that has many rows, by which those that may take a packet are found.
-ghost use Rattle.std.specs.Prelude.{◌≡◌, ◌<◌, ℕ, Contains, Some, IfOk, IsTrue, OnOk};
-ghost use Rattle.std.specs.BTreeMap.{get};
+ghost use Rattle.std.specs.Prelude.{◌≡◌, ◌<◌, ◌≤◌, ℕ, Contains, IfOk, IsTrue, OnOk, Some};
 ghost use Rattle.std.specs.List.{find};
-ghost use Rattle.std.specs.Ordering.{nat_cmp};
 ghost use Rattle.std.specs.Option.{option_copied};
 ghost use Rattle.expr_eval.specs.MatchMeaning.{holds};
 ghost use Rattle.sb_model.specs.declared.row.Row as row_of;
 ghost use Rattle.sb_rows.specs.declared.asks.Asks.{Asks};
-ghost use Rattle.sb_rows.specs.declared.asks.Shape.{Shape};
+ghost use Rattle.sb_rows.specs.declared.index.Shaped.{Shaped};
 ghost use Rattle.sb_rows.specs.inner.Asks.{HasAsked, IsKnown, bucket_in, bucket_of, shape_of};
-ghost use Rattle.sb_rows.specs.inner.Index.{Covers, IsCovered, IsFiled, IsIn, IsNoBetter, IsTaker, IsTried};
-ghost use Rattle.sb_rows.specs.inner.Store.{ArePlaced, rows_of_places};
+ghost use Rattle.sb_rows.specs.inner.Told.{AreTold};
+ghost use Rattle.sb_rows.specs.inner.Index.{Covers, HasShape, IsCovered, IsFiled, IsIn, IsNoBetter, IsTaker, IsTried};
+ghost use Rattle.sb_rows.specs.inner.Store.{ArePlaced, NumbersRise, rows_of_places};
 
 use crate::asks::{Asks, Known, Shape, Side, known_at, ports_by};
+use crate::crowds::Crowds;
+use crate::filled::Filled;
 use crate::stored::Stored;
 use expr_core::Env;
 use expr_ports::PortNames;
@@ -22,17 +23,24 @@ use sb_model::Row;
 use std::alloc::Global;
 use std::collections::{BTreeMap, BTreeSet};
 
-// With so many places a bucket is full: then a row is told by all that its match asks.
-const FULL: u32 = 8;
-
 // The rows of a table by their places.
 pub(crate) type Places = BTreeMap<u128, Stored>;
 
-// The places in a bucket: one, and how many more have come.
-#[derive(Clone, Copy, Drop)]
-pub(crate) struct Bucket {
-    first: u128,
-    others: u32,
+// What the match of the row at a place asks.
+#[derive(Clone, Copy)]
+struct Told {
+    place: u128,
+    asks: Asks,
+}
+
+// A row at its place.
+type Found<'r> = (u128, &'r Row);
+
+// What buckets are told by, and a place before which no row is in them.
+#[derive(Clone, Copy)]
+struct Shaped {
+    shape: Shape,
+    from: u128,
 }
 
 // Where the rows of a table are that may take a packet. It may name places that have no row.
@@ -40,12 +48,16 @@ pub(crate) struct Bucket {
 pub(crate) struct Index {
     // A port whose name its matches ask for, if they ask for one.
     side: Option<Side>,
-    // What its buckets are told by, and last nothing.
-    shapes: Vec<Shape>,
-    // A place of each bucket.
-    buckets: BTreeMap<u64, Bucket>,
-    // The other places, each after its bucket.
+    // What its buckets are told by. Those that the first rows have come first.
+    shapes: Vec<Shaped>,
+    // The places that were known at once, by their buckets.
+    filled: Filled,
+    // Those that came since, after their buckets.
     more: BTreeSet<(u64, u128)>,
+    // What it is worth to tell rows by all that their matches ask.
+    crowds: Crowds,
+    // How many places were struck since the first ones were cleared.
+    struck: usize,
 }
 
 impl Index {
@@ -53,16 +65,25 @@ impl Index {
     pub(crate) fn of(alloc: Global, rows: &Places) -> Result<Index, OutOfMemory>
         ensures { IfOk result (λ index. Covers index rows.now.entries) }
     {
-        let mut index = Index {
-            side: None,
-            shapes: vec![in alloc; Shape::nothing()]?,
-            buckets: BTreeMap::new(alloc),
-            more: BTreeSet::new(alloc),
-        };
-        for (place, stored) in rows.iter() {
-            index.add(stored.row(), *place)?;
+        let mut crowds = Crowds::new(alloc, rows.len())?;
+        let told = told_of(alloc, rows, &mut crowds)?;
+        let mut side = None;
+        let mut shapes = Vec::new(alloc);
+        let mut filled = Vec::with_capacity(alloc, told.len())?;
+        for row in told {
+            let asks = crowds.chosen(row.asks);
+            side = side.or(asks.port());
+            add_shape(&mut shapes, asks.shape(), row.place, row.place)?;
+            filled.push((asks.bucket(), row.place))?;
         }
-        Ok(index)
+        Ok(Index {
+            side,
+            shapes,
+            filled: Filled::of(filled),
+            more: BTreeSet::new(alloc),
+            crowds,
+            struck: 0,
+        })
     }
 
     // Adds the place of a row with this match. After `OutOfMemory` all that was covered is.
@@ -70,20 +91,8 @@ impl Index {
         ensures added { OnOk result (IsCovered row.now place self.new) }
         ensures kept { (r : row_of.Row) (p : ℕ) → IsCovered r p self.old → IsCovered r p self.new }
     {
-        let short = Asks::of(&row.matching, false);
-        if self.is_full(short.bucket()) {
-            self.add_asks(Asks::of(&row.matching, true), place)
-        } else {
-            self.add_asks(short, place)
-        }
-    }
-
-    // Whether a bucket has many places.
-    fn is_full(&self, bucket: u64) -> bool {
-        match self.buckets.get(&bucket) {
-            Some(own) => own.others >= FULL,
-            None => false,
-        }
+        let asks = self.crowds.join(Asks::of(&row.matching));
+        self.add_asks(asks, place)
     }
 
     // Adds a place to the bucket of what is asked.
@@ -91,63 +100,24 @@ impl Index {
         ensures added { OnOk result (IsFiled asks place self.new) }
         ensures kept { (r : row_of.Row) (p : ℕ) → IsCovered r p self.old → IsCovered r p self.new }
     {
-        if self.side.is_none() {
-            self.side = asks.port();
-        }
-        add_shape(&mut self.shapes, asks.shape())?;
-        self.add_place(asks.bucket(), place)
-    }
-
-    // Adds a place to a bucket.
-    fn add_place(&mut self, bucket: u64, place: u128) -> Result<(), OutOfMemory>
-        ensures shapes { self.new.shapes ≡ self.old.shapes }
-        ensures added { OnOk result (IsIn self.new bucket place) }
-        ensures kept { (b p : ℕ) → IsIn self.old b p → IsIn self.new b p }
-    {
-        match self.buckets.get_mut(&bucket) {
-            Some(own) => {
-                self.more.insert((bucket, place))?;
-                own.others = own.others.saturating_add(1);
-            }
-            None => {
-                self.buckets.insert(
-                    bucket,
-                    Bucket {
-                        first: place,
-                        others: 0,
-                    },
-                )?;
-            }
-        }
+        self.side = self.side.or(asks.port());
+        add_shape(&mut self.shapes, asks.shape(), place, 0)?;
+        self.more.insert((asks.bucket(), place))?;
         Ok(())
     }
 
-    // Strikes the place of a row with this match, where it is there. It takes no memory.
-    pub(crate) fn strike(&mut self, row: &Row, place: u128)
-        ensures { (r : row_of.Row) (p : ℕ) → (p ≡ place → ⊥) → IsCovered r p self.old → IsCovered r p self.new }
+    // Strikes the place of a row with this match, where it is there. Other places stay that have rows. It takes no memory.
+    pub(crate) fn strike(&mut self, row: &Row, place: u128, rows: &Places)
+        requires { NumbersRise rows.now.entries }
+        ensures { (r : row_of.Row) (p : ℕ) → Contains rows.now.entries (p, r) → (p ≡ place → ⊥) → IsCovered r p self.old → IsCovered r p self.new }
     {
-        self.strike_place(Asks::of(&row.matching, false).bucket(), place);
-        self.strike_place(Asks::of(&row.matching, true).bucket(), place);
-    }
-
-    // Strikes a place from a bucket, where it is there, unless others came after it.
-    fn strike_place(&mut self, bucket: u64, place: u128)
-        ensures shapes { self.new.shapes ≡ self.old.shapes }
-        ensures kept { (b p : ℕ) → (p ≡ place → ⊥) → IsIn self.old b p → IsIn self.new b p }
-    {
-        self.more.remove(&(bucket, place));
-        if self.is_alone(bucket, place) {
-            self.buckets.remove(&bucket);
-        }
-    }
-
-    // Whether a place is all that came to a bucket.
-    fn is_alone(&self, bucket: u64, place: u128) -> bool
-        ensures { IsTrue result → get nat_cmp self.now.buckets bucket ≡ Some (record { first = place; others = 0 }) }
-    {
-        match self.buckets.get(&bucket) {
-            Some(own) => own.first == place && own.others == 0,
-            None => false,
+        let asks = Asks::of(&row.matching);
+        self.more.remove(&(asks.in_short().bucket(), place));
+        self.more.remove(&(asks.bucket(), place));
+        self.struck = self.struck.saturating_add(1);
+        if self.struck > self.filled.len() / 2 {
+            self.filled.clear(rows);
+            self.struck = 0;
         }
     }
 
@@ -164,31 +134,30 @@ impl Index {
     {
         let known = known_at(self.side, packet, env);
         let mut best = None;
-        for shape in &self.shapes {
-            best = self.first_in_shape(rows, *shape, known, best, packet, env);
+        for shaped in &self.shapes {
+            if is_before(shaped.from, best) {
+                best = self.first_in_shape(rows, shaped.shape, known, best, packet, env);
+            }
         }
-        match rows.get(&best?) {
-            Some(stored) => Some(stored.row()),
-            None => None,
-        }
+        Some(best?.1)
     }
 
     // The place of the first row that takes the packet, of those in the buckets of a shape that it is in, where that is before the best so
     // far; else that.
-    fn first_in_shape<E: PortNames>(
+    fn first_in_shape<'r, E: PortNames>(
         &self,
-        rows: &Places,
+        rows: &'r Places,
         shape: Shape,
         known: Option<Known>,
-        best: Option<u128>,
+        best: Option<Found<'r>>,
         packet: &Packet,
         env: &E,
-    ) -> Option<u128>
+    ) -> Option<Found<'r>>
         requires placed { ArePlaced rows.now.entries }
         requires taker { IsTaker (E.lookup env.now) packet.now rows.now.entries best }
         requires known { IsKnown known (E.lookup env.now) packet.now }
         ensures taker { IsTaker (E.lookup env.now) packet.now rows.now.entries result }
-        ensures kept { (p : ℕ) → IsNoBetter best p → IsNoBetter result p }
+        ensures kept { (p : ℕ) → IsNoBetter best.entry p → IsNoBetter result p }
         ensures tried { (asks : Asks) (p : ℕ) → shape_of asks ≡ shape → HasAsked asks (E.lookup env.now) packet.now → IsIn self.now (bucket_of asks) p → IsTried (E.lookup env.now) packet.now rows.now.entries result p }
     {
         match shape.port() {
@@ -205,19 +174,19 @@ impl Index {
     }
 
     // The same of the bucket of a shape and of a port's name; where there is no name, the best so far.
-    fn first_named<E: Env>(
+    fn first_named<'r, E: Env>(
         &self,
-        rows: &Places,
+        rows: &'r Places,
         shape: Shape,
         name: Option<u64>,
-        best: Option<u128>,
+        best: Option<Found<'r>>,
         packet: &Packet,
         env: &E,
-    ) -> Option<u128>
+    ) -> Option<Found<'r>>
         requires placed { ArePlaced rows.now.entries }
         requires taker { IsTaker (E.lookup env.now) packet.now rows.now.entries best }
         ensures taker { IsTaker (E.lookup env.now) packet.now rows.now.entries result }
-        ensures kept { (p : ℕ) → IsNoBetter best p → IsNoBetter result p }
+        ensures kept { (p : ℕ) → IsNoBetter best.entry p → IsNoBetter result p }
         ensures tried { (own p : ℕ) → name ≡ Some own → IsIn self.now (bucket_in shape own packet.now) p → IsTried (E.lookup env.now) packet.now rows.now.entries result p }
     {
         match name {
@@ -230,45 +199,67 @@ impl Index {
     }
 
     // The same of one bucket.
-    fn first_in_bucket<E: Env>(
+    fn first_in_bucket<'r, E: Env>(
         &self,
-        rows: &Places,
+        rows: &'r Places,
         bucket: u64,
-        best: Option<u128>,
+        best: Option<Found<'r>>,
         packet: &Packet,
         env: &E,
-    ) -> Option<u128>
+    ) -> Option<Found<'r>>
         requires placed { ArePlaced rows.now.entries }
         requires taker { IsTaker (E.lookup env.now) packet.now rows.now.entries best }
         ensures taker { IsTaker (E.lookup env.now) packet.now rows.now.entries result }
-        ensures kept { (p : ℕ) → IsNoBetter best p → IsNoBetter result p }
+        ensures kept { (p : ℕ) → IsNoBetter best.entry p → IsNoBetter result p }
         ensures tried { (p : ℕ) → IsIn self.now bucket p → IsTried (E.lookup env.now) packet.now rows.now.entries result p }
     {
-        let Some(own) = self.buckets.get(&bucket) else {
-            return best;
-        };
-        let first = better(rows, own.first, best, packet, env);
-        if own.others == 0 {
-            return first;
-        }
-        self.first_of_others(rows, bucket, first, packet, env)
+        let first = self.first_of_filled(rows, bucket, best, packet, env);
+        self.first_of_more(rows, bucket, first, packet, env)
     }
 
-    // The same of the other places of a bucket.
-    fn first_of_others<E: Env>(
+    // The same of the places of a bucket that were known at once.
+    fn first_of_filled<'r, E: Env>(
         &self,
-        rows: &Places,
+        rows: &'r Places,
         bucket: u64,
-        best: Option<u128>,
+        best: Option<Found<'r>>,
         packet: &Packet,
         env: &E,
-    ) -> Option<u128>
+    ) -> Option<Found<'r>>
         requires placed { ArePlaced rows.now.entries }
         requires taker { IsTaker (E.lookup env.now) packet.now rows.now.entries best }
         ensures taker { IsTaker (E.lookup env.now) packet.now rows.now.entries result }
-        ensures kept { (p : ℕ) → IsNoBetter best p → IsNoBetter result p }
+        ensures kept { (p : ℕ) → IsNoBetter best.entry p → IsNoBetter result p }
+        ensures tried { (p : ℕ) → Contains self.now.filled (bucket, p) → IsTried (E.lookup env.now) packet.now rows.now.entries result p }
+    {
+        let mut first = best;
+        for (there, place) in self.filled.from_bucket(bucket) {
+            if *there != bucket || !is_before(*place, first) {
+                break;
+            }
+            first = better(rows, *place, first, packet, env);
+        }
+        first
+    }
+
+    // The same of those that came since.
+    fn first_of_more<'r, E: Env>(
+        &self,
+        rows: &'r Places,
+        bucket: u64,
+        best: Option<Found<'r>>,
+        packet: &Packet,
+        env: &E,
+    ) -> Option<Found<'r>>
+        requires placed { ArePlaced rows.now.entries }
+        requires taker { IsTaker (E.lookup env.now) packet.now rows.now.entries best }
+        ensures taker { IsTaker (E.lookup env.now) packet.now rows.now.entries result }
+        ensures kept { (p : ℕ) → IsNoBetter best.entry p → IsNoBetter result p }
         ensures tried { (p : ℕ) → Contains self.now.more.keys (bucket, p) → IsTried (E.lookup env.now) packet.now rows.now.entries result p }
     {
+        if self.more.is_empty() {
+            return best;
+        }
         let mut first = best;
         for (there, place) in self.more.range((bucket, 0)..) {
             if *there != bucket || !is_before(*place, first) {
@@ -282,55 +273,78 @@ impl Index {
 
 // Whether a place is before that of the best so far, if there is one.
 #[inline]
-fn is_before(place: u128, best: Option<u128>) -> bool
-    ensures { (IsTrue result → IsNoBetter best place → ⊥) × ((IsTrue result → ⊥) → IsNoBetter best place) }
+fn is_before(place: u128, best: Option<Found<'_>>) -> bool
+    ensures { (IsTrue result → IsNoBetter best.entry place → ⊥) × ((IsTrue result → ⊥) → IsNoBetter best.entry place) }
 {
     match best {
-        Some(best) => place < best,
+        Some((best, _)) => place < best,
         None => true,
     }
 }
 
 // A place, where its row takes the packet and it is before the best so far; else that.
 #[inline]
-fn better<E: Env>(
-    rows: &Places,
+fn better<'r, E: Env>(
+    rows: &'r Places,
     place: u128,
-    best: Option<u128>,
+    best: Option<Found<'r>>,
     packet: &Packet,
     env: &E,
-) -> Option<u128>
+) -> Option<Found<'r>>
     requires placed { ArePlaced rows.now.entries }
     requires taker { IsTaker (E.lookup env.now) packet.now rows.now.entries best }
     ensures taker { IsTaker (E.lookup env.now) packet.now rows.now.entries result }
-    ensures kept { (p : ℕ) → IsNoBetter best p → IsNoBetter result p }
+    ensures kept { (p : ℕ) → IsNoBetter best.entry p → IsNoBetter result p }
     ensures tried { IsTried (E.lookup env.now) packet.now rows.now.entries result place }
 {
     if !is_before(place, best) {
         return best;
     }
     match rows.get(&place) {
-        Some(stored) if stored.takes(packet, env) => Some(place),
+        Some(stored) if stored.takes(packet, env) => Some((place, stored.row())),
         _ => best,
     }
 }
 
-// Puts a shape first, unless it is there.
-fn add_shape(shapes: &mut Vec<Shape>, shape: Shape) -> Result<(), OutOfMemory>
-    ensures there { OnOk result (Contains shapes.new.items shape) }
-    ensures kept { (other : Shape) → Contains shapes.old.items other → Contains shapes.new.items other }
+// What the matches of these rows ask, which is noted in the crowds.
+fn told_of(alloc: Global, rows: &Places, crowds: &mut Crowds) -> Result<Vec<Told>, OutOfMemory>
+    ensures { IfOk result (λ told. AreTold told.items rows.now.entries) }
 {
-    if !has_shape(shapes, shape) {
-        shapes.insert(0, shape)?;
+    let mut told = Vec::with_capacity(alloc, rows.len())?;
+    for (place, stored) in rows.iter() {
+        let asks = Asks::of(&stored.row().matching);
+        crowds.note(asks);
+        told.push(Told {
+            place: *place,
+            asks,
+        })?;
+    }
+    Ok(told)
+}
+
+// Puts a shape last, with a place that is not after this one, unless it is there with such a one.
+fn add_shape(
+    shapes: &mut Vec<Shaped>,
+    shape: Shape,
+    place: u128,
+    from: u128,
+) -> Result<(), OutOfMemory>
+    requires { from ≤ place }
+    ensures there { OnOk result (HasShape shapes.new.items shape place) }
+    ensures kept { (other : Shaped) → Contains shapes.old.items other → Contains shapes.new.items other }
+{
+    if !has_shape(shapes, shape, place) {
+        shapes.push(Shaped { shape, from })?;
     }
     Ok(())
 }
 
-fn has_shape(shapes: &[Shape], shape: Shape) -> bool
-    ensures { IsTrue result → Contains shapes.now shape }
+// Whether a shape is there with a place that is not after this one.
+fn has_shape(shapes: &[Shaped], shape: Shape, place: u128) -> bool
+    ensures { IsTrue result → HasShape shapes.now shape place }
 {
-    for there in shapes {
-        if there.is_same(shape) {
+    for shaped in shapes {
+        if shaped.shape.is_same(shape) && shaped.from <= place {
             return true;
         }
     }

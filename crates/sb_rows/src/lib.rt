@@ -4,6 +4,9 @@
 
 mod asks;
 mod by_text;
+mod crowds;
+mod datapath_rows;
+mod filled;
 mod index;
 mod laws;
 mod listing;
@@ -15,6 +18,7 @@ mod store;
 mod stored;
 mod table;
 
+pub use datapath_rows::DatapathRows;
 pub use laws::{rows_are_told_by_their_members, rows_that_are_put_are_in_order};
 pub use listing::put_listing;
 pub use new_rows::NewRows;

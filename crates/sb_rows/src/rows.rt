@@ -5,8 +5,9 @@ ghost use Rattle.sb_rows.specs.Row.{AgreeAsOne, AreRows, HasTypedMatch, IsSetOf,
 ghost use Rattle.sb_rows.specs.Match.{select};
 
 use crate::NewRows;
+use crate::datapath_rows::{DatapathRows, STAGES};
 use crate::store::{Tables, drop_empty, put_in, row_at, tables_of, take_from};
-use crate::stored::{Stored, table_key};
+use crate::stored::{Stored, first_key, table_key};
 use expr_ports::PortNames;
 use nv_base::{ObjId, OutOfMemory};
 use pkt_core::Packet;
@@ -140,12 +141,28 @@ impl Rows {
     pub(crate) fn of_datapath(&self, dp: ObjId) -> Result<Vec<&Row>, OutOfMemory>
         ensures { IfOk result (λ list. map (λ r. r.now) list.items ≡ rows_of dp self.now) }
     {
-        let first = u64::from(dp.0) * 32;
+        let first = first_key(dp);
         let mut rows = Vec::new(self.alloc);
-        for (_, table) in self.tables.range(first..first + 32) {
+        for (_, table) in self.tables.range(first..first + STAGES as u64) {
             table.put_last(&mut rows)?;
         }
         Ok(rows)
+    }
+
+    /// The rows of a datapath, for many searches in its tables: each is looked for once. It takes no memory.
+    pub fn datapath(&self, dp: ObjId) -> DatapathRows<'_>
+        ensures { result ≡ (dp, self.now) }
+    {
+        let first = first_key(dp);
+        let mut tables = [None; STAGES];
+        for (key, table) in self.tables.range(first..first + STAGES as u64) {
+            tables[(*key - first) as usize] = Some(table);
+        }
+        DatapathRows {
+            dp,
+            all: self,
+            tables,
+        }
     }
 
     /// The row that acts on a packet in a table: the first one in row order whose match holds. Of a table of

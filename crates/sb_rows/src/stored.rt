@@ -1,5 +1,5 @@
 //! A row beside what searches look at first.
-ghost use Rattle.std.specs.Prelude.{◌≡◌, ◌<◌, IfOk};
+ghost use Rattle.std.specs.Prelude.{◌≡◌, ◌<◌, ◌*◌, IfOk};
 ghost use Rattle.expr_eval.specs.MatchMeaning.{holds};
 ghost use Rattle.sb_rows.specs.Row.{key_cmp};
 ghost use Rattle.sb_rows.specs.inner.Beside.{FitsItsKey, is_same, key_of_row, order_of_keys};
@@ -144,7 +144,14 @@ fn order_of_keys(one: Key, other: Key) -> Ordering
 pub(crate) fn table_key(dp: ObjId, stage: Stage) -> u64
     ensures { result ≡ table_key dp stage }
 {
-    u64::from(dp.0) * 32 + u64::from(stage.place())
+    first_key(dp) + u64::from(stage.place())
+}
+
+// The place of the first table that a datapath may have.
+pub(crate) fn first_key(dp: ObjId) -> u64
+    ensures { result ≡ dp.0 * 32 }
+{
+    u64::from(dp.0) * 32
 }
 
 // The place of a row in its table: by falling priority, then by hint.

@@ -215,7 +215,7 @@ impl Table {
         };
         self.rows.remove(&place);
         if let Some(index) = &mut self.index {
-            index.strike(row, place);
+            index.strike(row, place, &self.rows);
         }
         true
     }

@@ -244,12 +244,25 @@ fn stages_have_their_table(rt: HostRuntime) {
     assert!(rt; Stage::first(DatapathKind::Router, Pipeline::Egress) == Stage::LrOutUndnat);
 }
 
-// The priority and the hint of the row that a packet meets.
-fn met(rows: &Rows, dp: u32, stage: Stage, packet: &Packet) -> Option<(u16, u32)> {
-    match rows.select(ObjId(dp), stage, packet, &Empty) {
+// The priority and the hint of a row.
+fn rank(row: Option<&Row>) -> Option<(u16, u32)> {
+    match row {
         Some(row) => Some((row.priority, row.hint.0)),
         None => None,
     }
+}
+
+// Whether the row that a packet meets has this priority and hint, also where it is looked for among those of its datapath.
+fn is_met(
+    rows: &Rows,
+    dp: u32,
+    stage: Stage,
+    packet: &Packet,
+    expected: Option<(u16, u32)>,
+) -> bool {
+    let dp = ObjId(dp);
+    rank(rows.select(dp, stage, packet, &Empty)) == expected
+        && rank(rows.datapath(dp).select(stage, packet, &Empty)) == expected
 }
 
 #[test]
@@ -289,7 +302,7 @@ fn a_packet_meets_the_first_row_of_its_table_that_takes_it(rt: HostRuntime) {
         (1, Stage::LsOutPreAcl, to_all, None),
         (3, lookup, to_all, None),
     ] {
-        assert!(rt; met(&rows, dp, stage, &packet) == expected);
+        assert!(rt; is_met(&rows, dp, stage, &packet, expected));
     }
     drop(rows);
 }
@@ -450,7 +463,8 @@ fn is_met_as_scanned(
     requires from { from < 2 ^ 48 }
     requires to { to < 2 ^ 48 }
 {
-    met(rows, dp, stage, &packet(from, to)) == scanned(table, dp, stage, from, to)
+    let expected = scanned(table, dp, stage, from, to);
+    is_met(rows, dp, stage, &packet(from, to), expected)
 }
 
 // Whether some packet does so in both tables of a datapath.

@@ -49,10 +49,11 @@ pub fn run_pipeline<E: PortNames>(
         packet: *packet,
         look: None,
     };
+    let tables = rows.datapath(dp);
     let mut budget = STEP_BUDGET;
     while budget > 0 {
         budget -= 1;
-        let Some(row) = rows.select(dp, stage, &moving.packet, env) else {
+        let Some(row) = tables.select(stage, &moving.packet, env) else {
             unreachable!()
         };
         hits.push(hit_of(dp, stage, row))?;

@@ -1,5 +1,5 @@
 -- What a match asks of a packet before all else, and the bucket that this tells.
-use Rattle.std.specs.Prelude.{◌≡◌, ◌⊎◌, ℕ, ◌+◌, ◌*◌, ◌%◌, List, Option, Some, None, fold, bit_and, true}
+use Rattle.std.specs.Prelude.{◌≡◌, ◌⊎◌, ℕ, ◌+◌, ◌*◌, ◌/◌, ◌%◌, List, Option, Some, None, fold, bit_and, true}
 use Rattle.nv_base.specs.Field.{field_number}
 use Rattle.nv_base.specs.declared.field.Field.{Field}
 use Rattle.nv_base.specs.declared.field.Field.TheVariants.{Inport, Outport}
@@ -25,9 +25,9 @@ mixed bucket number = (bucket * 11400714819323198485 + number % 1844674407370955
 abbrev pub name_bucket : List ℕ → ℕ
 name_bucket name = fold mixed 0 name
 
--- the bucket of a number of a field
+-- the bucket of a number of a field, of both of its halves
 abbrev pub number_bucket : Field → ℕ → ℕ
-number_bucket field number = mixed (field_number field) number
+number_bucket field number = mixed (mixed (field_number field) (number / 18446744073709551616)) number
 
 -- the bucket of the bits of a mask
 abbrev pub masked_bucket : Field → ℕ → ℕ → ℕ

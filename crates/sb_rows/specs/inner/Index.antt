@@ -1,25 +1,28 @@
 -- What is kept of a table that has many rows: the places of the rows that may take a packet.
+use Rattle.std.specs.Borrow.{Bor}
 use Rattle.std.specs.Prelude.{◌≡◌, ◌⊎◌, ◌≤◌, ⊤, ℕ, true, List, Option, None, Some}
 use Rattle.std.specs.List.{Contains}
-use Rattle.std.specs.BTreeMap.{get}
-use Rattle.std.specs.Ordering.{nat_cmp}
 use Rattle.expr_core.specs.Lookup.{Lookup}
 use Rattle.expr_eval.specs.MatchMeaning.{holds}
 use Rattle.pkt_core.specs.Packet.{Values}
 use Rattle.sb_model.specs.declared.row.Row.{Row}
 use Rattle.sb_rows.specs.declared.asks.Asks.{Asks}
-use Rattle.sb_rows.specs.declared.index.Bucket.{Bucket}
+use Rattle.sb_rows.specs.declared.asks.Shape.{Shape}
 use Rattle.sb_rows.specs.declared.index.Index.{Index}
+use Rattle.sb_rows.specs.declared.index.Shaped.{Shaped}
 use Rattle.sb_rows.specs.inner.Asks.{HasAsked, bucket_of, shape_of}
 
 -- the bucket has the place
 abbrev pub IsIn : Index → ℕ → ℕ → Type 0
-IsIn index bucket place =
-    (own : Bucket) × ((get nat_cmp index.buckets bucket ≡ Some own) × ((own.first ≡ place) ⊎ ((own.others ≡ 0 → ⊥) × Contains index.more.keys (bucket, place))))
+IsIn index bucket place = Contains index.filled (bucket, place) ⊎ Contains index.more.keys (bucket, place)
+
+-- there is such a shape, with a place that is not after this one
+abbrev pub HasShape : List Shaped → Shape → ℕ → Type 0
+HasShape shapes shape place = (from : ℕ) × (Contains shapes (record { shape = shape; from = from }) × (from ≤ place))
 
 -- the place is in the bucket of what is asked, which has one of the shapes
 pub record IsFiled (asks : Asks) (place : ℕ) (index : Index) : Type 0 where
-  pub shaped : Contains index.shapes.items (shape_of asks)
+  pub shaped : HasShape index.shapes.items (shape_of asks) place
   pub there : IsIn index (bucket_of asks) place
 
 -- each packet that the row at this place may take has what is asked of one of its buckets
@@ -31,16 +34,16 @@ IsCovered row place index =
 abbrev pub Covers : Index → List (ℕ × Row) → Type 0
 Covers index rows = (place : ℕ) (row : Row) → Contains rows (place, row) → IsCovered row place index
 
--- the best place so far, if there is one, is that of a row that takes the packet
-abbrev pub IsTaker : Lookup → Values → List (ℕ × Row) → Option ℕ → Type 0
+-- the best row so far, if there is one, takes the packet
+abbrev pub IsTaker : Lookup → Values → List (ℕ × Row) → Option (ℕ × Bor Row) → Type 0
 IsTaker net packet rows None = ⊤
-IsTaker net packet rows (Some best) = (row : Row) × (Contains rows (best, row) × (holds net packet row.matching ≡ true))
+IsTaker net packet rows (Some best) = Contains rows (best.0, best.1.now) × (holds net packet best.1.now.matching ≡ true)
 
--- the place is not before the best so far
-abbrev pub IsNoBetter : Option ℕ → ℕ → Type 0
+-- the place is not before that of the best so far
+abbrev pub IsNoBetter : Option (ℕ × Bor Row) → ℕ → Type 0
 IsNoBetter None place = ⊥
-IsNoBetter (Some best) place = best ≤ place
+IsNoBetter (Some best) place = best.0 ≤ place
 
--- if a row at this place takes the packet, the place is not before the best so far
-abbrev pub IsTried : Lookup → Values → List (ℕ × Row) → Option ℕ → ℕ → Type 0
+-- if a row at this place takes the packet, the place is not before that of the best so far
+abbrev pub IsTried : Lookup → Values → List (ℕ × Row) → Option (ℕ × Bor Row) → ℕ → Type 0
 IsTried net packet rows best place = (row : Row) → Contains rows (place, row) → holds net packet row.matching ≡ true → IsNoBetter best place

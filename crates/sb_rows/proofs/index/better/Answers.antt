@@ -4,7 +4,8 @@ use Rattle.sb_rows.proofs.IndexFirst.{row_found, tried_in_none, tried_in_vain}
 use Rattle.sb_rows.proofs.index.better.Goals as goal
 
 pub returns-in-Some-clause-taker : goal.returns-in-Some-clause-taker
-returns-in-Some-clause-taker g c = (c.in-Some.stored.now, (row_found c.args.rows.now c.args.place c.in-Some.stored.now c.requires.placed.rise (sym c.in-Some.ensures.value), sym c.takes.ensures ∙ c.if-takes.true))
+returns-in-Some-clause-taker g c =
+    rw c.row.ensures (row_found c.args.rows.now c.args.place c.in-Some.stored.now c.requires.placed.rise (sym c.in-Some.ensures.value), sym c.takes.ensures ∙ c.if-takes.true)
 
 pub returns-in_default-clause-tried : goal.returns-in_default-clause-tried
 returns-in_default-clause-tried g c =

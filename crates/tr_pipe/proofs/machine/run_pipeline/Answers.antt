@@ -36,16 +36,16 @@ loop-budget-init g c =
 pub unreachable-requires-in_default-select : goal.unreachable-requires-in_default-select
 unreachable-requires-in_default-select g c =
     row_there (flows_of c.args.rows.now (g.E.Env.lookup c.args.env.now) c.args.dp) c.loop-budget.budget c.loop-budget.stage (in_flight c.loop-budget.moving c.loop-budget.work.state) _ c.loop-budget.hits.items _ c.loop-budget.invariant.0
-    c.loop-budget-test.true (pipeline_never_stuck _ c.requires.rows _ _ _ _ c.requires.table) (sym c.select.ensures ∙ ap option_copied c.in_default-select.is)
+    c.loop-budget-test.true (pipeline_never_stuck _ c.requires.rows _ _ _ _ c.requires.table) (sym (rw c.datapath-tables.ensures at c.select.ensures) ∙ ap option_copied c.in_default-select.is)
 
 pub returns-in_err-push-clause-runs : goal.returns-in_err-push-clause-runs
 returns-in_err-push-clause-runs g c = pipeline_never_stuck _ c.requires.rows _ _ _ _ c.requires.table
 
 pub run_actions-requires-clause-formed : goal.run_actions-requires-clause-formed
-run_actions-requires-clause-formed g c = rw c.as_slice.ensures (acting_formed _ c.requires.rows _ _ _ (sym c.select.ensures ∙ ap option_copied c.in-Some-select.is))
+run_actions-requires-clause-formed g c = rw c.as_slice.ensures (acting_formed _ c.requires.rows _ _ _ (sym (rw c.datapath-tables.ensures at c.select.ensures) ∙ ap option_copied c.in-Some-select.is))
 
 pub run_actions-requires-clause-run : goal.run_actions-requires-clause-run
-run_actions-requires-clause-run g c = rw c.as_slice.ensures (acting_run _ c.requires.rows _ _ _ (sym c.select.ensures ∙ ap option_copied c.in-Some-select.is))
+run_actions-requires-clause-run g c = rw c.as_slice.ensures (acting_run _ c.requires.rows _ _ _ (sym (rw c.datapath-tables.ensures at c.select.ensures) ∙ ap option_copied c.in-Some-select.is))
 
 pub returns-in_err-ending-clause-runs : goal.returns-in_err-ending-clause-runs
 returns-in_err-ending-clause-runs g c = pipeline_never_stuck _ c.requires.rows _ _ _ _ c.requires.table
@@ -62,7 +62,7 @@ loop-budget-preserved g c =
     ∙ ap (ended later) c.after.ensures
     ∙ ap (λ (e : ControlFlow Outcome Stage). ended later (end_of e later.packet)) c.in-Continue.is in (
       step_taken flows c.loop-budget.budget c.loop-budget.stage flight c.args.hits.now.items c.loop-budget.hits.items _ c.loop-budget.invariant.0 c.loop-budget-test.true row (On c.in-Continue.next later) c.push.new.self.items
-          (sym c.select.ensures ∙ ap option_copied c.in-Some-select.is) ends (c.in_ok-push.ensures.items ∙ ap (λ hit. c.loop-budget.hits.items ++ hit) c.hit_of.ensures),
+          (sym (rw c.datapath-tables.ensures at c.select.ensures) ∙ ap option_copied c.in-Some-select.is) ends (c.in_ok-push.ensures.items ∙ ap (λ hit. c.loop-budget.hits.items ++ hit) c.hit_of.ensures),
       c.run_actions.ensures.back ∙ c.loop-budget.invariant.1,
     )
 
@@ -78,7 +78,7 @@ returns-in-Break-clause-hits g c =
     ∙ ap (ended later) c.after.ensures
     ∙ ap (λ (e : ControlFlow Outcome Stage). ended later (end_of e later.packet)) c.in-Break.is in
     (run_ends flows c.loop-budget.budget c.loop-budget.stage flight c.args.hits.now.items c.loop-budget.hits.items _ c.loop-budget.invariant.0 c.loop-budget-test.true row (Some c.in-Break.outcome) later.state c.push.new.self.items
-    (sym c.select.ensures ∙ ap option_copied c.in-Some-select.is) ends (c.in_ok-push.ensures.items ∙ ap (λ hit. c.loop-budget.hits.items ++ hit) c.hit_of.ensures)).hits
+    (sym (rw c.datapath-tables.ensures at c.select.ensures) ∙ ap option_copied c.in-Some-select.is) ends (c.in_ok-push.ensures.items ∙ ap (λ hit. c.loop-budget.hits.items ++ hit) c.hit_of.ensures)).hits
 
 pub returns-in-Break-clause-outcome : goal.returns-in-Break-clause-outcome
 returns-in-Break-clause-outcome g c =
@@ -92,7 +92,7 @@ returns-in-Break-clause-outcome g c =
     ∙ ap (ended later) c.after.ensures
     ∙ ap (λ (e : ControlFlow Outcome Stage). ended later (end_of e later.packet)) c.in-Break.is in
     (run_ends flows c.loop-budget.budget c.loop-budget.stage flight c.args.hits.now.items c.loop-budget.hits.items _ c.loop-budget.invariant.0 c.loop-budget-test.true row (Some c.in-Break.outcome) later.state c.push.new.self.items
-    (sym c.select.ensures ∙ ap option_copied c.in-Some-select.is) ends (c.in_ok-push.ensures.items ∙ ap (λ hit. c.loop-budget.hits.items ++ hit) c.hit_of.ensures)).outcome_is
+    (sym (rw c.datapath-tables.ensures at c.select.ensures) ∙ ap option_copied c.in-Some-select.is) ends (c.in_ok-push.ensures.items ∙ ap (λ hit. c.loop-budget.hits.items ++ hit) c.hit_of.ensures)).outcome_is
 
 pub returns-in-Break-clause-state : goal.returns-in-Break-clause-state
 returns-in-Break-clause-state g c =
@@ -106,7 +106,7 @@ returns-in-Break-clause-state g c =
     ∙ ap (ended later) c.after.ensures
     ∙ ap (λ (e : ControlFlow Outcome Stage). ended later (end_of e later.packet)) c.in-Break.is in
     (run_ends flows c.loop-budget.budget c.loop-budget.stage flight c.args.hits.now.items c.loop-budget.hits.items _ c.loop-budget.invariant.0 c.loop-budget-test.true row (Some c.in-Break.outcome) later.state c.push.new.self.items
-    (sym c.select.ensures ∙ ap option_copied c.in-Some-select.is) ends (c.in_ok-push.ensures.items ∙ ap (λ hit. c.loop-budget.hits.items ++ hit) c.hit_of.ensures)).state_is
+    (sym (rw c.datapath-tables.ensures at c.select.ensures) ∙ ap option_copied c.in-Some-select.is) ends (c.in_ok-push.ensures.items ∙ ap (λ hit. c.loop-budget.hits.items ++ hit) c.hit_of.ensures)).state_is
 
 pub returns-in-Break-clause-runs : goal.returns-in-Break-clause-runs
 returns-in-Break-clause-runs g c = pipeline_never_stuck _ c.requires.rows _ _ _ _ c.requires.table

@@ -1,19 +1,24 @@
-use Rattle.std.proofs.Common.{ℕ, List, [], ◌∷◌, map, sym, subst, ◌∙◌}
-use Rattle.std.specs.Map.Iter.{deref_pair}
-use Rattle.std.proofs.lemmas.List.{map-append}
-use Rattle.std.proofs.lemmas.Map.Iter.{iter_end}
-use Rattle.sb_model.specs.declared.row.Row.{Row}
-use Rattle.sb_rows.specs.inner.Index.{Covers}
-use Rattle.sb_rows.proofs.Covered.{covered_next}
+use Rattle.std.proofs.Common.{List, sym, subst, ◌∙◌, arith, map-id}
+use Rattle.std.proofs.lemmas.Iterator.Adapters.{YieldsList-from_vec}
+use Rattle.std.proofs.lemmas.Iterator.Consumers.{YieldsList-end}
+use Rattle.sb_rows.specs.declared.asks.Shape.{Shape}
+use Rattle.sb_rows.specs.declared.index.Told.{Told}
+use Rattle.sb_rows.specs.inner.Index.{HasShape}
+use Rattle.sb_rows.proofs.ToldRows.{AreFiled, covered_by_filed, filed_next}
 use Rattle.sb_rows.proofs.index.Index.of.Goals as goal
 
-pub loop-place-preserved : goal.loop-place-preserved
-loop-place-preserved c =
-    subst (λ (l : List (ℕ × Row)). Covers c.add.new.self l) (sym (map-append deref_pair c.loop-place.yielded ((c.in-Some.place, c.in-Some.stored) ∷ [])))
-    (covered_next (map deref_pair c.loop-place.yielded) c.in-Some.place.now c.in-Some.stored.now c.loop-place.index c.add.new.self c.add.ensures.kept (rw c.row.ensures at c.in_ok-add.ensures.added) c.loop-place.invariant)
+pub loop-row-init : goal.loop-row-init
+loop-row-init c t there = absurd (omega (arith, there.1))
+
+pub loop-row-preserved : goal.loop-row-preserved
+loop-row-preserved c =
+    rw c.in_ok-push.ensures.items
+    (rw c.bucket.ensures
+    (filed_next c.loop-row.yielded c.loop-row.shapes.items c.add_shape.new.shapes.items c.loop-row.filled.items c.in-Some.row c.chosen-asks.result c.chosen-asks.ensures
+    c.in_ok-add_shape.ensures.kept (subst (λ (s : Shape). HasShape c.add_shape.new.shapes.items s c.in-Some.row.place) c.shape.ensures c.in_ok-add_shape.ensures.there) c.loop-row.invariant))
 
 pub returns : goal.returns
 returns c =
-    let end = iter_end deref_pair c.args.rows.now.entries c.loop-place.yielded c.into_iter-place-iterator.result c.loop-place.place-iterator c.next.new.self c.next.result
-    (c.into_iter-place-iterator.ensures.into_iter_gives ∙ c.iter-place-items.ensures.rest) c.loop-place.yielded_by c.in-None.is c.next.ensures.steps in
-    subst (λ (l : List (ℕ × Row)). Covers c.loop-place.index l) end.0 c.loop-place.invariant
+    let told = YieldsList-end (YieldsList-from_vec c.in_ok-told.told.items c.into_iter-row-iterator.ensures.into_iter_gives.0 (omega arith)) c.loop-row.yielded c.loop-row.row-iterator c.loop-row.yielded_by c.next.result c.next.new.self c.in-None.is c.next.ensures.steps in
+    covered_by_filed c.in_ok-told.told.items c.args.rows.now.entries c.loop-row.filled.items _ c.in_ok-told.ensures
+    (subst (λ (l : List Told). AreFiled l c.loop-row.shapes.items c.loop-row.filled.items) (sym (map-id c.loop-row.yielded) ∙ told.0) c.loop-row.invariant) c.of.ensures

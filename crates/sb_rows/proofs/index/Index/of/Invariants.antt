@@ -1,8 +1,6 @@
-use Rattle.std.proofs.Common.{map}
-use Rattle.std.specs.Map.Iter.{deref_pair}
-use Rattle.sb_rows.specs.inner.Index.{Covers}
+use Rattle.sb_rows.proofs.ToldRows.{AreFiled}
 use Rattle.sb_rows.proofs.index.Index.of.Given as goal
 
--- the rows so far are covered
-abbrev pub invariant-loop-place : goal.invariant-loop-place
-invariant-loop-place l = Covers l.index (map deref_pair l.yielded)
+-- what was told so far is filed
+abbrev pub invariant-loop-row : goal.invariant-loop-row
+invariant-loop-row l = AreFiled l.yielded l.shapes.items l.filled.items

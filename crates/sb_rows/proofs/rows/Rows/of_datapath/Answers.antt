@@ -20,6 +20,6 @@ pub returns : goal.returns
 returns c =
     let tables = c.self.inside.tables.entries in
     let end = iter_end deref_pair c.range-table-items.result c.loop-table.yielded c.into_iter-table-iterator.result c.loop-table.table-iterator c.next.new.self c.next.result c.into_iter-table-iterator.ensures.into_iter_gives c.loop-table.yielded_by c.in-None.is c.next.ensures.steps in
-    c.loop-table.invariant ∙ ap flat (end.0 ∙ (rw c.from-first.ensures at (c.range-table-items.ensures.between tt)))
+    c.loop-table.invariant ∙ ap flat (end.0 ∙ (rw c.first_key-first.ensures at (c.range-table-items.ensures.between tt)))
     ∙ datapath_flat c.args.dp.0 (range_contains nat_cmp (Included (c.args.dp.0 * 32)) (Excluded (c.args.dp.0 * 32 + 32))) (is_within c.args.dp.0) tables c.self.invariant.tables.keyed
     ∙ ap (rows_of c.args.dp) c.self.view_is

@@ -5,8 +5,8 @@ use Rattle.std.proofs.lemmas.Map.Iter.{iter_end, rest_more, rest_so_far}
 use Rattle.sb_rows.specs.inner.Index.{IsNoBetter}
 use Rattle.sb_rows.proofs.IndexOthers.{among_from, keys_from, seen_or_here, seen_or_no_better}
 use Rattle.sb_rows.proofs.Probed.{from_either}
-use Rattle.sb_rows.proofs.index.Index.first_of_others.Goals as goal
-use Rattle.sb_rows.proofs.index.Index.first_of_others.Goals.{then-there-bucket-via-then-there-bucket, then-there-bucket-via-else-there-bucket+then-not-is_before}
+use Rattle.sb_rows.proofs.index.Index.first_of_more.Goals as goal
+use Rattle.sb_rows.proofs.index.Index.first_of_more.Goals.{then-there-bucket-via-then-there-bucket, then-there-bucket-via-else-there-bucket+then-not-is_before}
 
 pub loop-there-preserved : goal.loop-there-preserved
 loop-there-preserved g c =

@@ -1,7 +1,7 @@
 use Rattle.std.proofs.Common.{ℕ, Contains, map}
 use Rattle.std.specs.Map.Iter.{deref}
 use Rattle.sb_rows.specs.inner.Index.{IsNoBetter, IsTaker, IsTried}
-use Rattle.sb_rows.proofs.index.Index.first_of_others.Given as goal
+use Rattle.sb_rows.proofs.index.Index.first_of_more.Given as goal
 
 -- the best so far takes the packet, is none after that before, and none before a place so far whose row does
 abbrev pub invariant-loop-there : goal.invariant-loop-there

@@ -1,0 +1,67 @@
+-- What an index is filled with is what its rows ask.
+use Rattle.std.proofs.Common.{◌≡◌, ℕ, zero, List, [], ◌∷◌, ◌++◌, Contains, ap, subst, refl, ◌⊎◌, inl, inr, arith}
+use Rattle.std.proofs.lemmas.List.Elements.{Contains-append_left, Contains-append_right, Contains-push_cases}
+use Rattle.expr_core.specs.Lookup.{Lookup}
+use Rattle.pkt_core.specs.Packet.{Values}
+use Rattle.sb_model.specs.declared.row.Row.{Row}
+use Rattle.sb_rows.specs.declared.asks.Asks.{Asks}
+use Rattle.sb_rows.specs.declared.index.Index.{Index}
+use Rattle.sb_rows.specs.declared.index.Shaped.{Shaped}
+use Rattle.sb_rows.specs.declared.index.Told.{Told}
+use Rattle.sb_rows.specs.inner.Asks.{HasAsked, bucket_of, shape_of}
+use Rattle.sb_rows.specs.inner.Index.{Covers, HasShape}
+use Rattle.sb_rows.specs.inner.Told.{AreTold, IsAskedBy}
+
+-- a packet that has what is asked first has what is asked then
+abbrev pub Implies : Asks → Asks → Type 0
+Implies first then = (net : Lookup) (packet : Values) → HasAsked first net packet → HasAsked then net packet
+
+-- what is told is filed in buckets of shapes
+abbrev pub AreFiled : List Told → List Shaped → List (ℕ × ℕ) → Type 0
+AreFiled told shapes filled =
+    (t : Told) → Contains told t → (asks : Asks) × (Implies t.asks asks × (HasShape shapes (shape_of asks) t.place × Contains filled (bucket_of asks, t.place)))
+
+-- the last element of a list is in it
+last_is_there : {X : Type 0} (xs : List X) (x : X) → Contains (xs ++ x ∷ []) x
+last_is_there xs x = Contains-append_right xs (x ∷ []) x (zero, omega arith, refl)
+
+-- it is told of one row more
+pub told_next : (told : List Told) (rows : List (ℕ × Row)) (place : ℕ) (row : Row) (asks : Asks) → IsAskedBy row asks → AreTold told rows
+    → AreTold (told ++ record { place = place; asks = asks } ∷ []) (rows ++ (place, row) ∷ [])
+told_next told rows place row asks asked so_far p r there = by (Contains-push_cases rows (place, row) (p, r) there)
+  where
+    new : Told
+    new = record { place = place; asks = asks }
+
+    by : Contains rows (p, r) ⊎ (◌≡◌ {A = ℕ × Row} (place, row) (p, r)) → (a : Asks) × (Contains (told ++ new ∷ []) (record { place = p; asks = a }) × IsAskedBy r a)
+    by (inl old) = let it = so_far p r old in (it.0, (Contains-append_left told (new ∷ []) (record { place = p; asks = it.0 }) it.1.0, it.1.1))
+    by (inr is) = (
+      asks,
+      (
+        subst (λ (q : ℕ). Contains (told ++ new ∷ []) (record { place = q; asks = asks })) (ap (λ (e : ℕ × Row). e.0) is) (last_is_there told new),
+        subst (λ (x : Row). IsAskedBy x asks) (ap (λ (e : ℕ × Row). e.1) is) asked,
+      ),
+    )
+
+-- one more is filed
+pub filed_next : (told : List Told) (before after : List Shaped) (filled : List (ℕ × ℕ)) (t : Told) (asks : Asks) → Implies t.asks asks
+    → ((s : Shaped) → Contains before s → Contains after s) → HasShape after (shape_of asks) t.place → AreFiled told before filled
+    → AreFiled (told ++ t ∷ []) after (filled ++ (bucket_of asks, t.place) ∷ [])
+filed_next told before after filled t asks implied kept shaped so_far u there = by (Contains-push_cases told t u there)
+  where
+    by : Contains told u ⊎ (t ≡ u) → (a : Asks) × (Implies u.asks a × (HasShape after (shape_of a) u.place × Contains (filled ++ (bucket_of asks, t.place) ∷ []) (bucket_of a, u.place)))
+    by (inl old) =
+        let it = so_far u old in
+        let has = it.1.1.0 in
+        (it.0, (it.1.0, ((has.0, (kept (record { shape = shape_of it.0; from = has.0 }) has.1.0, has.1.1)), Contains-append_left filled ((bucket_of asks, t.place) ∷ []) (bucket_of it.0, u.place) it.1.1.1)))
+    by (inr is) =
+        subst (λ (v : Told). (a : Asks) × (Implies v.asks a × (HasShape after (shape_of a) v.place × Contains (filled ++ (bucket_of asks, t.place) ∷ []) (bucket_of a, v.place)))) is
+        (asks, (implied, (shaped, last_is_there filled (bucket_of asks, t.place))))
+
+-- rows are covered by what is filed of them
+pub covered_by_filed : (told : List Told) (rows : List (ℕ × Row)) (filled : List (ℕ × ℕ)) (index : Index) → AreTold told rows → AreFiled told index.shapes.items filled
+    → ((x : ℕ × ℕ) → Contains filled x → Contains index.filled x) → Covers index rows
+covered_by_filed told rows filled index are filed all place row there net packet takes =
+    let it = are place row there in
+    let own = filed (record { place = place; asks = it.0 }) it.1.0 in
+    (own.0, (own.1.0 net packet (it.1.1 net packet takes), record { shaped = own.1.1.0; there = inl (all (bucket_of own.0, place) own.1.1.1) }))

@@ -1,0 +1,61 @@
+//! Places after their buckets, in order.
+ghost use Rattle.std.specs.Prelude.{◌≤◌, ℕ, All, Contains};
+ghost use Rattle.std.specs.List.Sorted.{IsSorted};
+ghost use Rattle.sb_model.specs.declared.row.Row as row_of;
+ghost use Rattle.sb_rows.specs.inner.Filled.{pair_cmp};
+ghost use Rattle.sb_rows.specs.inner.Store.{NumbersRise};
+
+use crate::stored::Stored;
+use std::collections::BTreeMap;
+use std::marker::Model;
+
+// Buckets and places in them, in order. A clause sees the list of them.
+#[derive(Drop)]
+pub(crate) struct Filled {
+    places: Vec<(u64, u128)>,
+}
+
+impl Model for Filled {
+    ghost use Rattle.std.specs.Prelude.{ℕ, List};
+    ghost use Rattle.std.specs.List.Sorted.{IsSorted};
+    ghost use Rattle.sb_rows.specs.inner.Filled.{pair_cmp};
+
+    ghost Value = { List (ℕ × ℕ) };
+
+    ghost view = { λ filled. filled.places.items };
+
+    ghost invariant = { λ filled. IsSorted pair_cmp filled.places.items };
+}
+
+impl Filled {
+    // These, in order.
+    pub(crate) fn of(mut places: Vec<(u64, u128)>) -> Filled
+        ensures { (x : ℕ × ℕ) → Contains places.items x → Contains result x }
+    {
+        places.sort_unstable();
+        Filled { places }
+    }
+
+    // How many there are.
+    pub(crate) fn len(&self) -> usize {
+        self.places.len()
+    }
+
+    // Those of a bucket, in order, and after them those of higher ones.
+    pub(crate) fn from_bucket(&self, bucket: u64) -> &[(u64, u128)]
+        ensures rise { IsSorted pair_cmp result.now }
+        ensures from { All (λ x. bucket ≤ x.0) result.now }
+        ensures all { (place : ℕ) → Contains self.now (bucket, place) → Contains result.now (bucket, place) }
+    {
+        let from = self.places.partition_point(|place| place.0 < bucket);
+        &self.places[from..]
+    }
+
+    // Takes out those at which no row is. It takes no memory.
+    pub(crate) fn clear(&mut self, rows: &BTreeMap<u128, Stored>)
+        requires { NumbersRise rows.now.entries }
+        ensures { (b p : ℕ) (r : row_of.Row) → Contains rows.now.entries (p, r) → Contains self.old (b, p) → Contains self.new (b, p) }
+    {
+        self.places.retain(|(_, place)| rows.contains_key(place));
+    }
+}

@@ -1,16 +1,24 @@
-ghost use Rattle.std.specs.Prelude.{◌<◌, ◌^◌, None, false, refl};
+ghost use Rattle.std.specs.Prelude.{◌≡◌, ◌<◌, ◌^◌, None, false, refl};
+ghost use Rattle.nv_base.specs.declared.field.Field.TheVariants.{EthDst};
+ghost use Rattle.expr_core.specs.Formula.Formula.{Leaf};
+ghost use Rattle.expr_core.specs.declared.part.Bits.TheVariants.{Whole};
+ghost use Rattle.expr_core.specs.declared.constant.Form.TheVariants as form;
+ghost use Rattle.expr_core.specs.declared.comparison.Rel.TheVariants.{Eq, Ne};
+ghost use Rattle.expr_core.specs.declared.comparison.Right.TheVariants.{Set};
+ghost use Rattle.expr_core.specs.declared.typed.TypedAtom.TheVariants.{Compare};
 ghost use Rattle.expr_core.specs.WellTyped.{IsTyped};
 ghost use Rattle.expr_core.specs.declared.role.Role.TheVariants as role;
 ghost use Rattle.sb_rows.specs.Row.{HasTypedMatch};
 
 use crate::fixture::{name, packet};
 use act_core::{Action, Step};
-use expr_core::{Const, Env, Form, Pred, Typed};
+use expr_core::{Bits, Const, Env, Form, Item, Pred, Rel, Right, Typed, TypedAtom};
 use expr_ports::PortNames;
 use nv_base::{Field, Items, Kept, Name, ObjId};
 use pkt_core::Packet;
 use sb_model::{
-    DatapathKind, Pipeline, Row, Stage, bit, equals, is_port, one_step, predicate, takes_each,
+    DatapathKind, Pipeline, Row, Stage, bit, equals, is_none_of, is_one_of, is_port, one_step,
+    predicate, takes_each,
 };
 use sb_rows::{Rows, put_listing};
 use std::alloc::Global;
@@ -59,6 +67,12 @@ enum Takes {
     ToMac(u64),
     // Those that came in by the port `vm-1`.
     FromPort,
+    // Those to 0a:00:00:00:00:01 or 0a:00:00:00:00:03.
+    ToOneOf,
+    // Those to other MACs than these two.
+    ToNoneOf,
+    // Those to the MACs that agree with 0a:00:00:00:00:04 in the bits of ff:00:00:00:00:05.
+    ToHoles,
 }
 
 // What a row does.
@@ -87,6 +101,33 @@ fn is_to(mac: u64) -> Typed
     equals(Field::EthDst, constant)
 }
 
+// A MAC as a number of a match.
+fn mac(value: u128) -> Const
+    ensures { result ≡ record { form = form.Mac; value = value } }
+{
+    Const {
+        form: Form::Mac,
+        value,
+    }
+}
+
+// The MACs of which `ToOneOf` and `ToNoneOf` speak.
+fn two_macs(alloc: Global, rt: &impl Abort) -> Items<Item>
+    ensures { IsTyped role.Row (Leaf (Compare EthDst Whole Eq (Set result))) × IsTyped role.Row (Leaf (Compare EthDst Whole Ne (Set result))) }
+{
+    let first = Item::One(mac(0x0a00_0000_0001));
+    let second = Item::One(mac(0x0a00_0000_0003));
+    Items::from_items(vec![in alloc; first, second].expect(rt, "memory"))
+}
+
+// The match of the packets to a MAC of a mask with holes.
+fn is_to_holes() -> Typed
+    ensures { IsTyped role.Row result }
+{
+    let item = Item::Masked(mac(0x0a00_0000_0004), mac(0xff00_0000_0005));
+    Typed::atom(TypedAtom::Compare(Field::EthDst, Bits::Whole, Rel::Eq, Right::Item(item)))
+}
+
 fn match_of(takes: Takes, alloc: Global, rt: &impl Abort) -> Typed
     ensures { IsTyped role.Row result }
 {
@@ -97,6 +138,9 @@ fn match_of(takes: Takes, alloc: Global, rt: &impl Abort) -> Typed
         Takes::To(last) => is_to(0x0a00_0000_0000 + u64::from(last)),
         Takes::ToMac(mac) => is_to(mac % (1 << 48)),
         Takes::FromPort => is_port(Field::Inport, name("vm-1", alloc, rt)),
+        Takes::ToOneOf => is_one_of(Field::EthDst, two_macs(alloc, rt)),
+        Takes::ToNoneOf => is_none_of(Field::EthDst, two_macs(alloc, rt)),
+        Takes::ToHoles => is_to_holes(),
     }
 }
 
@@ -389,11 +433,14 @@ fn some_row(random: &mut Random) -> Plain {
     } else {
         Stage::LsInL2Lkup
     };
-    let takes = match random.below(12) {
+    let takes = match random.below(16) {
         0 => Takes::Each,
         1 => Takes::ToMulticast,
         2 => Takes::FromMulticast,
         3 => Takes::FromPort,
+        4 => Takes::ToOneOf,
+        5 => Takes::ToNoneOf,
+        6 => Takes::ToHoles,
         _ => Takes::To(random.below(6) as u8),
     };
     let does = if random.below(2) == 0 {
@@ -406,6 +453,11 @@ fn some_row(random: &mut Random) -> Plain {
     Plain(dp, stage, priority, random.below(3) as u32, takes, does)
 }
 
+// Whether a MAC is one of the two of which `ToOneOf` and `ToNoneOf` speak.
+fn is_one_of_two(to: u64) -> bool {
+    to == 0x0a00_0000_0001 || to == 0x0a00_0000_0003
+}
+
 // Whether a row takes the packets from and to these MACs, which come in by no port.
 fn is_taking(takes: Takes, from: u64, to: u64) -> bool {
     match takes {
@@ -415,6 +467,9 @@ fn is_taking(takes: Takes, from: u64, to: u64) -> bool {
         Takes::To(last) => to == 0x0a00_0000_0000 + u64::from(last),
         Takes::ToMac(mac) => to == mac,
         Takes::FromPort => false,
+        Takes::ToOneOf => is_one_of_two(to),
+        Takes::ToNoneOf => !is_one_of_two(to),
+        Takes::ToHoles => to & 0xff00_0000_0005 == 0x0a00_0000_0004,
     }
 }
 

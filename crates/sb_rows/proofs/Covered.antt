@@ -1,6 +1,6 @@
 -- What an index has of its rows, as places come to it and are struck.
 use Rattle.std.proofs.Common.{◌≡◌, ℕ, Bool, true, false, cond, List, [], ◌∷◌, ◌++◌, sym, subst, refl, ◌∙◌, ◌⊎◌, inl, inr}
-use Rattle.std.specs.Prelude.{Result, Ok, Err, OnOk, Contains}
+use Rattle.std.specs.Prelude.{Contains, Option, Some}
 use Rattle.std.specs.BTreeMap.{is_at}
 use Rattle.std.specs.BTreeSet.{BTreeSet, contains}
 use Rattle.std.specs.Ordering.{nat_cmp}
@@ -15,10 +15,12 @@ use Rattle.sb_model.specs.declared.row.Row.{Row}
 use Rattle.sb_rows.specs.declared.asks.Asks.{Asks}
 use Rattle.sb_rows.specs.declared.index.Index.{Index}
 use Rattle.sb_rows.specs.declared.index.Shaped.{Shaped}
-use Rattle.sb_rows.specs.inner.Asks.{HasAsked, bucket_of, shape_of}
+use Rattle.sb_rows.specs.declared.own.Own.{Own}
+use Rattle.sb_rows.specs.inner.Asks.{HasAsked, bucket_of, name_of, numbers_of, shape_of}
 use Rattle.sb_rows.specs.inner.Filled.{pair_cmp}
 use Rattle.sb_rows.proofs.InOrder.{pairs_total}
-use Rattle.sb_rows.specs.inner.Index.{Covers, HasShape, IsCovered, IsFiled, IsIn}
+use Rattle.sb_rows.specs.inner.Index.{Covers, IsCovered, IsFiled, IsIn}
+use Rattle.sb_rows.specs.inner.Own.{IsBucketOf, own_bucket}
 
 pub pairs_exact : CmpEqualImpliesEq pair_cmp
 pairs_exact = exact_pairs nat_cmp nat_cmp exact_unsigned exact_unsigned
@@ -50,22 +52,46 @@ key_spared before after key x other taken there = (btree_set_contains_iff pairs_
 
 -- ---- the rows that are covered
 
--- what is asked is filed, unless memory ran out
-pub filed_on_ok : {X E : Type 0} (result : Result X E) (asks : Asks) (place : ℕ) (index : Index) → HasShape index.shapes.items (shape_of asks) place → OnOk result (IsIn index (bucket_of asks) place) → OnOk result (IsFiled asks place index)
-filed_on_ok (Ok x) asks place index shaped there = record { shaped = shaped; there = there }
-filed_on_ok (Err e) asks place index shaped there = tt
+-- each bucket of its own stays that
+abbrev pub AreKept : Own → Own → Type 0
+AreKept before after = (name : Option (List ℕ)) (shared : ℕ) (numbers : ℕ × ℕ × ℕ) (bucket : ℕ) → own_bucket before name shared numbers ≡ Some bucket → own_bucket after name shared numbers ≡ Some bucket
+
+-- a bucket of what is asked stays one
+pub bucket_stays : (before after : Own) (asks : Asks) (bucket : ℕ) → AreKept before after → IsBucketOf before asks bucket → IsBucketOf after asks bucket
+bucket_stays before after asks bucket kept (inl shared) = inl shared
+bucket_stays before after asks bucket kept (inr own) = inr (kept (name_of asks.port) (bucket_of asks) (numbers_of asks) bucket own)
 
 -- a row is covered by what its match asks
 pub covered_by : (row : Row) (place : ℕ) (index : Index) (asks : Asks) → ((net : Lookup) (packet : Values) → holds net packet row.matching ≡ true → HasAsked asks net packet) → IsFiled asks place index → IsCovered row place index
 covered_by row place index asks asked filed net packet takes = (asks, (asked net packet takes, filed))
 
 -- a row that is covered stays so where shapes and places are added
-pub covered_more : (row : Row) (place : ℕ) (before after : Index) → ((s : Shaped) → Contains before.shapes.items s → Contains after.shapes.items s) → ((b : ℕ) → IsIn before b place → IsIn after b place)
-    → IsCovered row place before → IsCovered row place after
-covered_more row place before after shapes held covered net packet takes =
+pub covered_more : (row : Row) (place : ℕ) (before after : Index) → ((s : Shaped) → Contains before.shapes.items s → Contains after.shapes.items s) → AreKept before.own after.own
+    → ((b : ℕ) → IsIn before b place → IsIn after b place) → IsCovered row place before → IsCovered row place after
+covered_more row place before after shapes own held covered net packet takes =
     let it = covered net packet takes in
     let has = it.1.1.shaped in
-    (it.0, (it.1.0, record { shaped = (has.0, (shapes (record { shape = shape_of it.0; from = has.0 }) has.1.0, has.1.1)); there = held (bucket_of it.0) it.1.1.there }))
+    let there = it.1.1.there in (
+      it.0,
+      (
+        it.1.0,
+        record {
+          shaped = (has.0, (shapes (record { shape = shape_of it.0; from = has.0 }) has.1.0, has.1.1));
+          there = (there.0, (bucket_stays before.own after.own it.0 there.0 own there.1.0, held there.0 there.1.1));
+        },
+      ),
+    )
+
+-- a row that is covered stays so where its place stays among those that came since
+pub covered_struck : (row : Row) (place : ℕ) (before after : Index) → after ≡ record before { more = after.more } → ((b : ℕ) → Contains before.more.keys (b, place) → Contains after.more.keys (b, place))
+    → IsCovered row place before → IsCovered row place after
+covered_struck row place before after same spared covered =
+    subst (λ (i : Index). IsCovered row place i) (sym same)
+    (covered_more row place before (record before { more = after.more }) (λ s there. there) (λ name shared numbers bucket is. is) (λ b. in_bucket b) covered)
+  where
+    in_bucket : (b : ℕ) → Contains before.filled (b, place) ⊎ Contains before.more.keys (b, place) → Contains before.filled (b, place) ⊎ Contains after.more.keys (b, place)
+    in_bucket b (inl filled) = inl filled
+    in_bucket b (inr more) = inr (spared b more)
 
 -- one more row is covered
 pub covered_next : (rows : List (ℕ × Row)) (place : ℕ) (row : Row) (before after : Index) → ((r : Row) (p : ℕ) → IsCovered r p before → IsCovered r p after) → IsCovered row place after

@@ -21,8 +21,8 @@ use Rattle.sb_model.specs.declared.row.Row.{Row}
 use Rattle.sb_rows.specs.declared.asks.Asks.{Asks}
 use Rattle.sb_rows.specs.declared.index.Index.{Index}
 use Rattle.sb_rows.specs.declared.index.Shaped.{Shaped}
-use Rattle.sb_rows.specs.inner.Asks.{HasAsked, bucket_of, shape_of}
-use Rattle.sb_rows.specs.inner.Index.{Covers, IsIn, IsNoBetter, IsTaker, IsTried}
+use Rattle.sb_rows.specs.inner.Asks.{HasAsked, shape_of}
+use Rattle.sb_rows.specs.inner.Index.{Covers, IsHeld, IsNoBetter, IsTaker, IsTried}
 use Rattle.sb_rows.specs.inner.Store.{NumbersRise, rows_of_places}
 
 -- what a look-up finds is the row at its place
@@ -110,12 +110,12 @@ module _ (net : Lookup) (packet : Values) where
 abbrev pub AreTried : Lookup → Values → List (ℕ × Row) → Index → Option (ℕ × Bor Row) → ℕ → Type 0
 AreTried net packet rows index best at =
     (k from : ℕ) (e : Shaped) (asks : Asks) (place : ℕ) → k < at → record { shape = shape_of asks; from = from } ≡ get_or index.shapes.items k e → from ≤ place → HasAsked asks net packet
-    → IsIn index (bucket_of asks) place → IsTried net packet rows best place
+    → IsHeld index asks place → IsTried net packet rows best place
 
 -- so they are with one more shape
 pub shape_next : (net : Lookup) (packet : Values) (rows : List (ℕ × Row)) (index : Index) (at : ℕ) (best new : Option (ℕ × Bor Row)) (items : List Shaped) (s : Shaped) → items ≡ index.shapes.items → at < length items
     → ((place : ℕ) → IsNoBetter best place → IsNoBetter new place)
-    → ((asks : Asks) (place : ℕ) → shape_of asks ≡ (get_or items at s).shape → (get_or items at s).from ≤ place → HasAsked asks net packet → IsIn index (bucket_of asks) place → IsTried net packet rows new place)
+    → ((asks : Asks) (place : ℕ) → shape_of asks ≡ (get_or items at s).shape → (get_or items at s).from ≤ place → HasAsked asks net packet → IsHeld index asks place → IsTried net packet rows new place)
     → AreTried net packet rows index best at → AreTried net packet rows index new (at + 1)
 shape_next net packet rows index at best new items s is within kept here so_far k from e asks place lt shaped low has there row among takes = by (ltb k at) refl
   where

@@ -15,6 +15,7 @@ pub mod Made
 pub mod Members
 pub mod OfDatapath
 pub mod Order
+pub mod OwnBuckets
 pub mod Place
 pub mod PlacedAll
 pub mod PlacedParts

@@ -1,7 +1,7 @@
 -- A row that is put at a place, or taken from one, among the rows of a table.
 use Rattle.std.proofs.Common.{◌≡◌, ℕ, zero, suc, ◌+◌, ◌<◌, ◌≤◌, Bool, true, false, cond, ltb, List, [], ◌∷◌, ◌++◌, length, take, drop, get_or, sym, ap, refl, ◌∙◌, subst, arith, inl, inr, Ok, Err}
-use Rattle.std.specs.Prelude.{◌⊎◌, Option, Some, None, IfSome, Result, IfOk}
-use Rattle.std.specs.Result.{OnOk, is_err, result_ok}
+use Rattle.std.specs.Prelude.{◌⊎◌, Option, Some, None, IfSome, Result}
+use Rattle.std.specs.Result.{OnOk, is_err}
 use Rattle.std.specs.BTreeMap.{BTreeMap, IsOrdered, Updates, UpdatesBy, get, insert_entry, is_at}
 use Rattle.std.specs.List.{All, Contains, remove}
 use Rattle.std.specs.Map.{keys_of, remove_entry}
@@ -210,10 +210,6 @@ module _ (rows : List (ℕ × Row)) where
 
   pub covers_none : (kept : Option Index) → kept ≡ None → (index : Index) → kept ≡ Some index → Covers index rows
   covers_none kept none index some = absurd (cc)
-
-  pub covers_made : {E : Type 0} (made : Result Index E) (kept : Option Index) → kept ≡ result_ok made → IfOk made (λ index. Covers index rows) → (index : Index) → kept ≡ Some index → Covers index rows
-  covers_made (Ok is) kept same covers = covers_some kept is same covers
-  covers_made (Err failed) kept same covers = covers_none kept same
 
 -- what is so where something went well
 pub added : {T E : Type 0} (made : Result T E) (P : Type 0) (failed : Bool) → failed ≡ is_err made → failed ≡ false → OnOk made P → P

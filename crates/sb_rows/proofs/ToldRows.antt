@@ -8,18 +8,24 @@ use Rattle.sb_rows.specs.declared.asks.Asks.{Asks}
 use Rattle.sb_rows.specs.declared.index.Index.{Index}
 use Rattle.sb_rows.specs.declared.index.Shaped.{Shaped}
 use Rattle.sb_rows.specs.declared.index.Told.{Told}
-use Rattle.sb_rows.specs.inner.Asks.{HasAsked, bucket_of, shape_of}
+use Rattle.sb_rows.specs.declared.own.Own.{Own}
+use Rattle.sb_rows.specs.inner.Asks.{HasAsked, shape_of}
 use Rattle.sb_rows.specs.inner.Index.{Covers, HasShape}
+use Rattle.sb_rows.specs.inner.Own.{IsBucketOf}
 use Rattle.sb_rows.specs.inner.Told.{AreTold, IsAskedBy}
+use Rattle.sb_rows.proofs.Covered.{AreKept, bucket_stays}
 
 -- a packet that has what is asked first has what is asked then
 abbrev pub Implies : Asks → Asks → Type 0
 Implies first then = (net : Lookup) (packet : Values) → HasAsked first net packet → HasAsked then net packet
 
 -- what is told is filed in buckets of shapes
-abbrev pub AreFiled : List Told → List Shaped → List (ℕ × ℕ) → Type 0
-AreFiled told shapes filled =
-    (t : Told) → Contains told t → (asks : Asks) × (Implies t.asks asks × (HasShape shapes (shape_of asks) t.place × Contains filled (bucket_of asks, t.place)))
+abbrev pub IsFiledIn : Told → List Shaped → Own → List (ℕ × ℕ) → Type 0
+IsFiledIn t shapes own filled =
+    (asks : Asks) × (Implies t.asks asks × (HasShape shapes (shape_of asks) t.place × ((bucket : ℕ) × (IsBucketOf own asks bucket × Contains filled (bucket, t.place)))))
+
+abbrev pub AreFiled : List Told → List Shaped → Own → List (ℕ × ℕ) → Type 0
+AreFiled told shapes own filled = (t : Told) → Contains told t → IsFiledIn t shapes own filled
 
 -- the last element of a list is in it
 last_is_there : {X : Type 0} (xs : List X) (x : X) → Contains (xs ++ x ∷ []) x
@@ -44,24 +50,26 @@ told_next told rows place row asks asked so_far p r there = by (Contains-push_ca
     )
 
 -- one more is filed
-pub filed_next : (told : List Told) (before after : List Shaped) (filled : List (ℕ × ℕ)) (t : Told) (asks : Asks) → Implies t.asks asks
-    → ((s : Shaped) → Contains before s → Contains after s) → HasShape after (shape_of asks) t.place → AreFiled told before filled
-    → AreFiled (told ++ t ∷ []) after (filled ++ (bucket_of asks, t.place) ∷ [])
-filed_next told before after filled t asks implied kept shaped so_far u there = by (Contains-push_cases told t u there)
+pub filed_next : (told : List Told) (before after : List Shaped) (own new : Own) (filled : List (ℕ × ℕ)) (t : Told) (asks : Asks) (bucket : ℕ) → Implies t.asks asks
+    → ((s : Shaped) → Contains before s → Contains after s) → HasShape after (shape_of asks) t.place → AreKept own new → IsBucketOf new asks bucket → AreFiled told before own filled
+    → AreFiled (told ++ t ∷ []) after new (filled ++ (bucket, t.place) ∷ [])
+filed_next told before after own new filled t asks bucket implied kept shaped stays is_bucket so_far u there = by (Contains-push_cases told t u there)
   where
-    by : Contains told u ⊎ (t ≡ u) → (a : Asks) × (Implies u.asks a × (HasShape after (shape_of a) u.place × Contains (filled ++ (bucket_of asks, t.place) ∷ []) (bucket_of a, u.place)))
+    by : Contains told u ⊎ (t ≡ u) → IsFiledIn u after new (filled ++ (bucket, t.place) ∷ [])
     by (inl old) =
         let it = so_far u old in
         let has = it.1.1.0 in
-        (it.0, (it.1.0, ((has.0, (kept (record { shape = shape_of it.0; from = has.0 }) has.1.0, has.1.1)), Contains-append_left filled ((bucket_of asks, t.place) ∷ []) (bucket_of it.0, u.place) it.1.1.1)))
+        let in_bucket = it.1.1.1 in
+        (it.0, (it.1.0, ((has.0, (kept (record { shape = shape_of it.0; from = has.0 }) has.1.0, has.1.1)), (in_bucket.0, (bucket_stays own new it.0 in_bucket.0 stays in_bucket.1.0, Contains-append_left filled ((bucket, t.place) ∷ []) (in_bucket.0, u.place) in_bucket.1.1)))))
     by (inr is) =
-        subst (λ (v : Told). (a : Asks) × (Implies v.asks a × (HasShape after (shape_of a) v.place × Contains (filled ++ (bucket_of asks, t.place) ∷ []) (bucket_of a, v.place)))) is
-        (asks, (implied, (shaped, last_is_there filled (bucket_of asks, t.place))))
+        subst (λ (v : Told). IsFiledIn v after new (filled ++ (bucket, t.place) ∷ [])) is
+        (asks, (implied, (shaped, (bucket, (is_bucket, last_is_there filled (bucket, t.place))))))
 
 -- rows are covered by what is filed of them
-pub covered_by_filed : (told : List Told) (rows : List (ℕ × Row)) (filled : List (ℕ × ℕ)) (index : Index) → AreTold told rows → AreFiled told index.shapes.items filled
+pub covered_by_filed : (told : List Told) (rows : List (ℕ × Row)) (filled : List (ℕ × ℕ)) (index : Index) → AreTold told rows → AreFiled told index.shapes.items index.own filled
     → ((x : ℕ × ℕ) → Contains filled x → Contains index.filled x) → Covers index rows
 covered_by_filed told rows filled index are filed all place row there net packet takes =
     let it = are place row there in
     let own = filed (record { place = place; asks = it.0 }) it.1.0 in
-    (own.0, (own.1.0 net packet (it.1.1 net packet takes), record { shaped = own.1.1.0; there = inl (all (bucket_of own.0, place) own.1.1.1) }))
+    let in_bucket = own.1.1.1 in
+    (own.0, (own.1.0 net packet (it.1.1 net packet takes), record { shaped = own.1.1.0; there = (in_bucket.0, (in_bucket.1.0, inl (all (in_bucket.0, place) in_bucket.1.1))) }))

@@ -6,6 +6,7 @@ pub mod Exact
 pub mod Filled
 pub mod Index
 pub mod OfDatapath
+pub mod Own
 pub mod Places
 pub mod Store
 pub mod Tables

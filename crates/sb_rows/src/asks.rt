@@ -8,12 +8,15 @@ ghost use Rattle.expr_core.specs.Lookup.{Lookup};
 ghost use Rattle.expr_eval.specs.MatchMeaning.{holds};
 ghost use Rattle.expr_eval.specs.Relation.{equals, equals_item};
 ghost use Rattle.pkt_core.specs.Packet.{Values, value};
-ghost use Rattle.sb_rows.specs.inner.Asks.{Adds, AreNames, HasAsked, IsKnown, bucket_at, bucket_in, bucket_of, joined, masked_bucket, mixed, name_bucket, number_bucket, port_field, shape_of};
+ghost use Rattle.sb_rows.specs.inner.Asks.{Adds, AreNames, HasAsked, IsCalled, IsKnown, bucket_by, bucket_of, joined, low, masked_bucket, mixed, name_bucket, name_of, number_at, number_bucket, numbers_at, numbers_of, part_bucket, port_bucket, port_field, shape_of, side_of};
 
 use expr_core::{Bits, Item, Node, Rel, Right, Typed, TypedAtom};
 use expr_ports::PortNames;
 use nv_base::{Field, Name, ObjId};
 use pkt_core::Packet;
+
+// From here on buckets are not shared: each belongs to what is asked itself.
+pub(crate) const FIRST_OWN: u64 = 1 << 63;
 
 // By this number buckets are mixed.
 const MIX: u128 = 0x9E37_79B9_7F4A_7C15;
@@ -47,18 +50,27 @@ pub(crate) struct Shape {
     third: Part,
 }
 
-// A number that is asked of a packet, by its bucket.
+// The numbers of a packet that a shape has.
+pub(crate) type Numbers = (u64, u64, u64);
+
+// A number that is asked of a packet, as far as 64 bits hold it. No field has more than 48.
 #[derive(Clone, Copy)]
 struct Asked {
     part: Part,
-    bucket: u64,
+    number: u64,
 }
 
-// What a match asks of a packet: the name of a port, by its bucket, and the three numbers that have the most bits.
+// A name, and its bucket.
 #[derive(Clone, Copy)]
-pub(crate) struct Asks {
-    port: Option<Side>,
-    name: u64,
+pub(crate) struct Called<'n> {
+    pub(crate) name: &'n Name,
+    pub(crate) bucket: u64,
+}
+
+// What a match asks of a packet: the name of a port, and the three numbers that have the most bits.
+#[derive(Clone, Copy)]
+pub(crate) struct Asks<'m> {
+    port: Option<(Side, Called<'m>)>,
     first: Asked,
     second: Asked,
     third: Asked,
@@ -66,10 +78,18 @@ pub(crate) struct Asks {
 
 // The bucket that one more number tells.
 #[inline]
-fn mixed(bucket: u64, number: u128) -> u64
+fn mixed(bucket: u64, number: u64) -> u64
     ensures { result ≡ mixed bucket number }
 {
-    ((u128::from(bucket) * MIX + number % (1 << 64)) % (1 << 64)) as u64
+    low(u128::from(bucket) * MIX + u128::from(number))
+}
+
+// The low 64 bits of a number.
+#[inline]
+fn low(number: u128) -> u64
+    ensures { result ≡ low number }
+{
+    (number % (1 << 64)) as u64
 }
 
 // The bucket of a name.
@@ -78,27 +98,26 @@ fn name_bucket(name: &Name) -> u64
 {
     let mut bucket = 0;
     for byte in name.as_slice() {
-        bucket = mixed(bucket, u128::from(*byte));
+        bucket = mixed(bucket, u64::from(*byte));
     }
     bucket
 }
 
-// The bucket of a number of a field, of both of its halves.
+// The bucket of a number of a field.
 #[inline]
-fn number_bucket(field: Field, number: u128) -> u64
+fn number_bucket(field: Field, number: u64) -> u64
     ensures { result ≡ number_bucket field number }
 {
-    let high = mixed(u64::from(field.number()), number / (1 << 64));
-    mixed(high, number)
+    mixed(u64::from(field.number()), number)
 }
 
-// The bucket of the bits of a mask.
+// The bucket of a number of the bits of a mask.
 #[inline]
-fn masked_bucket(field: Field, mask: u32, number: u128) -> u64
+fn masked_bucket(field: Field, mask: u32, number: u64) -> u64
     ensures { result ≡ masked_bucket field mask number }
 {
-    let mask = u128::from(mask);
-    mixed(mixed(u64::from(field.number()), mask), number & mask)
+    let masked = mixed(u64::from(field.number()), u64::from(mask));
+    mixed(masked, number)
 }
 
 impl Part {
@@ -112,15 +131,27 @@ impl Part {
         }
     }
 
-    // The bucket of what a packet has there.
+    // The number that a packet has there.
     #[inline]
-    fn bucket_at(self, packet: &Packet) -> u64
-        ensures { result ≡ bucket_at self packet.now }
+    fn number_at(self, packet: &Packet) -> u64
+        ensures { result ≡ number_at self packet.now }
     {
         match self {
             Part::Anything => 0,
-            Part::Number(field) => number_bucket(field, packet.get(field)),
-            Part::Masked(field, mask) => masked_bucket(field, mask, packet.get(field)),
+            Part::Number(field) => low(packet.get(field)),
+            Part::Masked(field, mask) => low(packet.get(field) & u128::from(mask)),
+        }
+    }
+
+    // The bucket of a number there.
+    #[inline]
+    fn bucket(self, number: u64) -> u64
+        ensures { result ≡ part_bucket self number }
+    {
+        match self {
+            Part::Anything => 0,
+            Part::Number(field) => number_bucket(field, number),
+            Part::Masked(field, mask) => masked_bucket(field, mask, number),
         }
     }
 }
@@ -138,43 +169,50 @@ impl Side {
     }
 }
 
-// The buckets of the names that a packet's port may have.
+// The names that a packet's port may have.
 #[derive(Clone, Copy)]
-pub(crate) struct Ports {
-    pub(crate) one: Option<u64>,
-    pub(crate) other: Option<u64>,
+pub(crate) struct Ports<'e> {
+    pub(crate) one: Option<Called<'e>>,
+    pub(crate) other: Option<Called<'e>>,
 }
 
 // Those of one of a packet's ports.
 #[derive(Clone, Copy)]
-pub(crate) struct Known {
+pub(crate) struct Known<'e> {
     side: Side,
-    ports: Ports,
+    ports: Ports<'e>,
 }
 
-// The bucket of a name, where there is one.
-fn bucket_of_name(name: Option<&Name>) -> Option<u64>
-    ensures { (own : List ℕ) → option_copied name.entry ≡ Some own → result ≡ Some (name_bucket own) }
+// A name and its bucket, where there is one.
+fn with_bucket(name: Option<&Name>) -> Option<Called<'_>>
+    ensures { (own : List ℕ) → option_copied name.entry ≡ Some own → IsCalled result own }
 {
     match name {
-        Some(name) => Some(name_bucket(name)),
+        Some(name) => Some(Called {
+            name,
+            bucket: name_bucket(name),
+        }),
         None => None,
     }
 }
 
-// The buckets of the names of a packet's port.
-fn ports_at<E: PortNames>(side: Side, packet: &Packet, env: &E) -> Ports
+// The names of a packet's port.
+fn ports_at<'e, E: PortNames>(side: Side, packet: &Packet, env: &'e E) -> Ports<'e>
     ensures { AreNames side result (E.lookup env.now) packet.now }
 {
     let (one, other) = env.port_names(side.port(packet));
     Ports {
-        one: bucket_of_name(one),
-        other: bucket_of_name(other),
+        one: with_bucket(one),
+        other: with_bucket(other),
     }
 }
 
 // Those of a port, where it is one of which they are wanted.
-pub(crate) fn known_at<E: PortNames>(side: Option<Side>, packet: &Packet, env: &E) -> Option<Known>
+pub(crate) fn known_at<'e, E: PortNames>(
+    side: Option<Side>,
+    packet: &Packet,
+    env: &'e E,
+) -> Option<Known<'e>>
     ensures { IsKnown result (E.lookup env.now) packet.now }
 {
     match side {
@@ -188,12 +226,12 @@ pub(crate) fn known_at<E: PortNames>(side: Option<Side>, packet: &Packet, env: &
 
 // Those of this port, which need not be asked for again where they are known.
 #[inline]
-pub(crate) fn ports_by<E: PortNames>(
-    known: Option<Known>,
+pub(crate) fn ports_by<'e, E: PortNames>(
+    known: Option<Known<'e>>,
     side: Side,
     packet: &Packet,
-    env: &E,
-) -> Ports
+    env: &'e E,
+) -> Ports<'e>
     requires { IsKnown known (E.lookup env.now) packet.now }
     ensures { AreNames side result (E.lookup env.now) packet.now }
 {
@@ -208,8 +246,7 @@ pub(crate) fn ports_by<E: PortNames>(
 fn joined(name: u64, first: u64, second: u64, third: u64) -> u64
     ensures { result ≡ joined name first second third }
 {
-    let named = mixed(name, u128::from(first));
-    mixed(mixed(named, u128::from(second)), u128::from(third))
+    mixed(mixed(mixed(name, first), second), third)
 }
 
 // Whether two parts are one.
@@ -265,29 +302,45 @@ impl Shape {
         self.port
     }
 
-    // The bucket of this shape that a packet is in whose port's name has a bucket.
+    // The numbers that a packet has.
     #[inline]
-    pub(crate) fn bucket_in(self, name: u64, packet: &Packet) -> u64
-        ensures { result ≡ bucket_in self name packet.now }
+    pub(crate) fn numbers_at(self, packet: &Packet) -> Numbers
+        ensures { result ≡ numbers_at self packet.now }
     {
-        let first = self.first.bucket_at(packet);
-        let second = self.second.bucket_at(packet);
-        joined(name, first, second, self.third.bucket_at(packet))
+        (
+            self.first.number_at(packet),
+            self.second.number_at(packet),
+            self.third.number_at(packet),
+        )
+    }
+
+    // The bucket of a name, by its own, and of numbers, which is below `FIRST_OWN`.
+    #[inline]
+    pub(crate) fn bucket(self, name: u64, numbers: Numbers) -> u64
+        ensures { result ≡ bucket_by self name numbers }
+    {
+        let (first, second, third) = numbers;
+        let joined = joined(
+            name,
+            self.first.bucket(first),
+            self.second.bucket(second),
+            self.third.bucket(third),
+        );
+        joined / 2
     }
 }
 
-impl Asks {
+impl<'m> Asks<'m> {
     // What each packet has.
-    fn nothing() -> Asks
+    fn nothing() -> Asks<'m>
         ensures { (net : Lookup) (packet : Values) → HasAsked result net packet }
     {
         let nothing = Asked {
             part: Part::Anything,
-            bucket: 0,
+            number: 0,
         };
         Asks {
             port: None,
-            name: 0,
             first: nothing,
             second: nothing,
             third: nothing,
@@ -295,19 +348,19 @@ impl Asks {
     }
 
     // What the match asks.
-    pub(crate) fn of(matching: &Typed) -> Asks
+    pub(crate) fn of(matching: &'m Typed) -> Asks<'m>
         ensures { (net : Lookup) (packet : Values) → holds net packet matching.now ≡ true → HasAsked result net packet }
     {
         Asks::nothing().with_match(matching)
     }
 
     // This, without the second and the third number.
-    pub(crate) fn in_short(self) -> Asks
-        ensures { (net : Lookup) (packet : Values) → HasAsked self net packet → HasAsked result net packet }
+    pub(crate) fn in_short(self) -> Asks<'m>
+        ensures { (net : Lookup) (packet : Values) → HasAsked self.entry net packet → HasAsked result net packet }
     {
         let nothing = Asked {
             part: Part::Anything,
-            bucket: 0,
+            number: 0,
         };
         Asks {
             second: nothing,
@@ -317,16 +370,48 @@ impl Asks {
     }
 
     // The port whose name is asked for.
-    pub(crate) fn port(self) -> Option<Side> {
-        self.port
+    pub(crate) fn side(self) -> Option<Side>
+        ensures { result ≡ side_of self.entry.port }
+    {
+        match self.port {
+            Some((side, _)) => Some(side),
+            None => None,
+        }
+    }
+
+    // The name that is asked for.
+    pub(crate) fn name(self) -> Option<&'m Name>
+        ensures { option_copied result ≡ name_of self.entry.port }
+    {
+        match self.port {
+            Some((_, called)) => Some(called.name),
+            None => None,
+        }
+    }
+
+    // Its bucket.
+    fn name_bucket(self) -> u64
+        ensures { result ≡ port_bucket self.entry.port }
+    {
+        match self.port {
+            Some((_, called)) => called.bucket,
+            None => 0,
+        }
+    }
+
+    // The numbers that are asked.
+    pub(crate) fn numbers(self) -> Numbers
+        ensures { result ≡ numbers_of self.entry }
+    {
+        (self.first.number, self.second.number, self.third.number)
     }
 
     // What its bucket is told by.
     pub(crate) fn shape(self) -> Shape
-        ensures { result ≡ shape_of self }
+        ensures { result ≡ shape_of self.entry }
     {
         Shape {
-            port: self.port,
+            port: self.side(),
             first: self.first.part,
             second: self.second.part,
             third: self.third.part,
@@ -335,21 +420,16 @@ impl Asks {
 
     // The bucket of what is asked.
     pub(crate) fn bucket(self) -> u64
-        ensures { result ≡ bucket_of self }
+        ensures { result ≡ bucket_of self.entry }
     {
-        joined(
-            self.name,
-            self.first.bucket,
-            self.second.bucket,
-            self.third.bucket,
-        )
+        self.shape().bucket(self.name_bucket(), self.numbers())
     }
 
     // This, and a number, where it has more bits than another.
     #[inline(always)]
-    fn with_number(self, asked: Asked) -> Asks
-        ensures { (net : Lookup) (packet : Values) → HasAsked self net packet
-            → bucket_at asked.part packet ≡ asked.bucket → HasAsked result net packet }
+    fn with_number(self, asked: Asked) -> Asks<'m>
+        ensures { (net : Lookup) (packet : Values) → HasAsked self.entry net packet
+            → number_at asked.part packet ≡ asked.number → HasAsked result net packet }
     {
         let width = asked.part.width();
         if width > self.first.part.width() {
@@ -376,8 +456,8 @@ impl Asks {
     }
 
     // This, and the bits of a mask, where they are the first of 32, and not none.
-    fn with_masked(self, field: Field, base: u128, mask: u128) -> Asks
-        ensures { (net : Lookup) (packet : Values) → HasAsked self net packet
+    fn with_masked(self, field: Field, base: u128, mask: u128) -> Asks<'m>
+        ensures { (net : Lookup) (packet : Values) → HasAsked self.entry net packet
             → bit_and (value packet field) mask ≡ bit_and base mask → HasAsked result net packet }
     {
         let all = (1 << 32) - 1;
@@ -387,28 +467,33 @@ impl Asks {
         let mask = mask as u32;
         self.with_number(Asked {
             part: Part::Masked(field, mask),
-            bucket: masked_bucket(field, mask, base),
+            number: low(base & u128::from(mask)),
         })
     }
 
     // This, and the name of a port, where none is asked for yet.
-    fn with_name(self, side: Side, name: &Name) -> Asks
-        ensures { (net : Lookup) (packet : Values) → HasAsked self net packet
+    fn with_name(self, side: Side, name: &'m Name) -> Asks<'m>
+        ensures { (net : Lookup) (packet : Values) → HasAsked self.entry net packet
             → net.port name.now ≡ Some (record { 0 = value packet (port_field side) }) → HasAsked result net packet }
     {
         if self.port.is_some() {
             return self;
         }
         Asks {
-            port: Some(side),
-            name: name_bucket(name),
+            port: Some((
+                side,
+                Called {
+                    name,
+                    bucket: name_bucket(name),
+                },
+            )),
             ..self
         }
     }
 
     // This, and the name of the port of a field, where it is a port's.
-    fn with_port(self, field: Field, name: &Name) -> Asks
-        ensures { (net : Lookup) (packet : Values) → HasAsked self net packet
+    fn with_port(self, field: Field, name: &'m Name) -> Asks<'m>
+        ensures { (net : Lookup) (packet : Values) → HasAsked self.entry net packet
             → net.port name.now ≡ Some (record { 0 = value packet field }) → HasAsked result net packet }
     {
         match field {
@@ -420,14 +505,14 @@ impl Asks {
 
     // This, and that a number of a field equals an item.
     #[inline(always)]
-    fn with_item(self, field: Field, item: &Item) -> Asks
-        ensures { (net : Lookup) (packet : Values) (width : ℕ) → HasAsked self net packet
+    fn with_item(self, field: Field, item: &'m Item) -> Asks<'m>
+        ensures { (net : Lookup) (packet : Values) (width : ℕ) → HasAsked self.entry net packet
             → equals_item net width (value packet field) item.now ≡ true → HasAsked result net packet }
     {
         match item {
             Item::One(constant) => self.with_number(Asked {
                 part: Part::Number(field),
-                bucket: number_bucket(field, constant.value),
+                number: low(constant.value),
             }),
             Item::Masked(base, mask) => self.with_masked(field, base.value, base.mask_of(*mask)),
             Item::Text(name) => self.with_port(field, name),
@@ -437,8 +522,8 @@ impl Asks {
 
     // This, and that a number of a field equals an item or one of them, where it is one.
     #[inline(always)]
-    fn with_right(self, field: Field, right: &Right) -> Asks
-        ensures { (net : Lookup) (packet : Values) (width : ℕ) → HasAsked self net packet
+    fn with_right(self, field: Field, right: &'m Right) -> Asks<'m>
+        ensures { (net : Lookup) (packet : Values) (width : ℕ) → HasAsked self.entry net packet
             → equals net width (value packet field) right.now ≡ true → HasAsked result net packet }
     {
         match right {
@@ -452,8 +537,8 @@ impl Asks {
 
     // This, and what the comparison of a part of a field asks.
     #[inline(always)]
-    fn with_comparison(self, field: Field, bits: Bits, rel: Rel, right: &Right) -> Asks
-        ensures { Adds (Leaf (Compare field bits rel right.now)) self result }
+    fn with_comparison(self, field: Field, bits: Bits, rel: Rel, right: &'m Right) -> Asks<'m>
+        ensures { Adds (Leaf (Compare field bits rel right.now)) self.entry result }
     {
         match (bits, rel) {
             (Bits::Whole, Rel::Eq) => self.with_right(field, right),
@@ -463,8 +548,8 @@ impl Asks {
 
     // This, and what an atom asks.
     #[inline(always)]
-    fn with_atom(self, atom: &TypedAtom) -> Asks
-        ensures { Adds (Leaf atom.now) self result }
+    fn with_atom(self, atom: &'m TypedAtom) -> Asks<'m>
+        ensures { Adds (Leaf atom.now) self.entry result }
     {
         match atom {
             TypedAtom::Compare(field, bits, rel, right) => {
@@ -475,8 +560,8 @@ impl Asks {
     }
 
     // This, and what a match without operators asks.
-    fn with_plain(self, matching: &Typed) -> Asks
-        ensures { Adds matching.now self result }
+    fn with_plain(self, matching: &'m Typed) -> Asks<'m>
+        ensures { Adds matching.now self.entry result }
     {
         match &matching.node {
             Node::Atom(atom) => self.with_atom(atom),
@@ -485,8 +570,8 @@ impl Asks {
     }
 
     // This, and what operands ask of a conjunction, those without operators.
-    fn with_plain_ones(self, operands: &[Typed]) -> Asks
-        ensures { Adds (And (formulas operands.now)) self result }
+    fn with_plain_ones(self, operands: &'m [Typed]) -> Asks<'m>
+        ensures { Adds (And (formulas operands.now)) self.entry result }
     {
         let mut asks = self;
         for operand in operands {
@@ -496,8 +581,8 @@ impl Asks {
     }
 
     // This, and what a match asks that is an operand.
-    fn with_operand(self, matching: &Typed) -> Asks
-        ensures { Adds matching.now self result }
+    fn with_operand(self, matching: &'m Typed) -> Asks<'m>
+        ensures { Adds matching.now self.entry result }
     {
         match &matching.node {
             Node::And(operands) => self.with_plain_ones(operands),
@@ -506,8 +591,8 @@ impl Asks {
     }
 
     // This, and what operands ask of a conjunction.
-    fn with_operands(self, operands: &[Typed]) -> Asks
-        ensures { Adds (And (formulas operands.now)) self result }
+    fn with_operands(self, operands: &'m [Typed]) -> Asks<'m>
+        ensures { Adds (And (formulas operands.now)) self.entry result }
     {
         let mut asks = self;
         for operand in operands {
@@ -517,8 +602,8 @@ impl Asks {
     }
 
     // This, and what a match asks: of a conjunction its operands, and of one among these its own.
-    fn with_match(self, matching: &Typed) -> Asks
-        ensures { Adds matching.now self result }
+    fn with_match(self, matching: &'m Typed) -> Asks<'m>
+        ensures { Adds matching.now self.entry result }
     {
         match &matching.node {
             Node::And(operands) => self.with_operands(operands),

@@ -2,57 +2,53 @@
 ghost use Rattle.std.specs.Prelude.{◌≡◌};
 ghost use Rattle.expr_core.specs.Lookup.{Lookup};
 ghost use Rattle.pkt_core.specs.Packet.{Values};
-ghost use Rattle.sb_rows.specs.inner.Asks.{HasAsked};
+ghost use Rattle.sb_rows.specs.inner.Asks.{HasAsked, bucket_of};
 
 use crate::asks::Asks;
+use crate::counts::Counts;
 use nv_base::OutOfMemory;
 use std::alloc::Global;
 
 // So many rows may ask for the same in short. Where more do, each is told by all that its match asks.
 const FEW: u8 = 8;
 
-// How many rows ask for what is the same in short: counts, each of the buckets of one remainder. Buckets that share it by chance are told
-// by more than they need be.
+// How many rows ask for what is the same in short.
 #[derive(Drop)]
 pub(crate) struct Crowds {
-    counts: Vec<u8>,
+    counts: Counts,
 }
 
 impl Crowds {
     // Nothing is noted yet, of so many rows.
     pub(crate) fn new(alloc: Global, rows: usize) -> Result<Crowds, OutOfMemory> {
         Ok(Crowds {
-            counts: vec![in alloc; 0; rows]?,
+            counts: Counts::new(alloc, rows)?,
         })
     }
 
-    // The place of the count of a bucket.
-    fn place(&self, asks: Asks) -> usize {
-        let counts = self.counts.len().max(1) as u64;
-        (asks.in_short().bucket() % counts) as usize
-    }
-
     // Notes what one row more asks.
-    pub(crate) fn note(&mut self, asks: Asks) {
-        let place = self.place(asks);
-        if let Some(count) = self.counts.get_mut(place) {
-            *count = count.saturating_add(1);
-        }
+    pub(crate) fn note(&mut self, asks: Asks<'_>) {
+        self.counts.note(asks.in_short().bucket());
     }
 
-    // What a row is told by: all that its match asks where many ask for the same in short, else that.
-    pub(crate) fn chosen(&self, asks: Asks) -> Asks
-        ensures { (net : Lookup) (packet : Values) → HasAsked asks net packet → HasAsked result net packet }
+    // What a row is told by: all that its match asks where many ask for the same in short, else that; and the bucket of this.
+    pub(crate) fn chosen<'m>(&self, asks: Asks<'m>) -> (Asks<'m>, u64)
+        ensures asked { (net : Lookup) (packet : Values) → HasAsked asks.entry net packet → HasAsked result.0 net packet }
+        ensures bucket { result.1 ≡ bucket_of result.0 }
     {
-        match self.counts.get(self.place(asks)) {
-            Some(count) if *count <= FEW => asks.in_short(),
-            _ => asks,
+        let short = asks.in_short();
+        let bucket = short.bucket();
+        if self.counts.are_at_most(FEW, bucket) {
+            (short, bucket)
+        } else {
+            (asks, asks.bucket())
         }
     }
 
     // The same, once it is noted.
-    pub(crate) fn join(&mut self, asks: Asks) -> Asks
-        ensures { (net : Lookup) (packet : Values) → HasAsked asks net packet → HasAsked result net packet }
+    pub(crate) fn join<'m>(&mut self, asks: Asks<'m>) -> (Asks<'m>, u64)
+        ensures asked { (net : Lookup) (packet : Values) → HasAsked asks.entry net packet → HasAsked result.0 net packet }
+        ensures bucket { result.1 ≡ bucket_of result.0 }
     {
         self.note(asks);
         self.chosen(asks)

@@ -1,23 +1,26 @@
 //! What is kept of a table that has many rows, by which those that may take a packet are found.
-ghost use Rattle.std.specs.Prelude.{◌≡◌, ◌<◌, ◌≤◌, ℕ, Contains, IfOk, IsTrue, OnOk, Some};
+ghost use Rattle.std.specs.Prelude.{◌≡◌, ◌<◌, ◌≤◌, ℕ, List, Contains, IfOk, IsTrue, OnOk, Some};
 ghost use Rattle.std.specs.List.{find};
 ghost use Rattle.std.specs.Option.{option_copied};
 ghost use Rattle.expr_eval.specs.MatchMeaning.{holds};
 ghost use Rattle.sb_model.specs.declared.row.Row as row_of;
 ghost use Rattle.sb_rows.specs.declared.asks.Asks.{Asks};
 ghost use Rattle.sb_rows.specs.declared.index.Shaped.{Shaped};
-ghost use Rattle.sb_rows.specs.inner.Asks.{HasAsked, IsKnown, bucket_in, bucket_of, shape_of};
+ghost use Rattle.sb_rows.specs.declared.index.Wanted.{Wanted};
+ghost use Rattle.sb_rows.specs.inner.Asks.{HasAsked, IsCalled, IsKnown, bucket_by, bucket_of, name_bucket, name_of, numbers_of, shape_of};
 ghost use Rattle.sb_rows.specs.inner.Told.{AreTold};
-ghost use Rattle.sb_rows.specs.inner.Index.{Covers, HasShape, IsCovered, IsFiled, IsIn, IsNoBetter, IsTaker, IsTried};
+ghost use Rattle.sb_rows.specs.inner.Index.{Covers, HasShape, IsCovered, IsFiled, IsHeld, IsIn, IsNoBetter, IsTaker, IsTried, IsWanted};
 ghost use Rattle.sb_rows.specs.inner.Store.{ArePlaced, NumbersRise, rows_of_places};
 
-use crate::asks::{Asks, Known, Shape, Side, known_at, ports_by};
+use crate::asks::{Asks, Called, Known, Numbers, Shape, Side, known_at, ports_by};
+use crate::counts::Counts;
 use crate::crowds::Crowds;
 use crate::filled::Filled;
+use crate::own::Own;
 use crate::stored::Stored;
 use expr_core::Env;
 use expr_ports::PortNames;
-use nv_base::OutOfMemory;
+use nv_base::{Name, OutOfMemory};
 use pkt_core::Packet;
 use sb_model::Row;
 use std::alloc::Global;
@@ -26,11 +29,23 @@ use std::collections::{BTreeMap, BTreeSet};
 // The rows of a table by their places.
 pub(crate) type Places = BTreeMap<u128, Stored>;
 
+// So many places are in a bucket that unlike rows may share, of those that were known at once and of those that came since. Others are in
+// buckets of their own.
+const ROOM: u8 = 8;
+
 // What the match of the row at a place asks.
 #[derive(Clone, Copy)]
-struct Told {
+struct Told<'r> {
     place: u128,
-    asks: Asks,
+    asks: Asks<'r>,
+}
+
+// What is looked for: a bucket, and the name and the numbers that may have one of their own.
+#[derive(Clone, Copy)]
+struct Wanted<'n> {
+    bucket: u64,
+    name: Option<&'n Name>,
+    numbers: Numbers,
 }
 
 // A row at its place.
@@ -54,6 +69,8 @@ pub(crate) struct Index {
     filled: Filled,
     // Those that came since, after their buckets.
     more: BTreeSet<(u64, u128)>,
+    // The buckets of those for which there was no room in others.
+    own: Own,
     // What it is worth to tell rows by all that their matches ask.
     crowds: Crowds,
     // How many places were struck since the first ones were cleared.
@@ -70,40 +87,68 @@ impl Index {
         let mut side = None;
         let mut shapes = Vec::new(alloc);
         let mut filled = Vec::with_capacity(alloc, told.len())?;
+        let mut own = Own::new(alloc);
+        let mut counts = Counts::new(alloc, rows.len())?;
         for row in told {
-            let asks = crowds.chosen(row.asks);
-            side = side.or(asks.port());
+            let (asks, shared) = crowds.chosen(row.asks);
+            side = side.or(asks.side());
             add_shape(&mut shapes, asks.shape(), row.place, row.place)?;
-            filled.push((asks.bucket(), row.place))?;
+            counts.note(shared);
+            let is_full = !counts.are_at_most(ROOM, shared);
+            let bucket = own.bucket_for(alloc, asks, shared, is_full)?;
+            filled.push((bucket, row.place))?;
         }
         Ok(Index {
             side,
             shapes,
             filled: Filled::of(filled),
             more: BTreeSet::new(alloc),
+            own,
             crowds,
             struck: 0,
         })
     }
 
     // Adds the place of a row with this match. After `OutOfMemory` all that was covered is.
-    pub(crate) fn add(&mut self, row: &Row, place: u128) -> Result<(), OutOfMemory>
+    pub(crate) fn add(&mut self, alloc: Global, row: &Row, place: u128) -> Result<(), OutOfMemory>
         ensures added { OnOk result (IsCovered row.now place self.new) }
         ensures kept { (r : row_of.Row) (p : ℕ) → IsCovered r p self.old → IsCovered r p self.new }
     {
-        let asks = self.crowds.join(Asks::of(&row.matching));
-        self.add_asks(asks, place)
+        let (asks, shared) = self.crowds.join(Asks::of(&row.matching));
+        self.add_asks(alloc, asks, shared, place)
     }
 
-    // Adds a place to the bucket of what is asked.
-    fn add_asks(&mut self, asks: Asks, place: u128) -> Result<(), OutOfMemory>
-        ensures added { OnOk result (IsFiled asks place self.new) }
+    // Adds a place to a bucket of what is asked, with the one that this may share.
+    fn add_asks(
+        &mut self,
+        alloc: Global,
+        asks: Asks<'_>,
+        shared: u64,
+        place: u128,
+    ) -> Result<(), OutOfMemory>
+        requires { shared ≡ bucket_of asks }
+        ensures added { OnOk result (IsFiled asks.entry place self.new) }
         ensures kept { (r : row_of.Row) (p : ℕ) → IsCovered r p self.old → IsCovered r p self.new }
     {
-        self.side = self.side.or(asks.port());
+        self.side = self.side.or(asks.side());
         add_shape(&mut self.shapes, asks.shape(), place, 0)?;
-        self.more.insert((asks.bucket(), place))?;
+        let is_full = self.is_full(shared);
+        let bucket = self.own.bucket_for(alloc, asks, shared, is_full)?;
+        self.more.insert((bucket, place))?;
         Ok(())
+    }
+
+    // Whether it has many more buckets than a table of so many rows needs.
+    pub(crate) fn is_old(&self, rows: usize) -> bool {
+        self.own.len() / 2 > rows
+    }
+
+    // Whether so many places came to a bucket as there is room for.
+    fn is_full(&self, bucket: u64) -> bool {
+        match self.more.range((bucket, 0)..).nth(usize::from(ROOM - 1)) {
+            Some((there, _)) => *there == bucket,
+            None => false,
+        }
     }
 
     // Strikes the place of a row with this match, where it is there. Other places stay that have rows. It takes no memory.
@@ -112,12 +157,24 @@ impl Index {
         ensures { (r : row_of.Row) (p : ℕ) → Contains rows.now.entries (p, r) → (p ≡ place → ⊥) → IsCovered r p self.old → IsCovered r p self.new }
     {
         let asks = Asks::of(&row.matching);
-        self.more.remove(&(asks.in_short().bucket(), place));
-        self.more.remove(&(asks.bucket(), place));
+        self.strike_asked(asks.in_short(), place);
+        self.strike_asked(asks, place);
         self.struck = self.struck.saturating_add(1);
         if self.struck > self.filled.len() / 2 {
             self.filled.clear(rows);
             self.struck = 0;
+        }
+    }
+
+    // Strikes a place from the buckets of what is asked.
+    fn strike_asked(&mut self, asks: Asks<'_>, place: u128)
+        ensures same { self.new ≡ record self.old { more = self.new.more } }
+        ensures others { (b p : ℕ) → (p ≡ place → ⊥) → Contains self.old.more.keys (b, p) → Contains self.new.more.keys (b, p) }
+    {
+        let shared = asks.bucket();
+        self.more.remove(&(shared, place));
+        if let Some(bucket) = self.own.bucket(asks.name(), shared, asks.numbers()) {
+            self.more.remove(&(bucket, place));
         }
     }
 
@@ -148,7 +205,7 @@ impl Index {
         &self,
         rows: &'r Places,
         shape: Shape,
-        known: Option<Known>,
+        known: Option<Known<'_>>,
         best: Option<Found<'r>>,
         packet: &Packet,
         env: &E,
@@ -158,27 +215,33 @@ impl Index {
         requires known { IsKnown known (E.lookup env.now) packet.now }
         ensures taker { IsTaker (E.lookup env.now) packet.now rows.now.entries result }
         ensures kept { (p : ℕ) → IsNoBetter best.entry p → IsNoBetter result p }
-        ensures tried { (asks : Asks) (p : ℕ) → shape_of asks ≡ shape → HasAsked asks (E.lookup env.now) packet.now → IsIn self.now (bucket_of asks) p → IsTried (E.lookup env.now) packet.now rows.now.entries result p }
+        ensures tried { (asks : Asks) (p : ℕ) → shape_of asks ≡ shape → HasAsked asks (E.lookup env.now) packet.now → IsHeld self.now asks p → IsTried (E.lookup env.now) packet.now rows.now.entries result p }
     {
+        let numbers = shape.numbers_at(packet);
         match shape.port() {
             None => {
-                let bucket = shape.bucket_in(0, packet);
-                self.first_in_bucket(rows, bucket, best, packet, env)
+                let wanted = Wanted {
+                    bucket: shape.bucket(0, numbers),
+                    name: None,
+                    numbers,
+                };
+                self.first_wanted(rows, wanted, best, packet, env)
             }
             Some(side) => {
                 let ports = ports_by(known, side, packet, env);
-                let first = self.first_named(rows, shape, ports.one, best, packet, env);
-                self.first_named(rows, shape, ports.other, first, packet, env)
+                let one = wanted_by(shape, ports.one, numbers);
+                let first = self.first_named(rows, one, best, packet, env);
+                let other = wanted_by(shape, ports.other, numbers);
+                self.first_named(rows, other, first, packet, env)
             }
         }
     }
 
-    // The same of the bucket of a shape and of a port's name; where there is no name, the best so far.
+    // The same of what is wanted; where nothing is, the best so far.
     fn first_named<'r, E: Env>(
         &self,
         rows: &'r Places,
-        shape: Shape,
-        name: Option<u64>,
+        wanted: Option<Wanted<'_>>,
         best: Option<Found<'r>>,
         packet: &Packet,
         env: &E,
@@ -187,14 +250,38 @@ impl Index {
         requires taker { IsTaker (E.lookup env.now) packet.now rows.now.entries best }
         ensures taker { IsTaker (E.lookup env.now) packet.now rows.now.entries result }
         ensures kept { (p : ℕ) → IsNoBetter best.entry p → IsNoBetter result p }
-        ensures tried { (own p : ℕ) → name ≡ Some own → IsIn self.now (bucket_in shape own packet.now) p → IsTried (E.lookup env.now) packet.now rows.now.entries result p }
+        ensures tried { (w : Wanted) (asks : Asks) (p : ℕ) → wanted.entry ≡ Some w → IsWanted w asks → IsHeld self.now asks p → IsTried (E.lookup env.now) packet.now rows.now.entries result p }
     {
-        match name {
+        match wanted {
             None => best,
-            Some(name) => {
-                let bucket = shape.bucket_in(name, packet);
-                self.first_in_bucket(rows, bucket, best, packet, env)
-            }
+            Some(wanted) => self.first_wanted(rows, wanted, best, packet, env),
+        }
+    }
+
+    // The same of the bucket that is wanted, and of the one that its name and numbers have of their own.
+    #[inline]
+    fn first_wanted<'r, E: Env>(
+        &self,
+        rows: &'r Places,
+        wanted: Wanted<'_>,
+        best: Option<Found<'r>>,
+        packet: &Packet,
+        env: &E,
+    ) -> Option<Found<'r>>
+        requires placed { ArePlaced rows.now.entries }
+        requires taker { IsTaker (E.lookup env.now) packet.now rows.now.entries best }
+        ensures taker { IsTaker (E.lookup env.now) packet.now rows.now.entries result }
+        ensures kept { (p : ℕ) → IsNoBetter best.entry p → IsNoBetter result p }
+        ensures tried { (asks : Asks) (p : ℕ) → IsWanted wanted.entry asks → IsHeld self.now asks p → IsTried (E.lookup env.now) packet.now rows.now.entries result p }
+    {
+        let first = self.first_in_bucket(rows, wanted.bucket, best, packet, env);
+        if self.own.is_empty() {
+            return first;
+        }
+        let own = self.own.bucket(wanted.name, wanted.bucket, wanted.numbers);
+        match own {
+            None => first,
+            Some(bucket) => self.first_in_bucket(rows, bucket, first, packet, env),
         }
     }
 
@@ -271,6 +358,22 @@ impl Index {
     }
 }
 
+// What is wanted of a shape by a name, where there is one, and by numbers.
+#[inline]
+fn wanted_by<'n>(shape: Shape, called: Option<Called<'n>>, numbers: Numbers) -> Option<Wanted<'n>>
+    ensures { (name : List ℕ) (asks : Asks) → IsCalled called.entry name → name_of asks.port ≡ Some name → bucket_of asks ≡ bucket_by shape (name_bucket name) numbers → numbers_of asks ≡ numbers
+        → (w : Wanted) × ((result ≡ Some w) × IsWanted w asks) }
+{
+    match called {
+        Some(called) => Some(Wanted {
+            bucket: shape.bucket(called.bucket, numbers),
+            name: Some(called.name),
+            numbers,
+        }),
+        None => None,
+    }
+}
+
 // Whether a place is before that of the best so far, if there is one.
 #[inline]
 fn is_before(place: u128, best: Option<Found<'_>>) -> bool
@@ -307,7 +410,11 @@ fn better<'r, E: Env>(
 }
 
 // What the matches of these rows ask, which is noted in the crowds.
-fn told_of(alloc: Global, rows: &Places, crowds: &mut Crowds) -> Result<Vec<Told>, OutOfMemory>
+fn told_of<'r>(
+    alloc: Global,
+    rows: &'r Places,
+    crowds: &mut Crowds,
+) -> Result<Vec<Told<'r>>, OutOfMemory>
     ensures { IfOk result (λ told. AreTold told.items rows.now.entries) }
 {
     let mut told = Vec::with_capacity(alloc, rows.len())?;

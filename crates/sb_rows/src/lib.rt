@@ -4,6 +4,7 @@
 
 mod asks;
 mod by_text;
+mod counts;
 mod crowds;
 mod datapath_rows;
 mod filled;
@@ -11,6 +12,7 @@ mod index;
 mod laws;
 mod listing;
 mod new_rows;
+mod own;
 mod row_list;
 mod rows;
 mod spacing;

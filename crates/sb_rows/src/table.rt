@@ -140,6 +140,7 @@ impl Table {
     {
         let mut rooms = Rooms::new(alloc);
         let Some(row) = self.put_where_free(alloc, row, &mut rooms)? else {
+            self.renew(alloc);
             return Ok(());
         };
         // No place is left between two rows. They are set apart anew, in a table of their own until that is whole.
@@ -189,6 +190,19 @@ impl Table {
                 drop(row);
                 Err(failed)
             }
+        }
+    }
+
+    // Makes what the rows are found by, where they are many and it is not there or has grown old. Where there is no memory for it, all is
+    // as it was.
+    fn renew(&mut self, alloc: Global)
+        ensures { self.new ≡ self.old }
+    {
+        if !wants_index(&self.index, self.rows.len()) {
+            return;
+        }
+        if let Ok(index) = Index::of(alloc, &self.rows) {
+            drop(mem::replace(&mut self.index, Some(index)));
         }
     }
 
@@ -269,17 +283,21 @@ fn put_at(
     ensures err { OnErr result (rows.new.entries ≡ rows.old.entries) }
 {
     if let Some(kept) = index {
-        if kept.add(row.row(), place).is_err() {
+        if kept.add(alloc, row.row(), place).is_err() {
             drop(row);
             return Err(OutOfMemory);
         }
     }
     rows.insert(place, row)?;
-    if index.is_none() && rows.len() >= FEW {
-        // Where there is no memory for it the rows are looked through until another one comes.
-        *index = Index::of(alloc, rows).ok();
-    }
     Ok(())
+}
+
+// Whether so many rows are to be found by what is not there, or has grown old.
+fn wants_index(index: &Option<Index>, rows: usize) -> bool {
+    match index {
+        Some(kept) => kept.is_old(rows),
+        None => rows >= FEW,
+    }
 }
 
 // A free place at which a row of this table goes, if one is left between those before and after it.

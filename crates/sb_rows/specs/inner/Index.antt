@@ -2,6 +2,7 @@
 use Rattle.std.specs.Borrow.{Bor}
 use Rattle.std.specs.Prelude.{◌≡◌, ◌⊎◌, ◌≤◌, ⊤, ℕ, true, List, Option, None, Some}
 use Rattle.std.specs.List.{Contains}
+use Rattle.std.specs.Option.{option_copied}
 use Rattle.expr_core.specs.Lookup.{Lookup}
 use Rattle.expr_eval.specs.MatchMeaning.{holds}
 use Rattle.pkt_core.specs.Packet.{Values}
@@ -10,20 +11,32 @@ use Rattle.sb_rows.specs.declared.asks.Asks.{Asks}
 use Rattle.sb_rows.specs.declared.asks.Shape.{Shape}
 use Rattle.sb_rows.specs.declared.index.Index.{Index}
 use Rattle.sb_rows.specs.declared.index.Shaped.{Shaped}
-use Rattle.sb_rows.specs.inner.Asks.{HasAsked, bucket_of, shape_of}
+use Rattle.sb_rows.specs.declared.index.Wanted.{Wanted}
+use Rattle.sb_rows.specs.inner.Asks.{HasAsked, bucket_of, name_of, numbers_of, shape_of}
+use Rattle.sb_rows.specs.inner.Own.{IsBucketOf}
 
 -- the bucket has the place
 abbrev pub IsIn : Index → ℕ → ℕ → Type 0
 IsIn index bucket place = Contains index.filled (bucket, place) ⊎ Contains index.more.keys (bucket, place)
 
+-- a bucket of what is asked has the place
+abbrev pub IsHeld : Index → Asks → ℕ → Type 0
+IsHeld index asks place = (bucket : ℕ) × (IsBucketOf index.own asks bucket × IsIn index bucket place)
+
+-- what is wanted is what is asked
+pub record IsWanted (wanted : Wanted) (asks : Asks) : Type 0 where
+  pub bucket : bucket_of asks ≡ wanted.bucket
+  pub name : name_of asks.port ≡ option_copied wanted.name
+  pub numbers : numbers_of asks ≡ wanted.numbers
+
 -- there is such a shape, with a place that is not after this one
 abbrev pub HasShape : List Shaped → Shape → ℕ → Type 0
 HasShape shapes shape place = (from : ℕ) × (Contains shapes (record { shape = shape; from = from }) × (from ≤ place))
 
--- the place is in the bucket of what is asked, which has one of the shapes
+-- the place is in a bucket of what is asked, which has one of the shapes
 pub record IsFiled (asks : Asks) (place : ℕ) (index : Index) : Type 0 where
   pub shaped : HasShape index.shapes.items (shape_of asks) place
-  pub there : IsIn index (bucket_of asks) place
+  pub there : IsHeld index asks place
 
 -- each packet that the row at this place may take has what is asked of one of its buckets
 abbrev pub IsCovered : Row → ℕ → Index → Type 0

@@ -1,6 +1,6 @@
 use Rattle.std.proofs.Common.{◌∙◌, subst, refl, Some}
 use Rattle.sb_rows.specs.inner.Index.{IsCovered}
-use Rattle.sb_rows.proofs.PlacedPut.{added, covers_kept, covers_made, covers_none, covers_put, covers_some, rows_are_put, table_alike, table_put, table_with}
+use Rattle.sb_rows.proofs.PlacedPut.{added, covers_kept, covers_none, covers_put, covers_some, rows_are_put, table_alike, table_put, table_with}
 use Rattle.sb_rows.proofs.table.put_at.Goals as goal
 use Rattle.sb_rows.proofs.table.put_at.Goals.{in-Some+else-is_err, in_default}
 
@@ -18,19 +18,8 @@ returns-in_err-insert-clause-table c =
       | in_default w ↦ covers_none c.args.rows.now.entries c.match-index.index (w.index-is ∙ w.in_default.is)
     ]))
 
-pub returns-then-len-ge-FEW-clause-table : goal.returns-then-len-ge-FEW-clause-table
-returns-then-len-ge-FEW-clause-table c =
-    let e = c.in_ok-insert.ensures in
-    table_put c.args.rows.now c.insert.new.self c.args.place c.args.row e.was_ordered e.ordered e.updates e.entries c.requires.goes c.ok.result c.requires.table.placed c.requires.table.ordered
-    (covers_made c.insert.new.self.entries c.of.result c.ok.result c.ok.ensures.value c.of.ensures)
-
-pub returns-then-len-ge-FEW-clause-ok : goal.returns-then-len-ge-FEW-clause-ok
-returns-then-len-ge-FEW-clause-ok c =
-    let e = c.in_ok-insert.ensures in
-    rows_are_put c.args.rows.now c.insert.new.self c.args.place c.args.row e.was_ordered e.ordered e.updates e.entries c.requires.goes
-
-pub returns-else-is_none-clause-table : goal.returns-else-is_none-clause-table
-returns-else-is_none-clause-table c =
+pub returns-clause-table : goal.returns-clause-table
+returns-clause-table c =
     let e = c.in_ok-insert.ensures in
     table_put c.args.rows.now c.insert.new.self c.args.place c.args.row e.was_ordered e.ordered e.updates e.entries c.requires.goes c.match-index.index c.requires.table.placed c.requires.table.ordered
     (elim c.match-index.branch [
@@ -41,7 +30,7 @@ returns-else-is_none-clause-table c =
       | in_default w ↦ covers_none c.insert.new.self.entries c.match-index.index (w.index-is ∙ w.in_default.is)
     ])
 
-pub returns-else-is_none-clause-ok : goal.returns-else-is_none-clause-ok
-returns-else-is_none-clause-ok c =
+pub returns-clause-ok : goal.returns-clause-ok
+returns-clause-ok c =
     let e = c.in_ok-insert.ensures in
     rows_are_put c.args.rows.now c.insert.new.self c.args.place c.args.row e.was_ordered e.ordered e.updates e.entries c.requires.goes

@@ -17,8 +17,8 @@ use expr_ports::PortNames;
 use nv_base::{Field, Items, Kept, Name, ObjId};
 use pkt_core::Packet;
 use sb_model::{
-    DatapathKind, Pipeline, Row, Stage, bit, equals, is_none_of, is_one_of, is_port, one_step,
-    predicate, takes_each,
+    DatapathKind, Pipeline, Row, Stage, bit, both, equals, is_none_of, is_one_of, is_port,
+    one_step, predicate, takes_each,
 };
 use sb_rows::{Rows, put_listing};
 use std::alloc::Global;
@@ -67,6 +67,8 @@ enum Takes {
     ToMac(u64),
     // Those that came in by the port `vm-1`.
     FromPort,
+    // Those from 00:00:00:00:00:01 with this pair of further MACs, of pairs for which rows are looked for in one place.
+    WithPair(u16),
     // Those to 0a:00:00:00:00:01 or 0a:00:00:00:00:03.
     ToOneOf,
     // Those to other MACs than these two.
@@ -111,6 +113,26 @@ fn mac(value: u128) -> Const
     }
 }
 
+// A pair of MACs. By the multiplier that `Rows` mixes numbers by, all of these pairs are mixed to the same.
+fn pair(at: u16) -> (u64, u64)
+    ensures first { result.0 < 2 ^ 48 }
+    ensures second { result.1 < 2 ^ 48 }
+{
+    let at = u64::from(at);
+    (at * 2_971_215_073, at * 50_920_843)
+}
+
+// The match of the packets with a pair: to its first MAC, of an ARP sender of its second.
+fn is_with_pair(at: u16, alloc: Global, rt: &impl Abort) -> Typed
+    ensures { IsTyped role.Row result }
+{
+    let (to, sender) = pair(at);
+    let from = equals(Field::EthSrc, mac(1));
+    let sender = equals(Field::ArpSha, mac(u128::from(sender)));
+    let rest = both(alloc, is_to(to), sender).expect(rt, "memory");
+    both(alloc, from, rest).expect(rt, "memory")
+}
+
 // The MACs of which `ToOneOf` and `ToNoneOf` speak.
 fn two_macs(alloc: Global, rt: &impl Abort) -> Items<Item>
     ensures { IsTyped role.Row (Leaf (Compare EthDst Whole Eq (Set result))) × IsTyped role.Row (Leaf (Compare EthDst Whole Ne (Set result))) }
@@ -138,6 +160,7 @@ fn match_of(takes: Takes, alloc: Global, rt: &impl Abort) -> Typed
         Takes::To(last) => is_to(0x0a00_0000_0000 + u64::from(last)),
         Takes::ToMac(mac) => is_to(mac % (1 << 48)),
         Takes::FromPort => is_port(Field::Inport, name("vm-1", alloc, rt)),
+        Takes::WithPair(at) => is_with_pair(at, alloc, rt),
         Takes::ToOneOf => is_one_of(Field::EthDst, two_macs(alloc, rt)),
         Takes::ToNoneOf => is_none_of(Field::EthDst, two_macs(alloc, rt)),
         Takes::ToHoles => is_to_holes(),
@@ -466,7 +489,7 @@ fn is_taking(takes: Takes, from: u64, to: u64) -> bool {
         Takes::FromMulticast => (from >> 40) & 1 == 1,
         Takes::To(last) => to == 0x0a00_0000_0000 + u64::from(last),
         Takes::ToMac(mac) => to == mac,
-        Takes::FromPort => false,
+        Takes::FromPort | Takes::WithPair(_) => false,
         Takes::ToOneOf => is_one_of_two(to),
         Takes::ToNoneOf => !is_one_of_two(to),
         Takes::ToHoles => to & 0xff00_0000_0005 == 0x0a00_0000_0004,
@@ -578,5 +601,62 @@ fn each_row_that_comes_right_after_the_first_one_has_a_place(rt: HostRuntime) {
     for bit in 0..48 {
         assert!(rt; is_at(&rows, bit + 1, 1 << bit, rt.alloc(), &rt));
     }
+    drop(rows);
+}
+
+// So many pairs of MACs are asked for.
+const PAIRS: u16 = 60;
+
+// A row for a pair, with its number as the hint.
+fn with_pair(at: u16) -> Plain {
+    let hint = u32::from(at);
+    Plain(
+        1,
+        Stage::LsInL2Lkup,
+        50,
+        hint,
+        Takes::WithPair(at),
+        Does::Next,
+    )
+}
+
+// An ARP packet with a pair.
+fn packet_with_pair(at: u16) -> Packet {
+    let (to, sender) = pair(at);
+    let mut packet = packet(1, to);
+    packet.set(Field::EthType, 0x0806);
+    packet.set(Field::ArpSha, u128::from(sender));
+    packet
+}
+
+// Whether each packet with a pair meets its row, or none where that has one of the remainders that are gone.
+fn are_met_but(rows: &Rows, gone: &[u16]) -> bool {
+    (0..PAIRS).all(|at| {
+        let expected = if gone.contains(&(at % 3)) {
+            None
+        } else {
+            Some((50, u32::from(at)))
+        };
+        is_met(rows, 1, Stage::LsInL2Lkup, &packet_with_pair(at), expected)
+    })
+}
+
+#[test]
+fn rows_that_are_looked_for_in_one_place_are_met(rt: HostRuntime) {
+    let mut rows = Rows::new(rt.alloc());
+    for at in 0..PAIRS {
+        put_new(&mut rows, with_pair(at), rt.alloc(), &rt);
+    }
+    assert!(rt; are_met_but(&rows, &[]));
+    for remainder in 0..2 {
+        for at in (0..PAIRS).filter(|at| at % 3 == remainder) {
+            assert!(rt; is_taken(&mut rows, with_pair(at), rt.alloc(), &rt));
+        }
+    }
+    assert!(rt; are_met_but(&rows, &[0, 1]));
+    for at in (0..PAIRS).filter(|at| at % 3 == 1) {
+        put_new(&mut rows, with_pair(at), rt.alloc(), &rt);
+    }
+    assert!(rt; are_met_but(&rows, &[0]));
     drop(rows);
 }

@@ -1,5 +1,6 @@
 pub mod AclLikes
 pub mod Back
+pub mod Blocks
 pub mod Found
 pub mod Listed
 pub mod OneNumber

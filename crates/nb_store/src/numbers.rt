@@ -1,5 +1,5 @@
 //! Numbers of objects in a list.
-ghost use Rattle.std.specs.Prelude.{◌≡◌, ◌<◌, ◌+◌, [], ◌∷◌, ◌++◌, length, take, drop, OnOk, OnErr, IfOk, IfSome};
+ghost use Rattle.std.specs.Prelude.{◌≡◌, ◌<◌, ◌≤◌, ◌+◌, true, false, [], ◌∷◌, ◌++◌, length, take, drop, OnOk, OnErr, IfOk, IfSome};
 ghost use Rattle.std.specs.List.{position};
 ghost use Rattle.nb_model.specs.Belongs.{is_among};
 ghost use Rattle.nb_model.specs.Effect.{with_number, without};
@@ -9,11 +9,14 @@ ghost use Rattle.nb_store.specs.inner.Only.{IsOnly};
 use nv_base::{Items, ObjId, OutOfMemory};
 use std::alloc::Global;
 
+// How many numbers of a list are looked at before it is asked whether one of them was found.
+const BLOCK: usize = 64;
+
 /// Tells whether the number is one of these (not from OVN).
 pub fn is_among(number: ObjId, numbers: &[ObjId]) -> bool
     ensures { result ≡ is_among number numbers.now }
 {
-    numbers.iter().any(|other| number == *other)
+    before_block(number, numbers) < numbers.len()
 }
 
 /// Puts a number last, where it is not there (not from OVN). After `OutOfMemory` the list is as before.
@@ -69,12 +72,54 @@ fn only_place(number: ObjId, numbers: &[ObjId]) -> Option<usize>
     Some(at)
 }
 
-// The first place of a number.
+// The first place of a number: its block is found by blocks, and its place from there on one by one.
 fn first_place(number: ObjId, numbers: &[ObjId]) -> Option<usize>
     ensures place { result ≡ position (same number) numbers.now }
     ensures within { IfSome result (λ at. at < length numbers.now) }
 {
+    let start = before_block(number, numbers);
+    let at = near_place(number, &numbers[start..])?;
+    Some(start + at)
+}
+
+// The first place of a number that stands near the front.
+fn near_place(number: ObjId, numbers: &[ObjId]) -> Option<usize>
+    ensures place { result ≡ position (same number) numbers.now }
+    ensures within { IfSome result (λ at. at < length numbers.now) }
+{
     numbers.iter().position(|other| number == *other)
+}
+
+// How many numbers stand before the first block that has this one: all of them, where none has it.
+fn before_block(number: ObjId, numbers: &[ObjId]) -> usize
+    ensures before { is_among number (take result numbers.now) ≡ false }
+    ensures there { result < length numbers.now → is_among number numbers.now ≡ true }
+    ensures within { result ≤ length numbers.now }
+{
+    let mut start = 0;
+    while numbers.len() - start >= BLOCK {
+        if is_in_block(number, &numbers[start..start + BLOCK]) {
+            return start;
+        }
+        start += BLOCK;
+    }
+    if is_in_block(number, &numbers[start..]) {
+        start
+    } else {
+        numbers.len()
+    }
+}
+
+// Whether the number is in a block. It looks at all of the block, without a branch, so that several numbers are compared at once.
+#[inline(always)]
+fn is_in_block(number: ObjId, block: &[ObjId]) -> bool
+    ensures { result ≡ is_among number block.now }
+{
+    let mut is_found = false;
+    for other in block {
+        is_found |= number.0 == other.0;
+    }
+    is_found
 }
 
 // The numbers but the one at a place.

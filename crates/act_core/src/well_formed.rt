@@ -23,7 +23,7 @@ fn form_width(form: Form) -> u32
 pub fn fits(width: u32, constant: Const) -> bool
     ensures { result ≡ formed.fits width constant }
 {
-    has_bits(constant.value, width) && has_bits(constant.value, form_width(constant.form))
+    has_bits(constant.value(), width) && has_bits(constant.value(), form_width(constant.form()))
 }
 
 /// Whether the bits lie in a field of this width, the first of them not above the last.

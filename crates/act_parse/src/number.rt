@@ -24,9 +24,9 @@ pub(crate) fn decimal_of(
 {
     match constant(alloc, text)? {
         Some(number)
-            if number.form == Form::Dec
-                && u128::from(first) <= number.value
-                && number.value < u128::from(limit) => { Ok(Some(number.value as u32)) }
+            if number.form() == Form::Dec
+                && u128::from(first) <= number.value()
+                && number.value() < u128::from(limit) => { Ok(Some(number.value() as u32)) }
         _ => Ok(None),
     }
 }
@@ -49,8 +49,8 @@ pub(crate) fn address_of(alloc: Global, text: &[u8]) -> Result<Option<Ip4>, OutO
     ensures { IfOk result (λ found. found ≡ lexical.address_of text.now) }
 {
     match constant(alloc, text)? {
-        Some(addr) if addr.form == Form::Ip4 && addr.value < 1 << 32 => Ok(Some(Ip4(
-            addr.value as u32,
+        Some(addr) if addr.form() == Form::Ip4 && addr.value() < 1 << 32 => Ok(Some(Ip4(
+            addr.value() as u32,
         ))),
         _ => Ok(None),
     }

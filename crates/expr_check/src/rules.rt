@@ -118,9 +118,9 @@ fn mask_fits(width: Option<u8>, bits: Bits, base: Const, mask: Const) -> bool
     ensures { result ≡ mask_fits width bits base mask }
 {
     if base.is_prefix(mask) {
-        mask.value <= 32
+        mask.value() <= 32
     } else {
-        number_fits(width, bits, mask.value)
+        number_fits(width, bits, mask.value())
     }
 }
 
@@ -128,9 +128,9 @@ fn item_fits(width: Option<u8>, bits: Bits, item: &Item) -> bool
     ensures { result ≡ item_fits width bits item.now }
 {
     match item {
-        Item::One(constant) => number_fits(width, bits, constant.value),
+        Item::One(constant) => number_fits(width, bits, constant.value()),
         Item::Masked(base, mask) => {
-            number_fits(width, bits, base.value) && mask_fits(width, bits, *base, *mask)
+            number_fits(width, bits, base.value()) && mask_fits(width, bits, *base, *mask)
         }
         Item::Text(_) | Item::AddrSet(_) | Item::Group(_) => true,
     }

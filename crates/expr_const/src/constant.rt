@@ -45,7 +45,7 @@ fn number_of(text: &[u8]) -> Option<Const>
         Form::Dec
     };
     let value = read_number(text).ok()?;
-    Some(Const { form, value })
+    Some(Const::new(form, value))
 }
 
 // The MAC that the text is.
@@ -56,10 +56,7 @@ fn mac_of(text: &[u8]) -> Option<Const>
         return None;
     }
     let mac = read_mac(text).ok()?;
-    Some(Const {
-        form: Form::Mac,
-        value: u128::from(mac.0),
-    })
+    Some(Const::new(Form::Mac, u128::from(mac.0)))
 }
 
 // The address that the text is.
@@ -70,10 +67,7 @@ fn ip4_of(text: &[u8]) -> Option<Const>
         return None;
     }
     let addr = read_ip4(text).ok()?;
-    Some(Const {
-        form: Form::Ip4,
-        value: u128::from(addr.0),
-    })
+    Some(Const::new(Form::Ip4, u128::from(addr.0)))
 }
 
 // The constant that the text is.

@@ -1,3 +1,4 @@
+pub mod Constant
 pub mod Equal
 pub mod EqualParts
 pub mod Formula

@@ -3,5 +3,6 @@ pub mod EqualLaws
 pub mod EqualParts
 pub mod Exact
 pub mod FormulaCode
+pub mod Halves
 pub mod Sizes
 pub mod TreeFalls

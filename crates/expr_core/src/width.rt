@@ -85,7 +85,7 @@ impl Const {
     pub fn is_prefix(self, mask: Const) -> bool
         ensures { result ≡ is_prefix self mask }
     {
-        matches!(self.form, Form::Ip4) && matches!(mask.form, Form::Dec)
+        matches!(self.form(), Form::Ip4) && matches!(mask.form(), Form::Dec)
     }
 
     /// The bits that count, where this is before `/` and a mask or the length of a prefix after it.
@@ -93,9 +93,9 @@ impl Const {
         ensures { result ≡ mask_of self mask }
     {
         if self.is_prefix(mask) {
-            prefix_mask(mask.value)
+            prefix_mask(mask.value())
         } else {
-            mask.value
+            mask.value()
         }
     }
 }

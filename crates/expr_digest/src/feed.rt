@@ -57,8 +57,8 @@ fn predicate_number(predicate: Pred) -> u64
 fn feed_constant(state: &mut DefaultHasher, constant: Const)
     ensures { state.new ≡ constant_fed state.old constant }
 {
-    feed_number(state, form_number(constant.form));
-    state.write_u128(constant.value);
+    feed_number(state, form_number(constant.form()));
+    state.write_u128(constant.value());
 }
 
 fn feed_bits(state: &mut DefaultHasher, bits: Bits)

@@ -165,7 +165,7 @@ fn is_atom_meant<E: Env>(atom: &TypedAtom, packet: &Packet, env: &E, wanted: boo
 {
     match atom {
         TypedAtom::Compare(field, bits, rel, Right::Item(Item::One(constant))) => {
-            is_number_meant(packet, wanted, *field, bits, *rel, constant.value)
+            is_number_meant(packet, wanted, *field, bits, *rel, constant.value())
         }
         TypedAtom::Holds(predicate) => is_predicate_meant(packet, wanted, *predicate),
         _ => is_any_atom_meant(atom, packet, env, wanted),

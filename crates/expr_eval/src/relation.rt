@@ -11,7 +11,7 @@ fn equals_masked(number: u128, base: Const, mask: Const) -> bool
     ensures { result ≡ (bit_and number (mask_of base mask) == bit_and base.value (mask_of base mask)) }
 {
     let counted = base.mask_of(mask);
-    number & counted == base.value & counted
+    number & counted == base.value() & counted
 }
 
 // Whether it is the number of the port of this name.
@@ -28,7 +28,7 @@ fn equals_item<E: Env>(env: &E, field: Field, number: u128, item: &Item) -> bool
     ensures { result ≡ equals_item (E.lookup env.now) (field_width field) number item.now }
 {
     match item {
-        Item::One(constant) => number == constant.value,
+        Item::One(constant) => number == constant.value(),
         Item::Masked(base, mask) => equals_masked(number, *base, *mask),
         Item::Text(name) => is_of_port(env, number, name),
         Item::AddrSet(name) => env.in_set(name.as_slice(), field.width(), number),
@@ -73,7 +73,7 @@ pub(crate) fn relates<E: Env>(env: &E, field: Field, number: u128, rel: Rel, rig
     ensures { result ≡ relates (E.lookup env.now) (field_width field) number rel right.now }
 {
     if let Right::Item(Item::One(constant)) = right {
-        return compares(number, rel, constant.value);
+        return compares(number, rel, constant.value());
     }
     match rel {
         Rel::Eq => equals(env, field, number, right),

@@ -33,7 +33,7 @@ pub(crate) fn truth<'a>(offset: u32, number: Const, tokens: &'a [TokenAt<'a>]) -
     ensures reads { Reads result (grammar.truth offset number (seen tokens.now)) }
     ensures left { IfOk result (λ x. length x.1.now ≤ length tokens.now) }
 {
-    match (number.form, number.value) {
+    match (number.form(), number.value()) {
         (Form::Dec, 0) => Ok((Expr::atom(Atom::Truth(false)), tokens)),
         (Form::Dec, 1) => Ok((Expr::atom(Atom::Truth(true)), tokens)),
         _ => Err(MatchFault::Syntax(offset)),

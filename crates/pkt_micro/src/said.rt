@@ -79,7 +79,7 @@ fn put_equal(
     ensures fault { IfErr result (λ f. IsRefused f (said_of field item.now)) }
 {
     let value = match item {
-        Item::One(constant) => Value::Number(constant.value),
+        Item::One(constant) => Value::Number(constant.value()),
         Item::Text(name) => Value::Port(name.copy(alloc)?),
         _ => return Err(MicroFault::NotConjunction),
     };

@@ -80,40 +80,28 @@ pub fn one_step(alloc: Global, step: Step) -> Result<Items<Action>, OutOfMemory>
 pub fn in_decimal(value: u128) -> Const
     ensures { result ≡ in_decimal value }
 {
-    Const {
-        form: Form::Dec,
-        value,
-    }
+    Const::new(Form::Dec, value)
 }
 
 /// A number as a constant, in hexadecimal.
 pub fn in_hexadecimal(value: u128) -> Const
     ensures { result ≡ in_hexadecimal value }
 {
-    Const {
-        form: Form::Hex,
-        value,
-    }
+    Const::new(Form::Hex, value)
 }
 
 /// A MAC as a constant.
 pub fn as_mac(mac: Mac) -> Const
     ensures { result ≡ as_mac mac }
 {
-    Const {
-        form: Form::Mac,
-        value: u128::from(mac.0),
-    }
+    Const::new(Form::Mac, u128::from(mac.0))
 }
 
 /// An IPv4 address as a constant.
 pub fn as_ip4(addr: Ip4) -> Const
     ensures { result ≡ as_ip4 addr.0 }
 {
-    Const {
-        form: Form::Ip4,
-        value: u128::from(addr.0),
-    }
+    Const::new(Form::Ip4, u128::from(addr.0))
 }
 
 /// The match `f == {a, b}`: the field equals one of the items, of which there are one or more.

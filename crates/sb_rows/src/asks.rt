@@ -512,9 +512,9 @@ impl<'m> Asks<'m> {
         match item {
             Item::One(constant) => self.with_number(Asked {
                 part: Part::Number(field),
-                number: low(constant.value),
+                number: low(constant.value()),
             }),
-            Item::Masked(base, mask) => self.with_masked(field, base.value, base.mask_of(*mask)),
+            Item::Masked(base, mask) => self.with_masked(field, base.value(), base.mask_of(*mask)),
             Item::Text(name) => self.with_port(field, name),
             Item::AddrSet(_) | Item::Group(_) => self,
         }

@@ -96,10 +96,7 @@ fn is_to(mac: u64) -> Typed
     requires { mac < 2 ^ 48 }
     ensures { IsTyped role.Row result }
 {
-    let constant = Const {
-        form: Form::Mac,
-        value: u128::from(mac),
-    };
+    let constant = Const::new(Form::Mac, u128::from(mac));
     equals(Field::EthDst, constant)
 }
 
@@ -107,10 +104,7 @@ fn is_to(mac: u64) -> Typed
 fn mac(value: u128) -> Const
     ensures { result ≡ record { form = form.Mac; value = value } }
 {
-    Const {
-        form: Form::Mac,
-        value,
-    }
+    Const::new(Form::Mac, value)
 }
 
 // A pair of MACs. By the multiplier that `Rows` mixes numbers by, all of these pairs are mixed to the same.

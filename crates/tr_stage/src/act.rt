@@ -41,7 +41,7 @@ pub fn change<E: Env>(env: &E, step: &Step, packet: &mut Packet)
     ensures { (stage : stages.Stage) → effect (E.lookup env.now) stage step.now packet.old ≡ Changed packet.new }
 {
     match step {
-        Step::Set(field, bits, constant) => set_part(packet, *field, *bits, constant.value),
+        Step::Set(field, bits, constant) => set_part(packet, *field, *bits, constant.value()),
         Step::Copy(field, bits, from) => {
             let number = packet.get(*from);
             set_part(packet, *field, *bits, number);

@@ -12,6 +12,7 @@ use Rattle.expr_core.specs.contracts.part.BitsPartialEq.TheImpl as bits_eq
 use Rattle.expr_core.specs.contracts.comparison.ItemPartialEq.TheImpl as item_eq
 use Rattle.expr_core.specs.contracts.comparison.RightPartialEq.TheImpl as right_eq
 use Rattle.expr_core.specs.Equal.{formula_eq, formulas_eq}
+use Rattle.expr_core.specs.inner.Halves.{same_halves}
 use Rattle.expr_core.specs.contracts.typed.TypedAtomPartialEq.TheImpl as typed_atom_eq
 use Rattle.expr_core.specs.Formula.Formula.{Leaf, Not, And, Or}
 use Rattle.expr_core.specs.Formula.Formulas.{Nil, Cons}
@@ -38,9 +39,10 @@ predicate = same_true preds.the_type tt
 
 pub constant : Tells ((const_eq.ghosts).eq)
 constant a b e =
-    let parts = both_true _ _ e in
-    let forms_alike : a.form ≡ b.form = form _ _ parts.0 in
-    let values : a.value ≡ b.value = eqb-true _ _ parts.1 in
+    let of_one = both_true _ _ e in
+    let of_two = both_true _ _ of_one.1 in
+    let forms_alike : a.form ≡ b.form = form _ _ of_one.0 in
+    let values : a.value ≡ b.value = same_halves a.value b.value (eqb-true _ _ of_two.0) (eqb-true _ _ of_two.1) in
     λ i. record { form = forms_alike i; value = values i }
 
 pub bits : Tells ((bits_eq.ghosts).eq)

@@ -11,11 +11,11 @@ pub fn put_const(out: &mut Vec<u8>, constant: Const) -> Result<(), OutOfMemory>
     ensures ok { OnOk result (out.new.items ≡ out.old.items ++ const_text constant) }
     ensures err { OnErr result (out.new.items ≡ out.old.items) }
 {
-    match constant.form {
-        Form::Dec => put_dec(out, constant.value),
-        Form::Hex => put_hex(out, constant.value),
-        Form::Mac => put_mac_of(out, constant.value),
-        Form::Ip4 => put_ip4_of(out, constant.value),
+    match constant.form() {
+        Form::Dec => put_dec(out, constant.value()),
+        Form::Hex => put_hex(out, constant.value()),
+        Form::Mac => put_mac_of(out, constant.value()),
+        Form::Ip4 => put_ip4_of(out, constant.value()),
     }
 }
 

@@ -13,8 +13,8 @@ returns c =
     elim c.if-starts_with.branch [
       | then-starts_with w ↦
           let form = number_form c.args.text.now true (sym w.if-starts_with.ensures.value) in
-          rw (w.form-is) (sym (rw (← value) at form))
+          rw (c.new.ensures, w.form-is) (sym (rw (← value) at form))
       | else-starts_with w ↦
           let form = number_form c.args.text.now false (sym w.if-starts_with.ensures.value) in
-          rw (w.form-is) (sym (rw (← value) at form))
+          rw (c.new.ensures, w.form-is) (sym (rw (← value) at form))
     ]

@@ -5,7 +5,7 @@ ghost use Rattle.expr_parse.specs.declared.class.Class.TheVariants.{Digit};
 ghost use Rattle.expr_parse.specs.inner.Borrowed.{front_token};
 ghost use Rattle.expr_parse.specs.Tokens.{first_token};
 
-use crate::token::{FrontToken, Token};
+use crate::token::{FrontToken, Spelled, Token};
 use expr_const::longest;
 
 /// The token of a text that begins with a digit: the longest constant.
@@ -16,7 +16,7 @@ pub(crate) fn constant(text: &[u8]) -> Option<FrontToken<'_>>
 {
     let (number, len) = longest(text)?;
     Some(FrontToken {
-        token: Token::Number(number),
+        token: Token::Number(Spelled::of(number)),
         len,
     })
 }

@@ -9,7 +9,7 @@ ghost use Rattle.expr_parse.specs.inner.Borrowed.{front_token};
 ghost use Rattle.expr_parse.specs.Tokens.{first_token};
 
 use crate::class::begins_name;
-use crate::token::{FrontToken, Token};
+use crate::token::{FrontToken, Spelled, Token};
 use expr_const::{MAC_LEN, mac_front};
 
 /// Whether this byte may be in a name.
@@ -47,7 +47,7 @@ pub(crate) fn name_or_mac(text: &[u8]) -> Option<FrontToken<'_>>
     if name.len() < MAC_LEN {
         if let Some(mac) = mac_front(text) {
             return Some(FrontToken {
-                token: Token::Number(mac),
+                token: Token::Number(Spelled::of(mac)),
                 len: MAC_LEN,
             });
         }

@@ -14,8 +14,8 @@ fn bit_number<'a>(end: u32, tokens: &'a [TokenAt<'a>]) -> Read<'a, u8>
     ensures left { IfOk result (λ x. length x.1.now ≤ length tokens.now) }
 {
     if let Some((Token::Number(number), _, rest)) = front(tokens) {
-        if number.form() == Form::Dec && number.value() <= 255 {
-            return Ok((number.value() as u8, rest));
+        if number.form == Form::Dec && number.value <= 255 {
+            return Ok((number.value as u8, rest));
         }
     }
     Err(stuck(end, tokens))

@@ -1,32 +1,36 @@
 ghost use Rattle.std.specs.Prelude.{◌≤◌, [], ◌∷◌, length, IfOk};
+ghost use Rattle.expr_core.specs.Constant.{constant};
 ghost use Rattle.expr_parse.specs.inner.Gives.{Reads, seen};
 ghost use Rattle.expr_parse.specs.Grammar as grammar;
 
 use crate::tail::{Read, front, stuck};
-use crate::token::{Token, TokenAt};
-use expr_core::{Const, Item, Right};
+use crate::token::{Spelled, Token, TokenAt};
+use expr_core::{Item, Right};
 use nv_base::{Items, Name};
 use std::alloc::Global;
 
 /// A mask or the length of a prefix.
-fn mask<'a>(end: u32, number: Const, tokens: &'a [TokenAt<'a>]) -> Read<'a, Item>
-    ensures reads { Reads result (grammar.mask end number (seen tokens.now)) }
+fn mask<'a>(end: u32, number: Spelled, tokens: &'a [TokenAt<'a>]) -> Read<'a, Item>
+    ensures reads { Reads result (grammar.mask end (constant number.form number.value) (seen tokens.now)) }
     ensures left { IfOk result (λ x. length x.1.now ≤ length tokens.now) }
 {
     match front(tokens) {
-        Some((Token::Number(mask), _, rest)) => Ok((Item::Masked(number, mask), rest)),
+        Some((Token::Number(mask), _, rest)) => Ok((
+            Item::Masked(number.constant(), mask.constant()),
+            rest,
+        )),
         _ => Err(stuck(end, tokens)),
     }
 }
 
 /// A number, and what may follow it in an item.
-fn number<'a>(end: u32, number: Const, tokens: &'a [TokenAt<'a>]) -> Read<'a, Item>
-    ensures reads { Reads result (grammar.number end number (seen tokens.now)) }
+fn number<'a>(end: u32, number: Spelled, tokens: &'a [TokenAt<'a>]) -> Read<'a, Item>
+    ensures reads { Reads result (grammar.number end (constant number.form number.value) (seen tokens.now)) }
     ensures left { IfOk result (λ x. length x.1.now ≤ length tokens.now) }
 {
     match front(tokens) {
         Some((Token::Slash, _, rest)) => mask(end, number, rest),
-        _ => Ok((Item::One(number), tokens)),
+        _ => Ok((Item::One(number.constant()), tokens)),
     }
 }
 

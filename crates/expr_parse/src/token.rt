@@ -1,4 +1,35 @@
-use expr_core::{Const, Rel};
+ghost use Rattle.std.specs.Prelude.{◌≡◌};
+ghost use Rattle.expr_core.specs.Constant.{constant};
+
+use expr_core::{Const, Form, Rel};
+
+/// A number of a token, and how it is spelled.
+#[derive(Clone, Copy)]
+pub(crate) struct Spelled {
+    /// How it is spelled.
+    pub(crate) form: Form,
+    /// The number.
+    pub(crate) value: u128,
+}
+
+impl Spelled {
+    /// That of a constant.
+    pub(crate) fn of(number: Const) -> Self
+        ensures { constant result.form result.value ≡ number }
+    {
+        Spelled {
+            form: number.form(),
+            value: number.value(),
+        }
+    }
+
+    /// The constant.
+    pub(crate) fn constant(self) -> Const
+        ensures { result ≡ constant self.form self.value }
+    {
+        Const::new(self.form, self.value)
+    }
+}
 
 /// A token of a text, from which it borrows the bytes of a name.
 #[derive(Clone, Copy)]
@@ -6,7 +37,7 @@ pub(crate) enum Token<'a> {
     /// A name.
     Name(&'a [u8]),
     /// A number, a MAC or an address.
-    Number(Const),
+    Number(Spelled),
     /// The text between double quotes: the name of a port or of a multicast group.
     Text(&'a [u8]),
     /// A name after `$`.

@@ -1,5 +1,6 @@
 -- The tokens that the code has, which borrow their names from the text.
 use Rattle.std.specs.Prelude.{ℕ}
+use Rattle.expr_core.specs.Constant.{constant}
 use Rattle.expr_parse.specs.Token.{Token}
 use Rattle.expr_parse.specs.Token.Token.{Name, Number, Text, AddrSet, Group, Relation, And, Or, Not, Open, Close, OpenBrace, CloseBrace, OpenBracket, CloseBracket, Comma, Slash, Dots}
 use Rattle.expr_parse.specs.declared.token.FrontToken.{FrontToken}
@@ -10,7 +11,7 @@ use Rattle.expr_parse.specs.declared.token.TokenAt.{TokenAt}
 -- what the token is
 abbrev pub token_of : BorrowedToken → Token
 token_of (borrowed.Name bytes) = Name bytes.now
-token_of (borrowed.Number c) = Number c
+token_of (borrowed.Number s) = Number (constant s.form s.value)
 token_of (borrowed.Text bytes) = Text bytes.now
 token_of (borrowed.AddrSet bytes) = AddrSet bytes.now
 token_of (borrowed.Group bytes) = Group bytes.now

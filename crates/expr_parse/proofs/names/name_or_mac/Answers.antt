@@ -1,4 +1,5 @@
-use Rattle.std.proofs.Common.{◌<◌, ◌∙◌, arith}
+use Rattle.std.proofs.Common.{Some, ◌<◌, ◌∙◌, ap, arith}
+use Rattle.expr_parse.specs.Token.Token.{Number}
 use Rattle.std.proofs.lemmas.Option.{none-some, same_Some}
 use Rattle.expr_parse.proofs.Words.{prefix_len, is_in_name}
 use Rattle.expr_parse.proofs.TokenFronts.{mac_wins, name_wins, letter_name, name_length}
@@ -13,7 +14,7 @@ returns-in-Some c =
     let text = c.args.text.now in
     let run = same_Some _ _ (c.in_ok-name.ensures ∙ letter_name text c.requires.some c.requires.first) in
     let short : prefix_len is_in_name text < 17 = omega (arith, name_length text c.in_ok-name.name.now run) in
-    mac_wins text c.in-Some.mac c.requires.some c.requires.first short c.in-Some.ensures
+    ap (λ n. Some (Number n, 17)) c.of.ensures ∙ mac_wins text c.in-Some.mac c.requires.some c.requires.first short c.in-Some.ensures
 
 pub returns : goal.returns
 returns c =

@@ -23,9 +23,11 @@ fn is_written(alloc: Global, constant: Const, text: &[u8]) -> Result<bool, OutOf
 fn constant_of(text: &[u8]) -> Option<Const>
     ensures { result ≡ constant_of text.now }
 {
-    match longest(text) {
-        Some((constant, len)) if len == text.len() => Some(constant),
-        _ => None,
+    let (constant, len) = longest(text)?;
+    if len == text.len() {
+        Some(constant)
+    } else {
+        None
     }
 }
 

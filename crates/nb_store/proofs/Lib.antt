@@ -1,6 +1,7 @@
 pub mod AclLikes
 pub mod Back
 pub mod Blocks
+pub mod ByOne
 pub mod Found
 pub mod Listed
 pub mod OneNumber

@@ -1,8 +1,10 @@
 -- What undoing changes does to a network.
-use Rattle.std.specs.Prelude.{Bool, true, false, List, [], ◌∷◌}
+use Rattle.std.specs.Prelude.{ℕ, ◌-◌, Bool, true, false, if◌then◌else◌, List, [], ◌∷◌, Option, Some, None, slice_get}
+use Rattle.nv_base.specs.declared.object.ObjId.{ObjId}
+use Rattle.nb_model.specs.Belongs.{is_number}
 use Rattle.nb_model.specs.Network.{Network}
-use Rattle.nv_table.specs.Swapped.{with_swapped}
-use Rattle.nv_table.specs.Table.{with_exchanged, without_number}
+use Rattle.nv_table.specs.Swapped.{Swap, with_swapped}
+use Rattle.nv_table.specs.Table.{record_of, with_exchanged, without_number}
 use Rattle.nb_records.specs.Longer.{switch_longer, router_longer, group_longer}
 use Rattle.nb_store.specs.declared.step.LeanObject.{LeanObject}
 use Rattle.nb_store.specs.declared.step.LeanObject.TheVariants as lean
@@ -11,7 +13,8 @@ use Rattle.nb_store.specs.declared.step.Object.TheVariants as object
 use Rattle.nb_store.specs.declared.step.Place.{Place}
 use Rattle.nb_store.specs.declared.step.Place.TheVariants as place
 use Rattle.nb_store.specs.declared.step.Step.{Step}
-use Rattle.nb_store.specs.declared.step.Step.TheVariants.{Restore, Swap, Remove, Next}
+use Rattle.nb_store.specs.declared.step.Step.TheVariants.{Restore, Remove, Next}
+use Rattle.nb_store.specs.declared.step.Step.TheVariants as step
 use Rattle.nb_store.specs.declared.undo.Undo.{Undo}
 
 -- the record in place of the one of its number
@@ -34,6 +37,20 @@ swapped (lean.Switch s) net = record net { switches = with_swapped (λ x. x.id) 
 swapped (lean.Router s) net = record net { routers = with_swapped (λ x. x.id) router_longer s net.routers }
 swapped (lean.Group s) net = record net { groups = with_swapped (λ x. x.id) group_longer s net.groups }
 
+-- the number whose tag is at a place of a record, if it is there: the name's comes first
+abbrev pub number_at : {R : Type 0} → (R → List ObjId) → ℕ → Option R → Option ObjId
+number_at lists at None = None
+number_at lists at (Some r) = slice_get (lists r) (at - 1)
+
+-- the number that a record lists more than the one of its number, or that this one lists more
+abbrev pub listed_more : {R : Type 0} → (R → List ObjId) → Swap R → Option R → Option ObjId
+listed_more lists swap held = if swap.2 then number_at lists swap.1 (Some swap.0) else number_at lists swap.1 held
+
+abbrev pub differing : LeanObject → Network → Option ObjId
+differing (lean.Switch s) net = listed_more (λ x. x.lbs) s (record_of (λ x. x.id) s.0.id net.switches)
+differing (lean.Router s) net = listed_more (λ x. x.lbs) s (record_of (λ x. x.id) s.0.id net.routers)
+differing (lean.Group s) net = listed_more (λ x. x.ports) s (record_of (λ x. x.id) s.0.id net.groups)
+
 -- without the record of the number
 abbrev pub removed : Place → Network → Network
 removed (place.Switch n) net = record net { switches = without_number (λ x. x.id) n net.switches }
@@ -51,14 +68,14 @@ removed (place.Binding n) net = record net { bindings = without_number (λ x. x.
 -- one change undone
 abbrev pub undone : Step → Network → Network
 undone (Restore r) net = restored r net
-undone (Swap s) net = swapped s net
+undone (step.Swap s number) net = if is_number (differing s net) number then swapped s net else net
 undone (Remove n) net = removed n net
 undone (Next n) net = record net { next = n }
 
 -- changes undone, the last one first
 abbrev pub back_steps : List Step → Network → Network
 back_steps [] net = net
-back_steps (step ∷ steps) net = undone step (back_steps steps net)
+back_steps (last ∷ steps) net = undone last (back_steps steps net)
 
 -- an edit undone
 abbrev pub back : Undo → Network → Network
@@ -67,7 +84,7 @@ back undo net = back_steps undo.steps.items net
 -- there are no changes
 abbrev pub is_nothing : List Step → Bool
 is_nothing [] = true
-is_nothing (step ∷ steps) = false
+is_nothing (last ∷ steps) = false
 
 -- an edit that changed nothing
 abbrev pub changes_nothing : Undo → Bool

@@ -3,6 +3,7 @@
 #![tactic(auto)]
 
 mod belongs;
+mod differing;
 mod env;
 mod laws;
 mod leans;
@@ -22,6 +23,6 @@ pub use laws::undoing_leaves_the_rest;
 pub use likes::is_same_way;
 pub use numbers::{add_number, is_among};
 pub use records::Records;
-pub use step::Place;
+pub use step::{Place, Touch};
 pub use undo::Undo;
 pub use work::Work;

@@ -87,7 +87,7 @@ impl Records {
     {
         match step {
             Step::Restore(object) => drop(self.exchange(object)),
-            Step::Swap(lean) => drop(self.swap(lean)),
+            Step::Swap(lean, number) => self.swap_by(lean, number),
             Step::Remove(place) => drop(self.take(place)),
             Step::Next(next) => self.next = next,
         }

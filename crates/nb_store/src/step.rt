@@ -57,13 +57,23 @@ pub enum Place {
     Binding(ObjId),
 }
 
+/// What a change touches. Touches are in the order of what they say, and then in that of places and of numbers.
+#[derive(Clone, Copy, PartialEq, Eq, PartialOrd, Ord)]
+pub enum Touch {
+    /// A record that came, went or changed.
+    Whole(Place),
+    /// A number that came to, or went from, what a record lists: the ports of a group, or the load balancers of a switch or of a
+    /// router. All else of the record is as before.
+    Listed(Place, ObjId),
+}
+
 /// What undoes one change. It takes no memory.
 #[derive(Drop)]
 pub(crate) enum Step {
     /// Put this record in place of the one of its number, or back where there is none.
     Restore(Object),
-    /// Put this record in place of the one of its number, where the two differ by one number that they list.
-    Swap(LeanObject),
+    /// Put this record in place of the one of its number, where the two differ by this number that they list.
+    Swap(LeanObject, ObjId),
     /// Remove the record of this number.
     Remove(Place),
     /// Set the next number to this one.
@@ -105,14 +115,14 @@ impl LeanObject {
 }
 
 impl Step {
-    /// The place that it changes, if it is that of an object.
-    pub(crate) fn touched(&self) -> Option<Place>
+    /// What of the records it touches, if it does.
+    pub(crate) fn touched(&self) -> Option<Touch>
         ensures { result ≡ touched_by self.now }
     {
         match self {
-            Step::Restore(object) => Some(object.place()),
-            Step::Swap(lean) => Some(lean.place()),
-            Step::Remove(place) => Some(*place),
+            Step::Restore(object) => Some(Touch::Whole(object.place())),
+            Step::Swap(lean, number) => Some(Touch::Listed(lean.place(), *number)),
+            Step::Remove(place) => Some(Touch::Whole(*place)),
             Step::Next(_) => None,
         }
     }

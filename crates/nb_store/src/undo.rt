@@ -2,7 +2,7 @@ ghost use Rattle.std.specs.Prelude.{◌≡◌, ◌++◌, OnOk};
 ghost use Rattle.nb_store.specs.Touched.{touched};
 ghost use Rattle.nb_store.specs.Undo.{changes_nothing};
 
-use crate::step::{Place, Step};
+use crate::step::{Step, Touch};
 use nv_base::OutOfMemory;
 
 /// What undoes an edit, with all the room that it takes.
@@ -19,14 +19,13 @@ impl Undo {
         self.steps.is_empty()
     }
 
-    /// Puts the places of the objects that the edit changed after those that are there, once for each change (not from OVN). After
-    /// `OutOfMemory` some may be there.
-    pub fn put_places(&self, places: &mut Vec<Place>) -> Result<(), OutOfMemory>
-        ensures { OnOk result (places.new.items ≡ places.old.items ++ touched self.now) }
+    /// Puts what the edit touched after what is there, once for each change (not from OVN). After `OutOfMemory` some may be there.
+    pub fn put_touches(&self, touches: &mut Vec<Touch>) -> Result<(), OutOfMemory>
+        ensures { OnOk result (touches.new.items ≡ touches.old.items ++ touched self.now) }
     {
         for step in &self.steps {
-            if let Some(place) = step.touched() {
-                places.push(place)?;
+            if let Some(touch) = step.touched() {
+                touches.push(touch)?;
             }
         }
         Ok(())

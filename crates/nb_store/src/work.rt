@@ -47,8 +47,9 @@ impl Work {
         ensures ok { OnOk result (self.new.records ≡ swapped lean self.old.records) }
         ensures back { back_steps self.new.steps.items self.new.records ≡ back_steps self.old.steps.items self.old.records }
     {
+        let number = self.records.differing(&lean).unwrap();
         let old = self.records.swap_fitting(lean);
-        self.note(Step::Swap(old))
+        self.note(Step::Swap(old, number))
     }
 
     /// Removes the object of a kind and number. Where there is none, nothing changes. After `OutOfMemory` nothing has changed. Not from

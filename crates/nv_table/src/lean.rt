@@ -66,6 +66,20 @@ impl<R: Listing> Lean<R> {
         &self.record
     }
 
+    /// The place of the tag.
+    pub fn place(&self) -> usize
+        ensures { result ≡ self.now.1 }
+    {
+        self.place
+    }
+
+    /// Whether it is the one that has the tag.
+    pub fn is_longer(&self) -> bool
+        ensures { result ≡ self.now.2 }
+    {
+        self.is_longer
+    }
+
     // Whether this is how it differs from another record.
     pub(crate) fn differs(&self, other: &R) -> bool
         ensures { result ≡ differs R.is_longer self.now other.now }

@@ -46,13 +46,13 @@ cut_at [] at x e = absurd (cc)
 cut_at (y ∷ xs) zero x e = let same : y ≡ x = cc in ap (λ (n : ObjId). n ∷ xs) same
 cut_at (y ∷ xs) (suc at) x e = ap (λ l. y ∷ l) (cut_at xs at x e)
 
-record IsMore (number : ObjId) (long short : List ObjId) (at : ℕ) : Type 0 where
-  here : slice_get long at ≡ Some number
-  front : take at long ≡ take at short
-  back : drop (suc at) long ≡ drop at short
-  new : list_any (same_number number) short ≡ false
+pub record IsMore (number : ObjId) (long short : List ObjId) (at : ℕ) : Type 0 where
+  pub here : slice_get long at ≡ Some number
+  pub front : take at long ≡ take at short
+  pub back : drop (suc at) long ≡ drop at short
+  pub new : list_any (same_number number) short ≡ false
 
-is_more : (long short : List ObjId) (at : ℕ) → lists_more long short at ≡ true → (number : ObjId) × IsMore number long short at
+pub is_more : (long short : List ObjId) (at : ℕ) → lists_more long short at ≡ true → (number : ObjId) × IsMore number long short at
 is_more long short at e = by (slice_get long at) refl e
   where
     turned : (b : Bool) → not b ≡ true → b ≡ false
@@ -69,7 +69,7 @@ is_more long short at e = by (slice_get long at) refl e
         (number, record { here = g; front = same_lists _ _ second.0; back = ap (λ k. drop k long) (sym next) ∙ same_lists _ _ third.0; new = turned _ third.1 })
 
 -- a test passes for one of the longer list exactly where it passes for the number or for one of the other list
-any_more : (p : ObjId → Bool) (number : ObjId) (long short : List ObjId) (at : ℕ) → IsMore number long short at → list_any p long ≡ (p number || list_any p short)
+pub any_more : (p : ObjId → Bool) (number : ObjId) (long short : List ObjId) (at : ℕ) → IsMore number long short at → list_any p long ≡ (p number || list_any p short)
 any_more p number long short at m =
     ap (list_any p) (cut_at long at number m.here)
     ∙ list_any-append p (take at long) (number ∷ drop (suc at) long)

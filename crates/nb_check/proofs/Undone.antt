@@ -7,10 +7,11 @@ use Rattle.nb_model.specs.Network.{Network}
 use Rattle.nb_store.proofs.Touched.{both, same_back, same_but, undone_rest, wider}
 use Rattle.nb_store.specs.Touched.{AreSameBut, touched}
 use Rattle.nb_store.specs.Undo.{back, back_steps, is_nothing, changes_nothing}
-use Rattle.nb_store.specs.declared.step.Place.{Place}
+use Rattle.nb_store.specs.declared.step.Touch.{Touch}
 use Rattle.nb_store.specs.declared.step.Step.{Step}
 use Rattle.nb_store.specs.declared.undo.Undo.{Undo}
-use Rattle.nb_check.specs.inner.Undone.{AreTouched, back_all}
+use Rattle.nb_check.specs.Undone.{back_all}
+use Rattle.nb_check.specs.inner.Undone.{AreTouched}
 
 -- the last edit is undone first
 pub back_last : (undos : List Undo) (undo : Undo) (net : Network) → back_all (undos ++ undo ∷ []) net ≡ back_all undos (back undo net)
@@ -36,7 +37,7 @@ nothing_undone undos net e = none_undone undos net (by (list_all changes_nothing
     by true e = refl
     by false e = absurd (cc)
 
--- undone edits leave what is at none of these places
+-- undone edits leave all that they did not touch
 undone_rest_of : (undos : List Undo) (net : Network) → AreSameBut (flat_map touched undos) net (back_all undos net)
 undone_rest_of [] net = same_but [] net
 undone_rest_of (undo ∷ undos) net =
@@ -45,8 +46,8 @@ undone_rest_of (undo ∷ undos) net =
     (wider (touched undo) (touched undo ++ flat_map touched undos) (back_all undos net) (back undo (back_all undos net)) (λ p there. Contains-append_left (touched undo) (flat_map touched undos) p there)
     (undone_rest undo.steps.items (back_all undos net)))
 
--- edits change what is at these places alone
-pub touched_alone : (undos : List Undo) (places : List Place) (before after : Network) → back_all undos after ≡ before → AreTouched undos places → AreSameBut places before after
-touched_alone undos places before after undone are =
-    wider (flat_map touched undos) places before after are.all
+-- edits change what they touch alone
+pub touched_alone : (undos : List Undo) (touches : List Touch) (before after : Network) → back_all undos after ≡ before → AreTouched undos touches → AreSameBut touches before after
+touched_alone undos touches before after undone are =
+    wider (flat_map touched undos) touches before after are.all
     (same_back (flat_map touched undos) after before (subst (λ (net : Network). AreSameBut (flat_map touched undos) after net) undone (undone_rest_of undos after)))

@@ -11,14 +11,15 @@ ghost use Rattle.nb_store.specs.Undo.{back, changes_nothing};
 ghost use Rattle.nb_words.specs.Fault.{IsFaultOf};
 ghost use Rattle.nb_limits.specs.Ceilings.{AreCeilings};
 ghost use Rattle.nb_check.specs.inner.Going.{AreSince, no_objects, with_removed};
-ghost use Rattle.nb_check.specs.inner.Undone.{AreTouched, back_all};
+ghost use Rattle.nb_check.specs.Undone.{back_all};
+ghost use Rattle.nb_check.specs.inner.Undone.{AreTouched};
 ghost use Rattle.nb_limits.specs.Limitless.{IsSoundButLimits};
 ghost use Rattle.nv_base.specs.Object.{number_limit};
 
 use crate::gone::Gone;
 use nb_limits::{Ceilings, first_over, may_rise};
 use nb_records::{Edit, Kind};
-use nb_store::{Place, Records, Undo};
+use nb_store::{Records, Touch, Undo};
 use nb_valid::tested;
 use nb_words::LineFault;
 use nv_base::{Items, OutOfMemory};
@@ -87,7 +88,7 @@ fn keep(
 }
 
 /// Does what the edits of a line ask for, in order, up to the first that is refused or for which memory runs out, and notes what undoes
-/// each, and which objects are gone then; the answer is the places that they changed (not from OVN).
+/// each, and which objects are gone then; the answer is what they touched (not from OVN).
 pub(crate) fn apply_each(
     alloc: Global,
     records: &mut Records,
@@ -95,7 +96,7 @@ pub(crate) fn apply_each(
     edits: Vec<Edit>,
     undos: &mut Vec<Undo>,
     gone: &mut Gone,
-) -> Result<Items<Place>, LineFault>
+) -> Result<Items<Touch>, LineFault>
     requires sound { IsSound records.old }
     requires known { AreCeilings records.old known.old }
     requires readable { AllByRecursion IsReadable edits.items }
@@ -108,7 +109,7 @@ pub(crate) fn apply_each(
     ensures sound { IsSound records.new }
     ensures known { OnOk result (AreCeilings records.new known.new) }
     ensures gone { OnOk result (AreSince records.old records.new gone.new.objects) }
-    ensures touched { IfOk result (λ places. AreTouched undos.new.items places) }
+    ensures touched { IfOk result (λ touches. AreTouched undos.new.items touches) }
 {
     for edit in edits {
         apply_next(alloc, records, known, edit, undos, gone)?;
@@ -149,17 +150,17 @@ fn apply_next(
     }
 }
 
-/// The places that edits changed, in their order, each once (not from OVN).
-pub(crate) fn touched(alloc: Global, undos: &[Undo]) -> Result<Items<Place>, OutOfMemory>
-    ensures { IfOk result (λ places. AreTouched undos.now places) }
+/// What edits touched, in order, each once (not from OVN).
+pub(crate) fn touched(alloc: Global, undos: &[Undo]) -> Result<Items<Touch>, OutOfMemory>
+    ensures { IfOk result (λ touches. AreTouched undos.now touches) }
 {
-    let mut places = Vec::new(alloc);
+    let mut touches = Vec::new(alloc);
     for undo in undos {
-        undo.put_places(&mut places)?;
+        undo.put_touches(&mut touches)?;
     }
-    places.sort_unstable();
-    places.dedup();
-    Ok(Items::from_items(places))
+    touches.sort_unstable();
+    touches.dedup();
+    Ok(Items::from_items(touches))
 }
 
 /// Whether none of these edits changed anything.

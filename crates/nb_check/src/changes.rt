@@ -1,4 +1,4 @@
-use nb_store::Place;
+use nb_store::Touch;
 use nv_base::{Items, ObjId};
 
 /// What the edits of a line changed.
@@ -8,8 +8,9 @@ pub struct Changes {
     pub any: bool,
     /// The objects that were there before the line, and are no more there after it.
     pub gone: GoneObjects,
-    /// The places of the records that may have changed, come or gone, in the order of places, each once.
-    pub touched: Items<Place>,
+    /// The records that may have changed, come or gone, and the numbers that may have come to their lists or gone from them, in order, each
+    /// once.
+    pub touched: Items<Touch>,
 }
 
 /// The numbers of objects that are gone, of those kinds of which packets leave something for later ones.

@@ -4,7 +4,9 @@
 mod apply;
 mod changes;
 mod gone;
+mod line_undo;
 mod tables;
 
 pub use changes::{Changes, GoneObjects};
+pub use line_undo::LineUndo;
 pub use tables::Tables;

@@ -9,9 +9,11 @@ ghost use Rattle.nb_model.specs.Readable.{IsReadable};
 ghost use Rattle.nb_model.specs.Sound.{IsSound, port_ids, router_ids, router_port_ids};
 ghost use Rattle.nb_model.specs.Tests.{refusal};
 ghost use Rattle.nb_model.specs.Transactions.{applied, edited};
-ghost use Rattle.nb_store.specs.Touched.{AreSameBut, PlacesRise};
+ghost use Rattle.nb_store.specs.Touched.{AreSameBut, TouchesRise};
 ghost use Rattle.nb_store.specs.Undo.{back};
 ghost use Rattle.nb_check.specs.Gone.{is_gone};
+ghost use Rattle.nb_check.specs.Undone.{taken_back};
+ghost use Rattle.nb_limits.specs.Ceilings.{AreCeilings};
 ghost use Rattle.nb_words.specs.Fault.{IsFaultOf};
 ghost use Rattle.nv_base.specs.Object.{number_limit};
 ghost use Rattle.nv_base.specs.declared.object.ObjId.{ObjId};
@@ -19,6 +21,7 @@ ghost use Rattle.nv_base.specs.declared.object.ObjId.{ObjId};
 use crate::apply::{apply, apply_each, change_nothing, undo_all};
 use crate::changes::Changes;
 use crate::gone::Gone;
+use crate::line_undo::LineUndo;
 use nb_limits::{Ceilings, amount};
 use nb_records::{Edit, Kind};
 use nb_store::{Records, Undo};
@@ -104,8 +107,7 @@ impl Tables {
     /// Does what all edits of a line ask for, each of the network that those before it leave; at the first that is
     /// refused the line is refused as that one (not from OVN: ovn-nbctl(8) runs the commands of one call as one
     /// transaction). Then, or where memory runs out, none is done. The answer is whether there may be a change, which
-    /// objects are gone, and at which places records may have changed.
-    #[tactic(auto, using(crate::proofs::Undone::nothing_undone, crate::proofs::Undone::touched_alone))]
+    /// objects are gone, and what of the records may have changed.
     pub fn apply_all(&mut self, alloc: Global, edits: Items<Edit>) -> Result<Changes, LineFault>
         requires readable { AllByRecursion IsReadable edits }
         requires room { self.old.next + length edits < number_limit }
@@ -115,13 +117,40 @@ impl Tables {
         ensures gone_router_ports { IfOk result (λ changes. (n : ObjId) → is_among n changes.gone.router_ports ≡ is_gone (router_port_ids self.old) (router_port_ids self.new) n) }
         ensures gone_routers { IfOk result (λ changes. (n : ObjId) → is_among n changes.gone.routers ≡ is_gone (router_ids self.old) (router_ids self.new) n) }
         ensures touched { IfOk result (λ changes. AreSameBut changes.touched self.old self.new) }
-        ensures rising { IfOk result (λ changes. PlacesRise changes.touched) }
+        ensures rising { IfOk result (λ changes. TouchesRise changes.touched) }
+        ensures refused { IfErr result (λ fault. IsFaultOf (edited self.old edits) fault) }
+        ensures same { OnErr result (self.new ≡ self.old) }
+    {
+        let (changes, undo) = self.apply_kept(alloc, edits)?;
+        drop(undo);
+        Ok(changes)
+    }
+
+    /// The same, with what takes the line back.
+    #[tactic(auto, using(crate::proofs::Undone::nothing_undone, crate::proofs::Undone::touched_alone))]
+    pub fn apply_kept(
+        &mut self,
+        alloc: Global,
+        edits: Items<Edit>,
+    ) -> Result<(Changes, LineUndo), LineFault>
+        requires readable { AllByRecursion IsReadable edits }
+        requires room { self.old.next + length edits < number_limit }
+        ensures done { OnOk result (edited self.old edits ≡ Ok self.new) }
+        ensures unchanged { IfOk result (λ kept. kept.0.any ≡ false → self.new ≡ self.old) }
+        ensures gone_ports { IfOk result (λ kept. (n : ObjId) → is_among n kept.0.gone.ports ≡ is_gone (port_ids self.old) (port_ids self.new) n) }
+        ensures gone_router_ports { IfOk result (λ kept. (n : ObjId) → is_among n kept.0.gone.router_ports ≡ is_gone (router_port_ids self.old) (router_port_ids self.new) n) }
+        ensures gone_routers { IfOk result (λ kept. (n : ObjId) → is_among n kept.0.gone.routers ≡ is_gone (router_ids self.old) (router_ids self.new) n) }
+        ensures touched { IfOk result (λ kept. AreSameBut kept.0.touched self.old self.new) }
+        ensures rising { IfOk result (λ kept. TouchesRise kept.0.touched) }
+        ensures back { IfOk result (λ kept. taken_back kept.1 self.new ≡ self.old) }
+        ensures known { IfOk result (λ kept. AreCeilings self.old kept.1.known) }
+        ensures sound { IsSound self.old }
         ensures refused { IfErr result (λ fault. IsFaultOf (edited self.old edits) fault) }
         ensures same { OnErr result (self.new ≡ self.old) }
     {
         let mut undos = Vec::new(alloc);
         let mut gone = Gone::new(alloc, &self.records);
-        let before = self.known;
+        let known = self.known;
         let edits = edits.into_items();
         match apply_each(
             alloc,
@@ -131,16 +160,30 @@ impl Tables {
             &mut undos,
             &mut gone,
         ) {
-            Ok(touched) => Ok(Changes {
-                any: !change_nothing(&undos),
-                gone: gone.objects,
-                touched,
-            }),
+            Ok(touched) => {
+                let changes = Changes {
+                    any: !change_nothing(&undos),
+                    gone: gone.objects,
+                    touched,
+                };
+                Ok((changes, LineUndo { undos, known }))
+            }
             Err(fault) => {
                 undo_all(&mut self.records, undos);
-                self.known = before;
+                self.known = known;
                 Err(fault)
             }
         }
+    }
+
+    /// Takes a line back that was done last. It takes no memory.
+    pub fn take_back(&mut self, line: LineUndo)
+        requires sound { IsSound (taken_back line self.old) }
+        requires known { AreCeilings (taken_back line self.old) line.known }
+        ensures { self.new ≡ taken_back line self.old }
+    {
+        let LineUndo { undos, known } = line;
+        undo_all(&mut self.records, undos);
+        self.known = known;
     }
 }

@@ -1,14 +1,16 @@
--- Places that are equal, or in order.
-use Rattle.std.proofs.Common.{◌≡◌, ap}
-use Rattle.std.proofs.lemmas.Bool.{false≢true}
+-- Places and touches that are equal, or in order.
+use Rattle.std.proofs.Common.{◌≡◌, ◌∙◌, ap}
+use Rattle.std.proofs.lemmas.Bool.{and_parts, false≢true}
 use Rattle.std.specs.Ordering.{eq_by_cmp}
 use Rattle.std.specs.Cmp.{ties}
 use Rattle.nv_base.specs.inner.Exact.{Tells, object}
 use Rattle.nb_store.specs.contracts.step.PlacePartialEq.TheImpl as place_eq
-use Rattle.nb_store.specs.contracts.step.PlaceOrd.TheImpl as place_ord
-use Rattle.nb_store.specs.contracts.step.PlaceOrd.TheImpl.Laws.{matches_partial_cmp-law}
-use Rattle.nb_store.specs.contracts.step.PlacePartialOrd.TheImpl.Laws.{laws-law}
-use Rattle.nb_store.specs.declared.step.Place.{Place}
+use Rattle.nb_store.specs.contracts.step.TouchPartialEq.TheImpl as touch_eq
+use Rattle.nb_store.specs.contracts.step.TouchOrd.TheImpl as touch_ord
+use Rattle.nb_store.specs.contracts.step.TouchOrd.TheImpl.Laws.{matches_partial_cmp-law}
+use Rattle.nb_store.specs.contracts.step.TouchPartialOrd.TheImpl.Laws.{laws-law}
+use Rattle.nb_store.specs.declared.step.Touch.{Touch}
+use Rattle.nb_store.specs.declared.step.Touch.TheVariants.{Whole, Listed}
 use Rattle.nb_store.specs.declared.step.Place.TheVariants as place
 
 -- equal places are one
@@ -36,6 +38,15 @@ same_place (place.Group n) _ e = absurd (false≢true e)
 same_place (place.Binding n) (place.Binding m) e = ap place.Binding (object n m e)
 same_place (place.Binding n) _ e = absurd (false≢true e)
 
+-- equal touches are one
+pub same_touch : Tells ((touch_eq.ghosts).eq)
+same_touch (Whole p) (Whole q) e = ap Whole (same_place p q e)
+same_touch (Whole p) (Listed q m) e = absurd (false≢true e)
+same_touch (Listed p n) (Whole q) e = absurd (false≢true e)
+same_touch (Listed p n) (Listed q m) e =
+    let parts = and_parts _ _ e in
+    ap (λ r. Listed r n) (same_place p q parts.0) ∙ ap (λ k. Listed q k) (object n m parts.1)
+
 -- and the order tells no equal ones apart
-pub place_ties : (p q : Place) → (place_eq.ghosts).eq p q ≡ eq_by_cmp (place_ord.ghosts).cmp p q
-place_ties = ties laws-law matches_partial_cmp-law
+pub touch_ties : (p q : Touch) → (touch_eq.ghosts).eq p q ≡ eq_by_cmp (touch_ord.ghosts).cmp p q
+touch_ties = ties laws-law matches_partial_cmp-law

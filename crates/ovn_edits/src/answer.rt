@@ -6,7 +6,7 @@ use crate::touched::put_touched;
 use nb_check::Tables;
 use nb_dump::put_dump;
 use nb_show::put_network;
-use nb_store::Place;
+use nb_store::Touch;
 use nb_words::{Command, LineFault, Word, read_commands};
 use nv_base::{Items, OutOfMemory};
 use std::alloc::Global;
@@ -69,7 +69,7 @@ fn is_word(word: &Word, text: &[u8]) -> bool {
 fn put_query(
     alloc: Global,
     tables: &Tables,
-    touched: &[Place],
+    touched: &[Touch],
     out: &mut Vec<u8>,
     query: Query,
 ) -> Result<(), LineFault> {
@@ -95,7 +95,7 @@ fn put_query(
 fn run_line(
     alloc: Global,
     tables: &mut Tables,
-    touched: &mut Items<Place>,
+    touched: &mut Items<Touch>,
     out: &mut Vec<u8>,
     line: &[u8],
 ) -> Result<(), LineFault> {
@@ -127,7 +127,7 @@ fn put_ok(out: &mut Vec<u8>) -> Result<(), OutOfMemory> {
 pub(crate) fn put_answer(
     alloc: Global,
     tables: &mut Tables,
-    touched: &mut Items<Place>,
+    touched: &mut Items<Touch>,
     out: &mut Vec<u8>,
     line: &[u8],
 ) -> Result<(), OutOfMemory> {

@@ -1,4 +1,4 @@
-use nb_store::Place;
+use nb_store::{Place, Touch};
 use nv_base::{ObjId, OutOfMemory, put_dec};
 
 // The word of a kind of object, and the object's number.
@@ -18,13 +18,30 @@ fn word_and_number(place: Place) -> (&'static str, ObjId) {
     }
 }
 
-/// Appends the kinds and numbers of records, a line each.
-pub(crate) fn put_touched(out: &mut Vec<u8>, places: &[Place]) -> Result<(), OutOfMemory> {
-    for place in places {
-        let (word, number) = word_and_number(*place);
-        out.extend_from_slice(word.as_bytes())?;
-        out.push(b' ')?;
-        put_dec(out, u128::from(number.0))?;
+// Appends the kind and the number of a record.
+fn put_place(out: &mut Vec<u8>, place: Place) -> Result<(), OutOfMemory> {
+    let (word, number) = word_and_number(place);
+    out.extend_from_slice(word.as_bytes())?;
+    out.push(b' ')?;
+    put_dec(out, u128::from(number.0))
+}
+
+// Appends a record, and the number that came to what it lists or went from it, if it is that alone.
+fn put_touch(out: &mut Vec<u8>, touch: Touch) -> Result<(), OutOfMemory> {
+    match touch {
+        Touch::Whole(place) => put_place(out, place),
+        Touch::Listed(place, number) => {
+            put_place(out, place)?;
+            out.extend_from_slice(b" lists ")?;
+            put_dec(out, u128::from(number.0))
+        }
+    }
+}
+
+/// Appends what was touched, a line each.
+pub(crate) fn put_touched(out: &mut Vec<u8>, touches: &[Touch]) -> Result<(), OutOfMemory> {
+    for touch in touches {
+        put_touch(out, *touch)?;
         out.push(b'\n')?;
     }
     Ok(())

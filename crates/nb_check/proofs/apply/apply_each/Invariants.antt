@@ -6,7 +6,7 @@ use Rattle.nb_model.specs.Sound.{IsSound}
 use Rattle.nb_model.specs.Transactions.{edited}
 use Rattle.nb_limits.specs.Ceilings.{AreCeilings}
 use Rattle.nb_check.specs.inner.Going.{AreSince}
-use Rattle.nb_check.specs.inner.Undone.{back_all}
+use Rattle.nb_check.specs.Undone.{back_all}
 use Rattle.nb_check.proofs.apply.apply_each.Given as goal
 use Rattle.nv_base.specs.Object.{number_limit}
 

@@ -1,6 +1,6 @@
 use Rattle.std.proofs.Common.{arith, ap, ◌∙◌}
 use Rattle.nb_model.specs.Network.{Network}
-use Rattle.nb_check.specs.inner.Undone.{back_all}
+use Rattle.nb_check.specs.Undone.{back_all}
 use Rattle.nb_check.proofs.Edited.{next_at_most}
 use Rattle.nb_check.proofs.Undone.{back_last}
 use Rattle.nb_check.proofs.apply.apply_next.Goals as goal

@@ -1,5 +1,5 @@
 use Rattle.std.proofs.Common.{ap, sym, ◌∙◌}
-use Rattle.nb_check.specs.inner.Undone.{back_all}
+use Rattle.nb_check.specs.Undone.{back_all}
 use Rattle.nb_check.proofs.Undone.{back_last}
 use Rattle.nb_check.proofs.apply.undo_all.Goals as goal
 

@@ -1,5 +1,5 @@
 use Rattle.std.proofs.Common.{◌≡◌, vec_len}
-use Rattle.nb_check.specs.inner.Undone.{back_all}
+use Rattle.nb_check.specs.Undone.{back_all}
 use Rattle.nb_check.proofs.apply.undo_all.Given as goal
 
 abbrev pub invariant-loop-undo : goal.invariant-loop-undo

@@ -2,10 +2,10 @@ use Rattle.std.proofs.Common.{ap, ◌∙◌, subst}
 use Rattle.nb_model.specs.Network.{Network}
 use Rattle.nb_model.specs.Sound.{port_ids, router_ids, router_port_ids}
 use Rattle.nb_check.specs.inner.Going.{Since}
-use Rattle.nb_check.specs.inner.Undone.{back_all}
+use Rattle.nb_check.specs.Undone.{back_all}
 use Rattle.nb_check.proofs.Moves.{gone_since}
 use Rattle.nb_check.proofs.Undone.{touched_alone}
-use Rattle.nb_check.proofs.tables.Tables.apply_all.Goals as goal
+use Rattle.nb_check.proofs.tables.Tables.apply_kept.Goals as goal
 
 pub returns-in-Ok-clause-gone_ports : goal.returns-in-Ok-clause-gone_ports
 returns-in-Ok-clause-gone_ports c =

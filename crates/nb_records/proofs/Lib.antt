@@ -1,2 +1,4 @@
+mod Counted
 mod Fronts
+mod Runs
 pub mod Told

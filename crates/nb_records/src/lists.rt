@@ -4,7 +4,7 @@ ghost use Rattle.std.specs.List.{list_any};
 ghost use Rattle.nb_records.specs.Longer.{same_number, lists_more, named_longer};
 ghost use Rattle.nb_records.specs.Tags.{named_tags};
 
-use crate::{Group, Router, Switch, Tag};
+use crate::{Group, Numbers, Router, Switch, Tag};
 use nv_base::{Kept, Name, ObjId, OutOfMemory};
 use nv_table::Listing;
 use std::alloc::Global;
@@ -56,6 +56,27 @@ fn named_tag(alloc: Global, name: &Name, listed: &[ObjId], place: usize) -> Resu
     } else {
         Ok(Tag::Lists(listed[place - 1]))
     }
+}
+
+// The same of the ports of groups, which are compared run by run.
+fn ports_more(longer: &Numbers, shorter: &Numbers, at: usize) -> bool
+    ensures { result ≡ lists_more longer.now shorter.now at }
+{
+    if at >= longer.len() || longer.len() != shorter.len() + 1 {
+        return false;
+    }
+    longer.agrees(0, shorter, 0, at)
+        && longer.agrees(at + 1, shorter, at, shorter.len() - at)
+        && !shorter.has_from(longer.number_at(at), 0)
+}
+
+// The place of the first port that another group has not at its place.
+fn first_other_port(listed: &Numbers, others: &Numbers) -> usize {
+    let mut at = 0;
+    while at < listed.len() && listed.get(at) == others.get(at) {
+        at += 1;
+    }
+    at.saturating_add(1)
 }
 
 impl Listing for Switch {
@@ -121,20 +142,18 @@ impl Listing for Group {
     ghost longer = { group_is_longer };
 
     fn is_longer(&self, other: &Self, place: usize) -> bool {
-        named_longer(
-            &self.name,
-            self.ports.as_slice(),
-            &other.name,
-            other.ports.as_slice(),
-            place,
-        )
+        place > 0 && self.name == other.name && ports_more(&self.ports, &other.ports, place - 1)
     }
 
     fn first_difference(&self, other: &Self) -> usize {
-        first_difference(self.ports.as_slice(), other.ports.as_slice())
+        first_other_port(&self.ports, &other.ports)
     }
 
     fn tag(&self, alloc: Global, place: usize) -> Result<Tag, OutOfMemory> {
-        named_tag(alloc, &self.name, self.ports.as_slice(), place)
+        if place == 0 {
+            Ok(Tag::Named(self.name.copy(alloc)?))
+        } else {
+            Ok(Tag::Lists(self.ports.number_at(place - 1)))
+        }
     }
 }

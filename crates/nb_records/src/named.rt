@@ -3,7 +3,7 @@ ghost use Rattle.std.specs.Prelude.{◌≡◌, ◌<◌, ◌+◌, length, map, If
 ghost use Rattle.nv_table.specs.Table.{order_at};
 ghost use Rattle.nb_records.specs.Tags.{tag_cmp, named_tags};
 
-use crate::{AddrSet, Group, Lb, Named, Router, Switch, Tag};
+use crate::{AddrSet, Group, Lb, Named, Numbers, Router, Switch, Tag};
 use nv_base::{Items, Kept, Name, ObjId, OutOfMemory};
 use nv_map::Probe;
 use nv_table::Record;
@@ -18,6 +18,18 @@ fn named_tags(alloc: Global, name: &Name, listed: &[ObjId]) -> Result<Items<Tag>
     tags.push(Tag::Named(name.copy(alloc)?))?;
     for object in listed {
         tags.push(Tag::Lists(*object))?;
+    }
+    Ok(tags)
+}
+
+// The same of a group, which has its ports in blocks.
+fn group_tags(alloc: Global, name: &Name, ports: &Numbers) -> Result<Items<Tag>, OutOfMemory>
+    ensures { IfOk result (λ tags. tags ≡ named_tags name.now ports.now) }
+{
+    let mut tags = Items::with_capacity(alloc, ports.len() + 1)?;
+    tags.push(Tag::Named(name.copy(alloc)?))?;
+    for at in 0..ports.len() {
+        tags.push(Tag::Lists(ports.number_at(at)))?;
     }
     Ok(tags)
 }
@@ -185,18 +197,22 @@ impl Record for Group {
     }
 
     fn tags(&self, alloc: Global) -> Result<Items<Tag>, OutOfMemory> {
-        named_tags(alloc, &self.name, self.ports.as_slice())
+        group_tags(alloc, &self.name, &self.ports)
     }
 
     fn tag_count(&self) -> usize {
-        named_count(self.ports.as_slice())
+        self.ports.len() + 1
     }
 
     fn compare_tag(&self, place: usize, tag: &Tag) -> Ordering {
-        compare_named(&self.name, self.ports.as_slice(), place, tag)
+        if place == 0 {
+            Named(self.name.as_slice()).compare(tag)
+        } else {
+            Tag::Lists(self.ports.number_at(place - 1)).cmp(tag)
+        }
     }
 
     fn weight(&self) -> (u64, u64) {
-        (self.ports.as_slice().len() as u64, 0)
+        (self.ports.len() as u64, 0)
     }
 }

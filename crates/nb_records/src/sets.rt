@@ -1,4 +1,5 @@
 //! Address sets and port groups.
+use crate::Numbers;
 use nv_base::{Items, Mac, Name, ObjId, Prefix};
 
 /// A member of an address set.
@@ -24,5 +25,5 @@ pub struct Group {
     pub id: ObjId,
     pub name: Name,
     /// The numbers of its ports, none of them twice.
-    pub ports: Items<ObjId>,
+    pub ports: Numbers,
 }

@@ -1,0 +1,8 @@
+use Rattle.std.proofs.Common.{Some, ◌∙◌, ap, sym}
+use Rattle.nb_records.specs.declared.tag.Tag.TheVariants.{Lists}
+use Rattle.nb_records.specs.inner.OneMore.{listed_at}
+use Rattle.nb_records.proofs.lists.GroupListing.tag.Goals as goal
+
+pub returns-else-place-eq0 : goal.returns-else-place-eq0
+returns-else-place-eq0 c =
+    listed_at _ _ _ c.number_at.result c.if-place-eq0.false c.requires ∙ ap (λ n. Some (Lists n)) (sym c.number_at.ensures.indexed)

@@ -30,3 +30,4 @@ pub mod Tail
 pub mod Taken
 pub mod Texts
 pub mod ToldRows
+pub mod Without

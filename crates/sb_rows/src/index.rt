@@ -1,5 +1,5 @@
 //! What is kept of a table that has many rows, by which those that may take a packet are found.
-ghost use Rattle.std.specs.Prelude.{◌≡◌, ◌<◌, ◌≤◌, ℕ, List, Contains, IfOk, IsTrue, OnOk, Some};
+ghost use Rattle.std.specs.Prelude.{◌≡◌, ◌<◌, ◌≤◌, ℕ, List, Contains, IfOk, IfSome, IsTrue, OnOk, Some};
 ghost use Rattle.std.specs.List.{find};
 ghost use Rattle.std.specs.Option.{option_copied};
 ghost use Rattle.expr_eval.specs.MatchMeaning.{holds};
@@ -16,6 +16,7 @@ use crate::asks::{Asks, Called, Known, Numbers, Shape, Side, known_at, ports_by}
 use crate::counts::Counts;
 use crate::crowds::Crowds;
 use crate::filled::Filled;
+use crate::finding::Buckets;
 use crate::own::Own;
 use crate::stored::Stored;
 use expr_core::Env;
@@ -66,15 +67,15 @@ pub(crate) struct Index {
     // What its buckets are told by. Those that the first rows have come first.
     shapes: Vec<Shaped>,
     // The places that were known at once, by their buckets.
-    filled: Filled,
+    pub(crate) filled: Filled,
     // Those that came since, after their buckets.
-    more: BTreeSet<(u64, u128)>,
+    pub(crate) more: BTreeSet<(u64, u128)>,
     // The buckets of those for which there was no room in others.
     own: Own,
     // What it is worth to tell rows by all that their matches ask.
     crowds: Crowds,
     // How many places were struck since the first ones were cleared.
-    struck: usize,
+    pub(crate) struck: usize,
 }
 
 impl Index {
@@ -143,12 +144,28 @@ impl Index {
         self.own.len() / 2 > rows
     }
 
-    // Whether so many places came to a bucket as there is room for.
+    // Whether a bucket has as many places as there is room for, of those that were known at once or of those that came since.
     fn is_full(&self, bucket: u64) -> bool {
+        if self.filled.has_more(bucket, usize::from(ROOM - 1)) {
+            return true;
+        }
         match self.more.range((bucket, 0)..).nth(usize::from(ROOM - 1)) {
             Some((there, _)) => *there == bucket,
             None => false,
         }
+    }
+
+    // The place of an equal row, where it is in a bucket of what its match asks.
+    pub(crate) fn place_of(&self, rows: &Places, row: &Row) -> Option<u128>
+        requires { ArePlaced rows.now.entries }
+        ensures { IfSome result (λ place. Contains rows.now.entries (place, row.now)) }
+    {
+        let buckets = Buckets {
+            filled: &self.filled,
+            more: &self.more,
+            own: &self.own,
+        };
+        buckets.place_of(rows, row)
     }
 
     // Strikes the place of a row with this match, where it is there. Other places stay that have rows. It takes no memory.

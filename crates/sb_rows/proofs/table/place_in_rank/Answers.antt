@@ -4,7 +4,7 @@ use Rattle.std.proofs.lemmas.Bool.{false≢true}
 use Rattle.std.proofs.lemmas.Map.Iter.{rest_more, rest_all}
 use Rattle.sb_rows.specs.inner.Store.{first_place}
 use Rattle.sb_rows.proofs.PlacedRank.{in_rank, still_there, found_there, nowhere}
-use Rattle.sb_rows.proofs.table.place_of.Goals as goal
+use Rattle.sb_rows.proofs.table.place_in_rank.Goals as goal
 
 pub loop-place-init : goal.loop-place-init
 loop-place-init c =

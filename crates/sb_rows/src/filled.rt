@@ -71,12 +71,15 @@ impl Filled {
         &self.places[from..]
     }
 
-    // Those from a place of a bucket on, in order.
-    pub(crate) fn from_place(&self, bucket: u64, place: u128) -> &[(u64, u128)] {
-        let from = self
-            .places
-            .partition_point(|there| *there < (bucket, place));
-        &self.places[from..]
+    // Those from a place of a bucket on, in order, and after them those of higher ones.
+    pub(crate) fn from_place(&self, bucket: u64, place: u128) -> &[(u64, u128)]
+        ensures rise { IsSorted pair_cmp result.now }
+        ensures from { All (λ x. bucket ≤ x.0) result.now }
+        ensures all { (p : ℕ) → place ≤ p → Contains self.now (bucket, p) → Contains result.now (bucket, p) }
+    {
+        let rest = self.from_bucket(bucket);
+        let from = rest.partition_point(|there| there.0 == bucket && there.1 < place);
+        &rest[from..]
     }
 
     // Whether a bucket has so many places and one more.

@@ -1,5 +1,5 @@
 //! What is kept of a table that has many rows, by which those that may take a packet are found.
-ghost use Rattle.std.specs.Prelude.{◌≡◌, ◌<◌, ◌≤◌, ℕ, List, Contains, IfOk, IfSome, IsTrue, OnOk, Some};
+ghost use Rattle.std.specs.Prelude.{◌≡◌, ◌<◌, ◌≤◌, ℕ, List, Contains, IfOk, IsTrue, OnOk, Some};
 ghost use Rattle.std.specs.List.{find};
 ghost use Rattle.std.specs.Option.{option_copied};
 ghost use Rattle.expr_eval.specs.MatchMeaning.{holds};
@@ -16,7 +16,6 @@ use crate::asks::{Asks, Called, Known, Numbers, Shape, Side, known_at, ports_by}
 use crate::counts::Counts;
 use crate::crowds::Crowds;
 use crate::filled::Filled;
-use crate::finding::Buckets;
 use crate::own::Own;
 use crate::stored::Stored;
 use expr_core::Env;
@@ -71,7 +70,7 @@ pub(crate) struct Index {
     // Those that came since, after their buckets.
     pub(crate) more: BTreeSet<(u64, u128)>,
     // The buckets of those for which there was no room in others.
-    own: Own,
+    pub(crate) own: Own,
     // What it is worth to tell rows by all that their matches ask.
     crowds: Crowds,
     // How many places were struck since the first ones were cleared.
@@ -153,19 +152,6 @@ impl Index {
             Some((there, _)) => *there == bucket,
             None => false,
         }
-    }
-
-    // The place of an equal row, where it is in a bucket of what its match asks.
-    pub(crate) fn place_of(&self, rows: &Places, row: &Row) -> Option<u128>
-        requires { ArePlaced rows.now.entries }
-        ensures { IfSome result (λ place. Contains rows.now.entries (place, row.now)) }
-    {
-        let buckets = Buckets {
-            filled: &self.filled,
-            more: &self.more,
-            own: &self.own,
-        };
-        buckets.place_of(rows, row)
     }
 
     // Strikes the place of a row with this match, where it is there. Other places stay that have rows. It takes no memory.

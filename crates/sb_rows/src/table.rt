@@ -248,16 +248,14 @@ impl Table {
 
 // The place of an equal row, if it is there. It is looked for by what its match asks, where that is kept.
 fn place_of(rows: &Places, index: &Option<Index>, row: &Row) -> Option<u128>
-    requires { ArePlaced rows.now.entries }
+    requires { IsTable rows.now.entries index.now }
     ensures there { IfSome result (λ place. Contains rows.now.entries (place, row.now)) }
     ensures absent { result ≡ None → Contains (rows_of_places rows.now.entries) row.now → ⊥ }
 {
-    if let Some(index) = index {
-        if let Some(place) = index.place_of(rows, row) {
-            return Some(place);
-        }
+    match index {
+        Some(index) => index.place_of(rows, row),
+        None => place_in_rank(rows, row),
     }
-    place_in_rank(rows, row)
 }
 
 // The place of an equal row, if it is there. Only rows of its rank are looked at.

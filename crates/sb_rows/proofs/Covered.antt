@@ -1,6 +1,6 @@
 -- What an index has of its rows, as places come to it and are struck.
-use Rattle.std.proofs.Common.{◌≡◌, ℕ, Bool, true, false, cond, List, [], ◌∷◌, ◌++◌, sym, subst, refl, ◌∙◌, ◌⊎◌, inl, inr}
-use Rattle.std.specs.Prelude.{Contains, Option, Some}
+use Rattle.std.proofs.Common.{◌≡◌, ℕ, Bool, true, false, cond, List, [], ◌∷◌, ◌++◌, ap, sym, subst, refl, ◌∙◌, ◌⊎◌, inl, inr, Ok, Err}
+use Rattle.std.specs.Prelude.{Contains, OnOk, Option, Result, Some}
 use Rattle.std.specs.BTreeMap.{is_at}
 use Rattle.std.specs.BTreeSet.{BTreeSet, contains}
 use Rattle.std.specs.Ordering.{nat_cmp}
@@ -21,6 +21,7 @@ use Rattle.sb_rows.specs.inner.Filled.{pair_cmp}
 use Rattle.sb_rows.proofs.InOrder.{pairs_total}
 use Rattle.sb_rows.specs.inner.Index.{Covers, IsCovered, IsFiled, IsIn}
 use Rattle.sb_rows.specs.inner.Own.{IsBucketOf, own_bucket}
+use Rattle.sb_rows.specs.inner.Plain.{IsOf, asked_by, plain, short_of}
 
 pub pairs_exact : CmpEqualImpliesEq pair_cmp
 pairs_exact = exact_pairs nat_cmp nat_cmp exact_unsigned exact_unsigned
@@ -62,14 +63,24 @@ bucket_stays before after asks bucket kept (inl shared) = inl shared
 bucket_stays before after asks bucket kept (inr own) = inr (kept (name_of asks.port) (bucket_of asks) (numbers_of asks) bucket own)
 
 -- a row is covered by what its match asks
-pub covered_by : (row : Row) (place : ℕ) (index : Index) (asks : Asks) → ((net : Lookup) (packet : Values) → holds net packet row.matching ≡ true → HasAsked asks net packet) → IsFiled asks place index → IsCovered row place index
-covered_by row place index asks asked filed net packet takes = (asks, (asked net packet takes, filed))
+pub covered_by : (row : Row) (place : ℕ) (index : Index) (first asks : Asks) → ((net : Lookup) (packet : Values) → holds net packet row.matching ≡ true → HasAsked asks net packet) → plain first ≡ asked_by row.matching
+    → (plain asks ≡ plain first) ⊎ (plain asks ≡ short_of (plain first)) → IsFiled asks place index → IsCovered row place index
+covered_by row place index first asks asked first_told told filed = (asks, (record { asked = asked; told = by told }, filed))
+  where
+    by : (plain asks ≡ plain first) ⊎ (plain asks ≡ short_of (plain first)) → IsOf row.matching (plain asks)
+    by (inl all) = inl (all ∙ first_told)
+    by (inr short) = inr (short ∙ ap short_of first_told)
+
+-- what follows from what is so where something went well is so there
+pub on_ok : {T E : Type 0} (result : Result T E) (P Q : Type 0) → (P → Q) → OnOk result P → OnOk result Q
+on_ok (Ok x) P Q follows p = follows p
+on_ok (Err e) P Q follows p = tt
 
 -- a row that is covered stays so where shapes and places are added
 pub covered_more : (row : Row) (place : ℕ) (before after : Index) → ((s : Shaped) → Contains before.shapes.items s → Contains after.shapes.items s) → AreKept before.own after.own
     → ((b : ℕ) → IsIn before b place → IsIn after b place) → IsCovered row place before → IsCovered row place after
-covered_more row place before after shapes own held covered net packet takes =
-    let it = covered net packet takes in
+covered_more row place before after shapes own held covered =
+    let it = covered in
     let has = it.1.1.shaped in
     let there = it.1.1.there in (
       it.0,

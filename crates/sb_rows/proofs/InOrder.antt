@@ -1,11 +1,12 @@
 -- Places after their buckets, in order.
-use Rattle.std.proofs.Common.{◌≡◌, ℕ, ◌+◌, ◌-◌, ◌<◌, ◌≤◌, Bool, true, false, get_or, ltb, List, length, drop, take, Contains, ap, sym, subst, refl, ◌∙◌, arith}
+use Rattle.std.proofs.Common.{◌≡◌, ℕ, ◌+◌, ◌-◌, ◌<◌, ◌≤◌, Bool, true, false, eqb, get_or, ltb, List, length, drop, take, Contains, ap, sym, subst, refl, ◌∙◌, arith}
 use Rattle.std.specs.Borrow.{Bor}
-use Rattle.std.specs.Prelude.{All, Option, None, Some}
-use Rattle.std.specs.List.Sorted.{IsSorted, IsNonDecreasingBy, IsPartitionPoint}
+use Rattle.std.specs.Prelude.{◌&&◌, All, Option, None, Some}
+use Rattle.std.specs.List.Sorted.{IsSorted, IsNonDecreasingBy, IsPartitionPoint, IsPartitionedBy}
 use Rattle.std.specs.Ordering.{is_lt, nat_cmp, ordering_then}
 use Rattle.std.specs.declared.cmp.Ordering.{Ordering}
-use Rattle.std.proofs.lemmas.Bool.{ltb-true, ltb-false}
+use Rattle.std.proofs.lemmas.Bool.{and_parts, eqb-true, ltb-true, ltb-false}
+use Rattle.std.proofs.lemmas.Bool.Decides.{nat_tests}
 use Rattle.std.proofs.lemmas.Cmp.{by_ranked, nat_cmp_total, on_total, ranked, then_total}
 use Rattle.std.proofs.lemmas.List.{get_or-drop, get_or_default, length-drop, take_all}
 use Rattle.std.proofs.lemmas.List.Sorted.{ranks_by, sorted_far}
@@ -76,6 +77,42 @@ module _ (xs : List (ℕ × ℕ)) (bucket at : ℕ) (point : IsPartitionPoint (�
           let from = ltb-false k at later in
           let there : at + (k - at) ≡ k = omega (arith, from) in
           (k - at, omega (arith, lt, from, length-drop at xs), get_or-drop at xs (k - at) (bucket, p) ∙ ap (λ n. get_or xs n (bucket, p)) there ∙ is)
+
+-- ---- those of a bucket from a place on
+
+both_true : (a b c d : ℕ) → a ≡ b → c < d → (eqb a b && ltb c d) ≡ true
+both_true a b c d is lt = grind (arith, nat_tests)
+
+module _ (xs : List (ℕ × ℕ)) (bucket place : ℕ) where
+  abbrev pub is_earlier : ℕ × ℕ → Bool
+  is_earlier x = eqb x.0 bucket && ltb x.1 place
+
+  -- where none is of a lower bucket, those of earlier places come first
+  pub earlier_first : IsSorted pair_cmp xs → All (λ (x : ℕ × ℕ). bucket ≤ x.0) xs → IsPartitionedBy is_earlier xs
+  earlier_first up from i j d le lt e =
+      let parts = and_parts _ _ e in
+      let same = eqb-true _ bucket parts.0 in
+      let below = ltb-true _ place parts.1 in
+      let it = no_lower_place bucket (get_or xs j d).1 (get_or xs i d) (from i d (omega (arith, le, lt))) (subst (λ (b : ℕ). is_lt (pair_cmp (b, (get_or xs j d).1) (get_or xs i d)) ≡ false) same (far xs up i j d le lt)) in
+      both_true (get_or xs i d).0 bucket (get_or xs i d).1 place it.0 (omega (arith, it.1, below))
+
+  module _ (at : ℕ) (point : IsPartitionPoint (λ (y : ℕ × ℕ). is_earlier y ≡ true) (λ (y : ℕ × ℕ). is_earlier y ≡ false) xs at) where
+    pub still_from : All (λ (x : ℕ × ℕ). bucket ≤ x.0) xs → All (λ (x : ℕ × ℕ). bucket ≤ x.0) (drop at xs)
+    still_from from k d lt = rw (get_or-drop at xs k d) (from (at + k) d (omega (arith, lt, length-drop at xs)))
+
+    -- each of a place that is not earlier is among the others
+    pub others_have : (p : ℕ) → place ≤ p → Contains xs (bucket, p) → Contains (drop at xs) (bucket, p)
+    others_have p from (k, lt, is) = by (ltb k at) refl
+      where
+        by : (b : Bool) → ltb k at ≡ b → Contains (drop at xs) (bucket, p)
+        by true earlier =
+            let test : is_earlier (bucket, p) ≡ true = subst (λ (y : ℕ × ℕ). is_earlier y ≡ true) is (point.0 k (bucket, p) (omega arith) (ltb-true k at earlier)) in
+            let below : p < place = ltb-true p place (and_parts (eqb bucket bucket) (ltb p place) test).1 in
+            absurd (omega (arith, below, from))
+        by false later =
+            let not_before = ltb-false k at later in
+            let there : at + (k - at) ≡ k = omega (arith, not_before) in
+            (k - at, omega (arith, lt, not_before, length-drop at xs), get_or-drop at xs (k - at) (bucket, p) ∙ ap (λ n. get_or xs n (bucket, p)) there ∙ is)
 
 -- ---- a search through them
 

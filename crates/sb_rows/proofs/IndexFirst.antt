@@ -135,10 +135,10 @@ no_better_from (Some b) from place le after = omega arith
 pub each_tried : (net : Lookup) (packet : Values) (rows : List (ℕ × Row)) (index : Index) (best : Option (ℕ × Bor Row)) (at : ℕ) → Covers index rows → length index.shapes.items ≤ at → AreTried net packet rows index best at
     → (place : ℕ) → IsTried net packet rows best place
 each_tried net packet rows index best at covers all so_far place row there takes =
-    let it = covers place row there net packet takes in
+    let it = covers place row there in
     let has = it.1.1.shaped in
     let among = has.1.0 in
-    so_far among.0 has.0 (record { shape = shape_of it.0; from = has.0 }) it.0 place (omega (arith, among.1, all)) (sym among.2) has.1.1 it.1.0 it.1.1.there row there takes
+    so_far among.0 has.0 (record { shape = shape_of it.0; from = has.0 }) it.0 place (omega (arith, among.1, all)) (sym among.2) has.1.1 (it.1.0.asked net packet takes) it.1.1.there row there takes
 
 -- ---- what the best place is at the end
 

@@ -37,29 +37,33 @@ among_kept {X} test (e ∷ es) x passes there = by (test e) refl (among_kept tes
     by true here rest = rw here (is_there here rest (first_or_later e x es there))
     by false not rest = rw not (is_later not rest (first_or_later e x es there))
 
--- the places of a bucket are among the keys from its first on
-pub among_from : (keys : List (ℕ × ℕ)) (bucket place : ℕ) → Contains keys (bucket, place) → Contains (filter (range_contains pair_cmp (Included (bucket, 0)) Unbounded) keys) (bucket, place)
-among_from keys bucket place there = among_kept (range_contains pair_cmp (Included (bucket, 0)) Unbounded) keys (bucket, place) from there
+-- the places of a bucket from one on are among the keys from that on
+pub among_from_place : (keys : List (ℕ × ℕ)) (bucket first place : ℕ) → first ≤ place → Contains keys (bucket, place) → Contains (filter (range_contains pair_cmp (Included (bucket, first)) Unbounded) keys) (bucket, place)
+among_from_place keys bucket first place le there = among_kept (range_contains pair_cmp (Included (bucket, first)) Unbounded) keys (bucket, place) from there
   where
-    not_above : is_gt (nat_cmp 0 place) ≡ false
+    not_above : is_gt (nat_cmp first place) ≡ false
     not_above =
-        by_ranked (0 < place) (0 ≡ place) (place < 0) (nat_cmp 0 place) (ranked 0 place (nat_cmp 0 place) refl)
+        by_ranked (first < place) (first ≡ place) (place < first) (nat_cmp first place) (ranked first place (nat_cmp first place) refl)
         (λ e below. ap is_gt e)
         (λ e same. ap is_gt e)
-        (λ e above. absurd (omega (arith, above)))
+        (λ e above. absurd (omega (arith, above, le)))
 
-    from : range_contains pair_cmp (Included (bucket, 0)) Unbounded (bucket, place) ≡ true
+    from : range_contains pair_cmp (Included (bucket, first)) Unbounded (bucket, place) ≡ true
     from =
-        range_contains-from_IsInRange pairs_total (Included (bucket, 0)) Unbounded (bucket, place)
-        (subst (λ (o : Ordering). is_gt (ordering_then o (nat_cmp 0 place)) ≡ false) (sym (tied_itself nat_cmp_total bucket)) not_above, tt)
+        range_contains-from_IsInRange pairs_total (Included (bucket, first)) Unbounded (bucket, place)
+        (subst (λ (o : Ordering). is_gt (ordering_then o (nat_cmp first place)) ≡ false) (sym (tied_itself nat_cmp_total bucket)) not_above, tt)
 
--- a key that is not before the first of a bucket is of that one or of a later one
-from_bucket : (bucket : ℕ) (x : ℕ × ℕ) → is_gt (pair_cmp (bucket, 0) x) ≡ false → bucket ≤ x.0
-from_bucket bucket x from =
+-- the places of a bucket are among the keys from its first on
+pub among_from : (keys : List (ℕ × ℕ)) (bucket place : ℕ) → Contains keys (bucket, place) → Contains (filter (range_contains pair_cmp (Included (bucket, 0)) Unbounded) keys) (bucket, place)
+among_from keys bucket place there = among_from_place keys bucket 0 place (omega arith) there
+
+-- a key that is not before one of a bucket is of that one or of a later one
+from_bucket : (bucket first : ℕ) (x : ℕ × ℕ) → is_gt (pair_cmp (bucket, first) x) ≡ false → bucket ≤ x.0
+from_bucket bucket first x from =
     by_ranked (bucket < x.0) (bucket ≡ x.0) (x.0 < bucket) (nat_cmp bucket x.0) (ranked bucket x.0 (nat_cmp bucket x.0) refl)
     (λ e below. omega (arith, below))
     (λ e same. omega (arith, same))
-    (λ e above. let wrong : true ≡ false = subst (λ (o : Ordering). is_gt (ordering_then o (nat_cmp 0 x.1)) ≡ false) e from in absurd (cc))
+    (λ e above. let wrong : true ≡ false = subst (λ (o : Ordering). is_gt (ordering_then o (nat_cmp first x.1)) ≡ false) e from in absurd (cc))
 
 -- a key of no earlier bucket that is not after a place of the bucket is a place of it that is not after that
 upto_place : (bucket place : ℕ) (x : ℕ × ℕ) → bucket ≤ x.0 → is_gt (pair_cmp x (bucket, place)) ≡ false → (x.0 ≡ bucket) × (x.1 ≤ place)
@@ -100,29 +104,37 @@ no_better_up : (best : Option (ℕ × Bor Row)) (p q : ℕ) → p ≤ q → IsNo
 no_better_up None p q le none = none
 no_better_up (Some b) p q le after = omega arith
 
--- the keys that are gone through for a bucket
+-- the keys that are gone through for a bucket from a place on
+abbrev pub keys_from_place : ℕ → ℕ → List (ℕ × ℕ) → List (ℕ × ℕ)
+keys_from_place bucket first keys = filter (range_contains pair_cmp (Included (bucket, first)) Unbounded) keys
+
+-- and those for all of it
 abbrev pub keys_from : ℕ → List (ℕ × ℕ) → List (ℕ × ℕ)
-keys_from bucket keys = filter (range_contains pair_cmp (Included (bucket, 0)) Unbounded) keys
+keys_from bucket keys = keys_from_place bucket 0 keys
 
 -- a place of the bucket is among those so far, or no better where the key at hand is of another bucket or no better
-pub seen_or_no_better : (keys all seen rest : List (ℕ × ℕ)) (x : ℕ × ℕ) (bucket p : ℕ) (best : Option (ℕ × Bor Row)) → IsStrictlySortedBy pair_cmp keys → all ≡ keys_from bucket keys → all ≡ seen ++ (x ∷ rest)
-    → (x.0 ≡ bucket → IsNoBetter best x.1) → Contains keys (bucket, p) → Contains seen (bucket, p) ⊎ IsNoBetter best p
-seen_or_no_better keys all seen rest x bucket p best rise from split ends there =
-    by (so_far_or_not_before (keys_from bucket keys) seen rest x (bucket, p) (IsStrictlySortedBy-filter pair_cmp (range_contains pair_cmp (Included (bucket, 0)) Unbounded) keys rise) parts (among_from keys bucket p there))
+pub seen_from_place : (keys all seen rest : List (ℕ × ℕ)) (x : ℕ × ℕ) (bucket first p : ℕ) (best : Option (ℕ × Bor Row)) → IsStrictlySortedBy pair_cmp keys → all ≡ keys_from_place bucket first keys → all ≡ seen ++ (x ∷ rest)
+    → (x.0 ≡ bucket → IsNoBetter best x.1) → first ≤ p → Contains keys (bucket, p) → Contains seen (bucket, p) ⊎ IsNoBetter best p
+seen_from_place keys all seen rest x bucket first p best rise from split ends le there =
+    by (so_far_or_not_before (keys_from_place bucket first keys) seen rest x (bucket, p) (IsStrictlySortedBy-filter pair_cmp (range_contains pair_cmp (Included (bucket, first)) Unbounded) keys rise) parts (among_from_place keys bucket first p le there))
   where
-    parts : keys_from bucket keys ≡ seen ++ (x ∷ rest)
+    parts : keys_from_place bucket first keys ≡ seen ++ (x ∷ rest)
     parts = sym from ∙ split
 
-    passes : range_contains pair_cmp (Included (bucket, 0)) Unbounded x ≡ true
+    passes : range_contains pair_cmp (Included (bucket, first)) Unbounded x ≡ true
     passes =
-        All-contains (λ y. range_contains pair_cmp (Included (bucket, 0)) Unbounded y ≡ true) (keys_from bucket keys) x (filter_passes (range_contains pair_cmp (Included (bucket, 0)) Unbounded) keys)
+        All-contains (λ y. range_contains pair_cmp (Included (bucket, first)) Unbounded y ≡ true) (keys_from_place bucket first keys) x (filter_passes (range_contains pair_cmp (Included (bucket, first)) Unbounded) keys)
         (subst (λ (l : List (ℕ × ℕ)). Contains l x) (sym parts) (Contains-append_right seen (x ∷ rest) x (zero, omega arith, refl)))
 
     by : Contains seen (bucket, p) ⊎ (is_gt (pair_cmp x (bucket, p)) ≡ false) → Contains seen (bucket, p) ⊎ IsNoBetter best p
     by (inl before) = inl before
     by (inr upto) =
-        let it = upto_place bucket p x (from_bucket bucket x (IsInRange-from_range_contains pairs_total (Included (bucket, 0)) Unbounded x passes).0) upto in
+        let it = upto_place bucket p x (from_bucket bucket first x (IsInRange-from_range_contains pairs_total (Included (bucket, first)) Unbounded x passes).0) upto in
         inr (no_better_up best x.1 p it.1 (ends it.0))
+
+pub seen_or_no_better : (keys all seen rest : List (ℕ × ℕ)) (x : ℕ × ℕ) (bucket p : ℕ) (best : Option (ℕ × Bor Row)) → IsStrictlySortedBy pair_cmp keys → all ≡ keys_from bucket keys → all ≡ seen ++ (x ∷ rest)
+    → (x.0 ≡ bucket → IsNoBetter best x.1) → Contains keys (bucket, p) → Contains seen (bucket, p) ⊎ IsNoBetter best p
+seen_or_no_better keys all seen rest x bucket p best rise from split ends there = seen_from_place keys all seen rest x bucket 0 p best rise from split ends (omega arith) there
 
 -- a place of the keys so far and of one more is of those so far or of that
 pub seen_or_here : (seen : List (ℕ × ℕ)) (x : ℕ × ℕ) (bucket p : ℕ) → Contains (seen ++ (x ∷ [])) (bucket, p) → Contains seen (bucket, p) ⊎ (x.1 ≡ p)

@@ -3,7 +3,9 @@ pub mod Among
 pub mod Apart
 pub mod Appends
 pub mod AsSet
+pub mod Asking
 pub mod Asked
+pub mod AskedSame
 pub mod Covered
 pub mod Distinct
 pub mod Flat
@@ -30,3 +32,4 @@ pub mod Tail
 pub mod Taken
 pub mod Texts
 pub mod ToldRows
+pub mod Without

@@ -205,6 +205,9 @@ module _ (rows : List (ℕ × Row)) where
   pub covers_kept : (was is : Index) → Covers was rows → ((r : Row) (p : ℕ) → IsCovered r p was → IsCovered r p is) → Covers is rows
   covers_kept was is covers kept place row at = kept row place (covers place row at)
 
+  pub covers_folded : (was is : Index) → Covers was rows → ((r : Row) (p : ℕ) → Contains rows (p, r) → IsCovered r p was → IsCovered r p is) → Covers is rows
+  covers_folded was is covers kept place row at = kept row place at (covers place row at)
+
   pub covers_some : (kept : Option Index) (is : Index) → kept ≡ Some is → Covers is rows → (index : Index) → kept ≡ Some index → Covers index rows
   covers_some kept is same covers index also = let one : is ≡ index = cc in subst (λ i. Covers i rows) one covers
 

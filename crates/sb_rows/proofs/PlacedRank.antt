@@ -1,5 +1,5 @@
 -- Rows of one rank, among those of a table.
-use Rattle.std.proofs.Common.{◌≡◌, ℕ, ◌+◌, List, [], ◌∷◌, sym, ap, subst, arith, inl, inr}
+use Rattle.std.proofs.Common.{◌≡◌, ℕ, ◌+◌, ◌<◌, ◌≤◌, List, [], ◌∷◌, sym, ap, subst, arith, inl, inr}
 use Rattle.std.specs.Prelude.{◌↔◌, ◌⊎◌}
 use Rattle.std.specs.BTreeMap.Range.{entries_between}
 use Rattle.std.specs.List.{Contains}
@@ -15,6 +15,10 @@ use Rattle.sb_rows.proofs.PlacedParts.{first_or_later, is_between, later, was_be
 -- an entry is a row at its place
 pub placed_at : (rows : List (ℕ × Row)) → ArePlaced rows → (at : ℕ) (row : Row) → Contains rows (at, row) → IsPlace at row
 placed_at rows are at row there = All-contains (λ (e : ℕ × Row). IsPlace e.0 e.1) rows (at, row) are.placed there
+
+-- and is between the places of its rank
+pub within_rank : (rows : List (ℕ × Row)) (at : ℕ) (row : Row) (first : ℕ) → ArePlaced rows → first ≡ first_place (rank_of row) → Contains rows (at, row) → (first ≤ at) × (at < first + 604462909807314587353088)
+within_rank rows at row first are begins there = let place = placed_at rows are at row there in (omega (arith, place.from), omega (arith, place.below))
 
 -- a row is among those of its rank
 pub in_rank : (rows part : List (ℕ × Row)) (row : Row) (first : ℕ) → ArePlaced rows → first ≡ first_place (rank_of row)

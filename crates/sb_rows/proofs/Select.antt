@@ -53,7 +53,7 @@ among_put new (x ∷ xs) r there = by (is_gt (row_cmp x new)) there (among_put n
     by true at rest = among_cases new r (x ∷ xs) at
     by false at rest = moved (among_cases x r (put_row new xs) at) rest
 
-put_among_new : (r : Row) (xs : List Row) → Contains (put_row r xs) r
+pub put_among_new : (r : Row) (xs : List Row) → Contains (put_row r xs) r
 put_among_new r [] = first_among r []
 put_among_new r (x ∷ xs) = by (is_gt (row_cmp x r)) (put_among_new r xs)
   where
@@ -61,7 +61,7 @@ put_among_new r (x ∷ xs) = by (is_gt (row_cmp x r)) (put_among_new r xs)
     by true rest = first_among r (x ∷ xs)
     by false rest = later_among x r (put_row r xs) rest
 
-put_among_old : (new : Row) (xs : List Row) (r : Row) → Contains xs r → Contains (put_row new xs) r
+pub put_among_old : (new : Row) (xs : List Row) (r : Row) → Contains xs r → Contains (put_row new xs) r
 put_among_old new [] r at = absurd (none_among r at)
 put_among_old new (x ∷ xs) r at = by (is_gt (row_cmp x new)) (put_among_old new xs r)
   where

@@ -12,12 +12,14 @@ use Rattle.sb_rows.specs.declared.own.Own.{Own}
 use Rattle.sb_rows.specs.inner.Asks.{HasAsked, shape_of}
 use Rattle.sb_rows.specs.inner.Index.{Covers, HasShape}
 use Rattle.sb_rows.specs.inner.Own.{IsBucketOf}
+use Rattle.sb_rows.specs.inner.Plain.{plain, short_of}
 use Rattle.sb_rows.specs.inner.Told.{AreTold, IsAskedBy}
-use Rattle.sb_rows.proofs.Covered.{AreKept, bucket_stays}
+use Rattle.sb_rows.proofs.Covered.{AreKept, bucket_stays, covered_by}
 
--- a packet that has what is asked first has what is asked then
-abbrev pub Implies : Asks → Asks → Type 0
-Implies first then = (net : Lookup) (packet : Values) → HasAsked first net packet → HasAsked then net packet
+-- a packet that has what is asked first has what is asked then, which is that, in short or at length
+pub record Implies (first then : Asks) : Type 0 where
+  pub asked : (net : Lookup) (packet : Values) → HasAsked first net packet → HasAsked then net packet
+  pub told : (plain then ≡ plain first) ⊎ (plain then ≡ short_of (plain first))
 
 -- what is told is filed in buckets of shapes
 abbrev pub IsFiledIn : Told → List Shaped → Own → List (ℕ × ℕ) → Type 0
@@ -68,8 +70,9 @@ filed_next told before after own new filled t asks bucket implied kept shaped st
 -- rows are covered by what is filed of them
 pub covered_by_filed : (told : List Told) (rows : List (ℕ × Row)) (filled : List (ℕ × ℕ)) (index : Index) → AreTold told rows → AreFiled told index.shapes.items index.own filled
     → ((x : ℕ × ℕ) → Contains filled x → Contains index.filled x) → Covers index rows
-covered_by_filed told rows filled index are filed all place row there net packet takes =
+covered_by_filed told rows filled index are filed all place row there =
     let it = are place row there in
     let own = filed (record { place = place; asks = it.0 }) it.1.0 in
     let in_bucket = own.1.1.1 in
-    (own.0, (own.1.0 net packet (it.1.1 net packet takes), record { shaped = own.1.1.0; there = (in_bucket.0, (in_bucket.1.0, inl (all (in_bucket.0, place) in_bucket.1.1))) }))
+    covered_by row place index it.0 own.0 (λ net packet takes. own.1.0.asked net packet (it.1.1.asked net packet takes)) it.1.1.told own.1.0.told
+    (record { shaped = own.1.1.0; there = (in_bucket.0, (in_bucket.1.0, inl (all (in_bucket.0, place) in_bucket.1.1))) })

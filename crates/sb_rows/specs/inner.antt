@@ -8,6 +8,7 @@ pub mod Index
 pub mod OfDatapath
 pub mod Own
 pub mod Places
+pub mod Plain
 pub mod Store
 pub mod Tables
 pub mod Told

@@ -1,6 +1,7 @@
 //! What a match asks of a packet before all else, and the bucket that this tells.
-ghost use Rattle.std.specs.Prelude.{◌≡◌, ℕ, List, Some, true, bit_and, IsTrue};
+ghost use Rattle.std.specs.Prelude.{◌≡◌, ◌<◌, ℕ, List, Some, true, bit_and, IfSome, IsTrue};
 ghost use Rattle.std.specs.Option.{option_copied};
+ghost use Rattle.nv_base.specs.Field.{field_number};
 ghost use Rattle.expr_core.specs.Formula.{formulas};
 ghost use Rattle.expr_core.specs.Formula.Formula.{Leaf, And};
 ghost use Rattle.expr_core.specs.declared.typed.TypedAtom.TheVariants.{Compare};
@@ -8,6 +9,7 @@ ghost use Rattle.expr_core.specs.Lookup.{Lookup};
 ghost use Rattle.expr_eval.specs.MatchMeaning.{holds};
 ghost use Rattle.expr_eval.specs.Relation.{equals, equals_item};
 ghost use Rattle.pkt_core.specs.Packet.{Values, value};
+ghost use Rattle.sb_rows.specs.inner.Plain.{asked_by, atom_asked, comparison_asked, is_front, item_asked, masked_asked, match_asked, name_asked, nothing_asked, number_asked, operand_asked, operands_asked, part_width, plain, plain_asked, plain_ones_asked, port_asked, right_asked, short_of, side_by};
 ghost use Rattle.sb_rows.specs.inner.Asks.{Adds, AreNames, HasAsked, IsCalled, IsKnown, bucket_by, bucket_of, joined, low, masked_bucket, mixed, name_bucket, name_of, number_at, number_bucket, numbers_at, numbers_of, part_bucket, port_bucket, port_field, shape_of, side_of};
 
 use expr_core::{Bits, Item, Node, Rel, Right, Typed, TypedAtom};
@@ -123,7 +125,9 @@ fn masked_bucket(field: Field, mask: u32, number: u64) -> u64
 impl Part {
     // How many bits are asked.
     #[inline]
-    fn width(self) -> u32 {
+    fn width(self) -> u32
+        ensures { result ≡ part_width self }
+    {
         match self {
             Part::Anything => 0,
             Part::Number(field) => u32::from(field.width()),
@@ -330,10 +334,42 @@ impl Shape {
     }
 }
 
+// Whether the bits of a mask are the first of 32, and not none.
+#[tactic(auto, unfolding(crate::specs::inner::Plain::is_front))]
+fn is_front(mask: u128) -> bool
+    ensures told { result ≡ is_front mask }
+    ensures fits { IsTrue result → mask < 4294967296 }
+{
+    let all = (1 << 32) - 1;
+    if mask == 0 {
+        return false;
+    }
+    if mask > all {
+        return false;
+    }
+    mask | (mask - 1) == all
+}
+
+// Which port a field tells, if it does.
+fn side_by(field: Field) -> Option<Side>
+    ensures told { result ≡ side_by (field_number field) }
+    ensures same { IfSome result (λ side. field_number (port_field side) ≡ field_number field) }
+{
+    let number = field.number();
+    if number == Field::Inport.number() {
+        Some(Side::In)
+    } else if number == Field::Outport.number() {
+        Some(Side::Out)
+    } else {
+        None
+    }
+}
+
 impl<'m> Asks<'m> {
     // What each packet has.
     fn nothing() -> Asks<'m>
-        ensures { (net : Lookup) (packet : Values) → HasAsked result net packet }
+        ensures asked { (net : Lookup) (packet : Values) → HasAsked result net packet }
+        ensures told { plain result ≡ nothing_asked }
     {
         let nothing = Asked {
             part: Part::Anything,
@@ -349,14 +385,16 @@ impl<'m> Asks<'m> {
 
     // What the match asks.
     pub(crate) fn of(matching: &'m Typed) -> Asks<'m>
-        ensures { (net : Lookup) (packet : Values) → holds net packet matching.now ≡ true → HasAsked result net packet }
+        ensures asked { (net : Lookup) (packet : Values) → holds net packet matching.now ≡ true → HasAsked result net packet }
+        ensures told { plain result ≡ asked_by matching.now }
     {
         Asks::nothing().with_match(matching)
     }
 
     // This, without the second and the third number.
     pub(crate) fn in_short(self) -> Asks<'m>
-        ensures { (net : Lookup) (packet : Values) → HasAsked self.entry net packet → HasAsked result net packet }
+        ensures asked { (net : Lookup) (packet : Values) → HasAsked self.entry net packet → HasAsked result net packet }
+        ensures told { plain result ≡ short_of (plain self.entry) }
     {
         let nothing = Asked {
             part: Part::Anything,
@@ -426,9 +464,11 @@ impl<'m> Asks<'m> {
     }
 
     // This, and a number, where it has more bits than another.
+    #[tactic(auto, unfolding(crate::specs::inner::Plain::number_asked))]
     #[inline(always)]
     fn with_number(self, asked: Asked) -> Asks<'m>
-        ensures { (net : Lookup) (packet : Values) → HasAsked self.entry net packet
+        ensures told { plain result ≡ number_asked asked (plain self.entry) }
+        ensures adds { (net : Lookup) (packet : Values) → HasAsked self.entry net packet
             → number_at asked.part packet ≡ asked.number → HasAsked result net packet }
     {
         let width = asked.part.width();
@@ -456,12 +496,13 @@ impl<'m> Asks<'m> {
     }
 
     // This, and the bits of a mask, where they are the first of 32, and not none.
+    #[tactic(auto, unfolding(crate::specs::inner::Plain::masked_asked))]
     fn with_masked(self, field: Field, base: u128, mask: u128) -> Asks<'m>
-        ensures { (net : Lookup) (packet : Values) → HasAsked self.entry net packet
+        ensures told { plain result ≡ masked_asked field base mask (plain self.entry) }
+        ensures adds { (net : Lookup) (packet : Values) → HasAsked self.entry net packet
             → bit_and (value packet field) mask ≡ bit_and base mask → HasAsked result net packet }
     {
-        let all = (1 << 32) - 1;
-        if mask == 0 || mask > all || mask | (mask - 1) != all {
+        if !is_front(mask) {
             return self;
         }
         let mask = mask as u32;
@@ -472,8 +513,10 @@ impl<'m> Asks<'m> {
     }
 
     // This, and the name of a port, where none is asked for yet.
+    #[tactic(auto, unfolding(crate::specs::inner::Plain::name_asked))]
     fn with_name(self, side: Side, name: &'m Name) -> Asks<'m>
-        ensures { (net : Lookup) (packet : Values) → HasAsked self.entry net packet
+        ensures told { plain result ≡ name_asked side name.now (plain self.entry) }
+        ensures adds { (net : Lookup) (packet : Values) → HasAsked self.entry net packet
             → net.port name.now ≡ Some (record { 0 = value packet (port_field side) }) → HasAsked result net packet }
     {
         if self.port.is_some() {
@@ -493,20 +536,22 @@ impl<'m> Asks<'m> {
 
     // This, and the name of the port of a field, where it is a port's.
     fn with_port(self, field: Field, name: &'m Name) -> Asks<'m>
-        ensures { (net : Lookup) (packet : Values) → HasAsked self.entry net packet
+        ensures told { plain result ≡ port_asked (side_by (field_number field)) name.now (plain self.entry) }
+        ensures adds { (net : Lookup) (packet : Values) → HasAsked self.entry net packet
             → net.port name.now ≡ Some (record { 0 = value packet field }) → HasAsked result net packet }
     {
-        match field {
-            Field::Inport => self.with_name(Side::In, name),
-            Field::Outport => self.with_name(Side::Out, name),
-            _ => self,
+        match side_by(field) {
+            Some(side) => self.with_name(side, name),
+            None => self,
         }
     }
 
     // This, and that a number of a field equals an item.
+    #[tactic(auto, unfolding(crate::specs::inner::Plain::item_asked))]
     #[inline(always)]
     fn with_item(self, field: Field, item: &'m Item) -> Asks<'m>
-        ensures { (net : Lookup) (packet : Values) (width : ℕ) → HasAsked self.entry net packet
+        ensures told { plain result ≡ item_asked field item.now (plain self.entry) }
+        ensures adds { (net : Lookup) (packet : Values) (width : ℕ) → HasAsked self.entry net packet
             → equals_item net width (value packet field) item.now ≡ true → HasAsked result net packet }
     {
         match item {
@@ -521,9 +566,11 @@ impl<'m> Asks<'m> {
     }
 
     // This, and that a number of a field equals an item or one of them, where it is one.
+    #[tactic(auto, unfolding(crate::specs::inner::Plain::right_asked))]
     #[inline(always)]
     fn with_right(self, field: Field, right: &'m Right) -> Asks<'m>
-        ensures { (net : Lookup) (packet : Values) (width : ℕ) → HasAsked self.entry net packet
+        ensures told { plain result ≡ right_asked field right.now (plain self.entry) }
+        ensures adds { (net : Lookup) (packet : Values) (width : ℕ) → HasAsked self.entry net packet
             → equals net width (value packet field) right.now ≡ true → HasAsked result net packet }
     {
         match right {
@@ -536,9 +583,11 @@ impl<'m> Asks<'m> {
     }
 
     // This, and what the comparison of a part of a field asks.
+    #[tactic(auto, unfolding(crate::specs::inner::Plain::comparison_asked))]
     #[inline(always)]
     fn with_comparison(self, field: Field, bits: Bits, rel: Rel, right: &'m Right) -> Asks<'m>
-        ensures { Adds (Leaf (Compare field bits rel right.now)) self.entry result }
+        ensures told { plain result ≡ comparison_asked field bits rel right.now (plain self.entry) }
+        ensures adds { Adds (Leaf (Compare field bits rel right.now)) self.entry result }
     {
         match (bits, rel) {
             (Bits::Whole, Rel::Eq) => self.with_right(field, right),
@@ -547,31 +596,35 @@ impl<'m> Asks<'m> {
     }
 
     // This, and what an atom asks.
+    #[tactic(auto, unfolding(crate::specs::inner::Plain::atom_asked))]
     #[inline(always)]
     fn with_atom(self, atom: &'m TypedAtom) -> Asks<'m>
-        ensures { Adds (Leaf atom.now) self.entry result }
+        ensures told { plain result ≡ atom_asked atom.now (plain self.entry) }
+        ensures adds { Adds (Leaf atom.now) self.entry result }
     {
         match atom {
             TypedAtom::Compare(field, bits, rel, right) => {
                 self.with_comparison(*field, *bits, *rel, right)
             }
-            _ => self,
+            TypedAtom::Truth(_) | TypedAtom::Bare(_, _) | TypedAtom::Holds(_) => self,
         }
     }
 
     // This, and what a match without operators asks.
     fn with_plain(self, matching: &'m Typed) -> Asks<'m>
-        ensures { Adds matching.now self.entry result }
+        ensures told { plain result ≡ plain_asked matching.now (plain self.entry) }
+        ensures adds { Adds matching.now self.entry result }
     {
         match &matching.node {
             Node::Atom(atom) => self.with_atom(atom),
-            _ => self,
+            Node::Not(_) | Node::And(_) | Node::Or(_) => self,
         }
     }
 
     // This, and what operands ask of a conjunction, those without operators.
     fn with_plain_ones(self, operands: &'m [Typed]) -> Asks<'m>
-        ensures { Adds (And (formulas operands.now)) self.entry result }
+        ensures told { plain result ≡ plain_ones_asked (formulas operands.now) (plain self.entry) }
+        ensures adds { Adds (And (formulas operands.now)) self.entry result }
     {
         let mut asks = self;
         for operand in operands {
@@ -582,17 +635,19 @@ impl<'m> Asks<'m> {
 
     // This, and what a match asks that is an operand.
     fn with_operand(self, matching: &'m Typed) -> Asks<'m>
-        ensures { Adds matching.now self.entry result }
+        ensures told { plain result ≡ operand_asked matching.now (plain self.entry) }
+        ensures adds { Adds matching.now self.entry result }
     {
         match &matching.node {
             Node::And(operands) => self.with_plain_ones(operands),
-            _ => self.with_plain(matching),
+            Node::Atom(_) | Node::Not(_) | Node::Or(_) => self.with_plain(matching),
         }
     }
 
     // This, and what operands ask of a conjunction.
     fn with_operands(self, operands: &'m [Typed]) -> Asks<'m>
-        ensures { Adds (And (formulas operands.now)) self.entry result }
+        ensures told { plain result ≡ operands_asked (formulas operands.now) (plain self.entry) }
+        ensures adds { Adds (And (formulas operands.now)) self.entry result }
     {
         let mut asks = self;
         for operand in operands {
@@ -603,11 +658,12 @@ impl<'m> Asks<'m> {
 
     // This, and what a match asks: of a conjunction its operands, and of one among these its own.
     fn with_match(self, matching: &'m Typed) -> Asks<'m>
-        ensures { Adds matching.now self.entry result }
+        ensures told { plain result ≡ match_asked matching.now (plain self.entry) }
+        ensures adds { Adds matching.now self.entry result }
     {
         match &matching.node {
             Node::And(operands) => self.with_operands(operands),
-            _ => self.with_plain(matching),
+            Node::Atom(_) | Node::Not(_) | Node::Or(_) => self.with_plain(matching),
         }
     }
 }

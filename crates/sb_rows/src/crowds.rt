@@ -1,8 +1,9 @@
 //! What it is worth to tell rows by.
-ghost use Rattle.std.specs.Prelude.{◌≡◌};
+ghost use Rattle.std.specs.Prelude.{◌≡◌, ◌⊎◌};
 ghost use Rattle.expr_core.specs.Lookup.{Lookup};
 ghost use Rattle.pkt_core.specs.Packet.{Values};
 ghost use Rattle.sb_rows.specs.inner.Asks.{HasAsked, bucket_of};
+ghost use Rattle.sb_rows.specs.inner.Plain.{plain, short_of};
 
 use crate::asks::Asks;
 use crate::counts::Counts;
@@ -35,6 +36,7 @@ impl Crowds {
     pub(crate) fn chosen<'m>(&self, asks: Asks<'m>) -> (Asks<'m>, u64)
         ensures asked { (net : Lookup) (packet : Values) → HasAsked asks.entry net packet → HasAsked result.0 net packet }
         ensures bucket { result.1 ≡ bucket_of result.0 }
+        ensures told { (plain result.0 ≡ plain asks.entry) ⊎ (plain result.0 ≡ short_of (plain asks.entry)) }
     {
         let short = asks.in_short();
         let bucket = short.bucket();
@@ -49,6 +51,7 @@ impl Crowds {
     pub(crate) fn join<'m>(&mut self, asks: Asks<'m>) -> (Asks<'m>, u64)
         ensures asked { (net : Lookup) (packet : Values) → HasAsked asks.entry net packet → HasAsked result.0 net packet }
         ensures bucket { result.1 ≡ bucket_of result.0 }
+        ensures told { (plain result.0 ≡ plain asks.entry) ⊎ (plain result.0 ≡ short_of (plain asks.entry)) }
     {
         self.note(asks);
         self.chosen(asks)

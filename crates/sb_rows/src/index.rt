@@ -66,15 +66,15 @@ pub(crate) struct Index {
     // What its buckets are told by. Those that the first rows have come first.
     shapes: Vec<Shaped>,
     // The places that were known at once, by their buckets.
-    filled: Filled,
+    pub(crate) filled: Filled,
     // Those that came since, after their buckets.
-    more: BTreeSet<(u64, u128)>,
+    pub(crate) more: BTreeSet<(u64, u128)>,
     // The buckets of those for which there was no room in others.
-    own: Own,
+    pub(crate) own: Own,
     // What it is worth to tell rows by all that their matches ask.
     crowds: Crowds,
     // How many places were struck since the first ones were cleared.
-    struck: usize,
+    pub(crate) struck: usize,
 }
 
 impl Index {
@@ -143,8 +143,11 @@ impl Index {
         self.own.len() / 2 > rows
     }
 
-    // Whether so many places came to a bucket as there is room for.
+    // Whether a bucket has as many places as there is room for, of those that were known at once or of those that came since.
     fn is_full(&self, bucket: u64) -> bool {
+        if self.filled.has_more(bucket, usize::from(ROOM - 1)) {
+            return true;
+        }
         match self.more.range((bucket, 0)..).nth(usize::from(ROOM - 1)) {
             Some((there, _)) => *there == bucket,
             None => false,

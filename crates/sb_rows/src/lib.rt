@@ -8,6 +8,8 @@ mod counts;
 mod crowds;
 mod datapath_rows;
 mod filled;
+mod finding;
+mod fold;
 mod index;
 mod laws;
 mod listing;

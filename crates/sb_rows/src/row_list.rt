@@ -68,6 +68,13 @@ impl RowList {
         RowList { stored }
     }
 
+    // The rows beside their keys, in their order.
+    pub(crate) fn as_stored(&self) -> &[Stored]
+        ensures { result.now ≡ self.now }
+    {
+        &self.stored
+    }
+
     // The rows, in their order.
     pub(crate) fn into_stored(self) -> Vec<Stored>
         ensures { result.items ≡ self }
@@ -103,7 +110,7 @@ impl Kept for RowList {
     fn copy(&self, alloc: Global) -> Result<Self, OutOfMemory> {
         let mut copied = Vec::with_capacity(alloc, self.stored.len())?;
         for stored in &self.stored {
-            copied.push(stored.copy(alloc)?)?;
+            copied.push(stored.copy()?)?;
         }
         Ok(RowList { stored: copied })
     }

@@ -1,13 +1,14 @@
-ghost use Rattle.std.specs.Prelude.{◌≡◌, [], length, map, All, Contains, IsTrue, ◌↔◌, IfOk, OnOk, OnErr, slice_get};
+ghost use Rattle.std.specs.Prelude.{◌≡◌, [], length, map, All, Contains, IsTrue, ◌↔◌, ◌⊎◌, IfOk, OnOk, OnErr, slice_get};
 ghost use Rattle.std.specs.Bool.{OnTrue, OnFalse};
 ghost use Rattle.std.specs.Option.{option_copied};
+ghost use Rattle.sb_model.specs.declared.row.Row as row_of;
 ghost use Rattle.sb_rows.specs.Row.{AgreeAsOne, AreRows, HasTypedMatch, IsSetOf, IsWithout, put_row, rows_of};
 ghost use Rattle.sb_rows.specs.Match.{select};
 
-use crate::NewRows;
 use crate::datapath_rows::{DatapathRows, STAGES};
 use crate::store::{Tables, drop_empty, put_in, row_at, tables_of, take_from};
 use crate::stored::{Stored, first_key, table_key};
+use crate::{NewRows, RowList};
 use expr_ports::PortNames;
 use nv_base::{ObjId, OutOfMemory};
 use pkt_core::Packet;
@@ -90,14 +91,52 @@ impl Rows {
         ensures ok { OnOk result (self.new ≡ put_row row self.old) }
         ensures err { OnErr result (self.new ≡ self.old) }
     {
+        let stored = Stored::new(self.alloc, row)?;
+        self.put_stored(stored)
+    }
+
+    // The same of a row beside its key.
+    fn put_stored(&mut self, row: Stored) -> Result<(), OutOfMemory>
+        requires absent { ¬ Contains self.old row }
+        requires typed { HasTypedMatch row }
+        ensures ok { OnOk result (self.new ≡ put_row row self.old) }
+        ensures err { OnErr result (self.new ≡ self.old) }
+    {
         let Some(count) = self.count.checked_add(1) else {
             drop(row);
             return Err(OutOfMemory);
         };
-        let stored = Stored::new(self.alloc, row)?;
-        put_in(self.alloc, &mut self.tables, stored)?;
+        put_in(self.alloc, &mut self.tables, row)?;
         self.count = count;
         Ok(())
+    }
+
+    /// Puts those rows of a list that are not there, each in its place, which is shared with the list. After `OutOfMemory` some of them may be there.
+    pub fn put_missing(&mut self, list: &RowList) -> Result<(), OutOfMemory>
+        requires { All HasTypedMatch list.now }
+        ensures put { OnOk result ((r : row_of.Row) → Contains list.now r → Contains self.new r) }
+        ensures kept { (r : row_of.Row) → Contains self.old r → Contains self.new r }
+        ensures known { (r : row_of.Row) → Contains self.new r → Contains self.old r ⊎ Contains list.now r }
+    {
+        let rows = list.as_stored();
+        for stored in rows {
+            self.put_shared(stored)?;
+        }
+        Ok(())
+    }
+
+    // The same of one row.
+    fn put_shared(&mut self, stored: &Stored) -> Result<(), OutOfMemory>
+        requires { HasTypedMatch stored.now }
+        ensures put { OnOk result (Contains self.new stored.now) }
+        ensures kept { (r : row_of.Row) → Contains self.old r → Contains self.new r }
+        ensures known { (r : row_of.Row) → Contains self.new r → Contains self.old r ⊎ (stored.now ≡ r) }
+    {
+        if self.contains(stored.row()) {
+            return Ok(());
+        }
+        let copied = stored.copy()?;
+        self.put_stored(copied)
     }
 
     /// Takes the row out, and tells whether it was there. It is looked for as `contains` does. It takes no memory.
@@ -112,6 +151,25 @@ impl Rows {
         drop_empty(&mut self.tables, table_key(row.dp, row.stage));
         self.count -= 1;
         true
+    }
+
+    /// Takes each row of a list out that is there. Each is looked for as `contains` does. It takes no memory.
+    pub fn take_all(&mut self, list: &RowList)
+        ensures { (r : row_of.Row) → Contains self.new r ↔ (Contains self.old r × ¬ Contains list.now r) }
+    {
+        let rows = list.as_stored();
+        for stored in rows {
+            self.leave_out(stored.row());
+        }
+    }
+
+    // The same of one row.
+    fn leave_out(&mut self, row: &Row)
+        ensures { (r : row_of.Row) → Contains self.new r ↔ (Contains self.old r × ¬ (row.now ≡ r)) }
+    {
+        if self.count > 0 {
+            self.take(row);
+        }
     }
 
     /// How many rows there are.

@@ -7,12 +7,13 @@ ghost use Rattle.sb_rows.specs.inner.Tables.{table_key, rank_key, rank_of, key_o
 
 use expr_core::Env;
 use expr_eval::holds;
-use nv_base::{Kept, ObjId, OutOfMemory};
+use nv_base::{ObjId, OutOfMemory};
 use pkt_core::Packet;
 use sb_model::{Row, Stage};
 use std::alloc::Global;
 use std::cmp::Ordering;
 use std::marker::Model;
+use std::rc::Rc;
 
 // What orders rows before the texts of their matches do: two numbers, of which the first that differs decides.
 #[derive(Clone, Copy)]
@@ -24,10 +25,11 @@ pub(crate) struct Key {
 }
 
 // A row beside what sorts and searches look at first: its key. A clause sees it as the row. It is small, since many are moved where rows are put in order.
+// Copies share the row.
 #[derive(Drop)]
 pub(crate) struct Stored {
     key: Key,
-    row: Box<Row>,
+    row: Rc<Row>,
 }
 
 impl Model for Stored {
@@ -51,15 +53,16 @@ impl Stored {
         ensures { IfOk result (λ stored. stored ≡ row) }
     {
         let key = key_of_row(&row);
-        let row = Box::new(alloc, row)?;
+        let row = Rc::new(alloc, row)?;
         Ok(Stored { key, row })
     }
 
-    // An equal row.
-    pub(crate) fn copy(&self, alloc: Global) -> Result<Self, OutOfMemory>
+    // The same row, shared. It takes no memory, but fails where no more may share it.
+    pub(crate) fn copy(&self) -> Result<Self, OutOfMemory>
         ensures { IfOk result (λ copied. copied ≡ self.now) }
     {
-        Stored::new(alloc, self.row.copy(alloc)?)
+        let row = self.row.clone()?;
+        Ok(Stored { key: self.key, row })
     }
 
     pub(crate) fn row(&self) -> &Row

@@ -10,6 +10,7 @@ ghost use Rattle.sb_rows.specs.inner.Store.{ArePlaced, GoesAt, IsPartedAt, IsTab
 ghost use Rattle.sb_rows.specs.inner.Tables.{key_of, rank_of};
 
 use crate::by_text::Rooms;
+use crate::finding::is_same;
 use crate::index::{Index, Places};
 use crate::spacing::{PLACES, first_place, next_place, place_between};
 use crate::stored::{Stored, rank_key};
@@ -119,7 +120,7 @@ impl Table {
     pub(crate) fn contains(&self, row: &Row) -> bool
         ensures { IsTrue result ↔ Contains self.now row.now }
     {
-        place_of(&self.rows, row).is_some()
+        place_of(&self.rows, &self.index, row).is_some()
     }
 
     // The first row whose match holds of the packet.
@@ -140,6 +141,7 @@ impl Table {
     {
         let mut rooms = Rooms::new(alloc);
         let Some(row) = self.put_where_free(alloc, row, &mut rooms)? else {
+            self.settle(alloc);
             self.renew(alloc);
             return Ok(());
         };
@@ -193,6 +195,15 @@ impl Table {
         }
     }
 
+    // Puts what came late among what the rows are found by, where that is much. Where there is no memory for it, all is as it was.
+    fn settle(&mut self, alloc: Global)
+        ensures { self.new ≡ self.old }
+    {
+        if let Some(index) = &mut self.index {
+            index.fold(alloc, &self.rows);
+        }
+    }
+
     // Makes what the rows are found by, where they are many and it is not there or has grown old. Where there is no memory for it, all is
     // as it was.
     fn renew(&mut self, alloc: Global)
@@ -213,7 +224,7 @@ impl Table {
     {
         let mut copied = Vec::with_capacity(alloc, self.rows.len())?;
         for stored in self.rows.values() {
-            copied.push(stored.copy(alloc)?)?;
+            copied.push(stored.copy()?)?;
         }
         Table::of(alloc, copied)
     }
@@ -224,7 +235,7 @@ impl Table {
         ensures taken { OnTrue result (IsWithout row.now self.old self.new) }
         ensures kept { OnFalse result (self.new ≡ self.old) }
     {
-        let Some(place) = place_of(&self.rows, row) else {
+        let Some(place) = place_of(&self.rows, &self.index, row) else {
             return false;
         };
         self.rows.remove(&place);
@@ -235,8 +246,20 @@ impl Table {
     }
 }
 
+// The place of an equal row, if it is there. It is looked for by what its match asks, where that is kept.
+fn place_of(rows: &Places, index: &Option<Index>, row: &Row) -> Option<u128>
+    requires { IsTable rows.now.entries index.now }
+    ensures there { IfSome result (λ place. Contains rows.now.entries (place, row.now)) }
+    ensures absent { result ≡ None → Contains (rows_of_places rows.now.entries) row.now → ⊥ }
+{
+    match index {
+        Some(index) => index.place_of(rows, row),
+        None => place_in_rank(rows, row),
+    }
+}
+
 // The place of an equal row, if it is there. Only rows of its rank are looked at.
-fn place_of(rows: &Places, row: &Row) -> Option<u128>
+fn place_in_rank(rows: &Places, row: &Row) -> Option<u128>
     requires { ArePlaced rows.now.entries }
     ensures there { IfSome result (λ place. Contains rows.now.entries (place, row.now)) }
     ensures absent { result ≡ None → Contains (rows_of_places rows.now.entries) row.now → ⊥ }
@@ -248,12 +271,6 @@ fn place_of(rows: &Places, row: &Row) -> Option<u128>
         }
     }
     None
-}
-
-fn is_same(a: &Row, b: &Row) -> bool
-    ensures { IsTrue result ↔ (a.now ≡ b.now) }
-{
-    a == b
 }
 
 // The first of some rows whose match holds of the packet.

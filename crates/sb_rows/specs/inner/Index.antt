@@ -14,6 +14,7 @@ use Rattle.sb_rows.specs.declared.index.Shaped.{Shaped}
 use Rattle.sb_rows.specs.declared.index.Wanted.{Wanted}
 use Rattle.sb_rows.specs.inner.Asks.{HasAsked, bucket_of, name_of, numbers_of, shape_of}
 use Rattle.sb_rows.specs.inner.Own.{IsBucketOf}
+use Rattle.sb_rows.specs.inner.Plain.{IsOf, plain}
 
 -- the bucket has the place
 abbrev pub IsIn : Index → ℕ → ℕ → Type 0
@@ -38,10 +39,14 @@ pub record IsFiled (asks : Asks) (place : ℕ) (index : Index) : Type 0 where
   pub shaped : HasShape index.shapes.items (shape_of asks) place
   pub there : IsHeld index asks place
 
--- each packet that the row at this place may take has what is asked of one of its buckets
+-- what is asked is in each packet of which the row's match holds, and is what this asks, in short or at length
+pub record IsAskedOf (row : Row) (asks : Asks) : Type 0 where
+  pub asked : (net : Lookup) (packet : Values) → holds net packet row.matching ≡ true → HasAsked asks net packet
+  pub told : IsOf row.matching (plain asks)
+
+-- the place of the row is in a bucket of what its match asks, which each packet has that the row may take
 abbrev pub IsCovered : Row → ℕ → Index → Type 0
-IsCovered row place index =
-    (net : Lookup) (packet : Values) → holds net packet row.matching ≡ true → (asks : Asks) × (HasAsked asks net packet × IsFiled asks place index)
+IsCovered row place index = (asks : Asks) × (IsAskedOf row asks × IsFiled asks place index)
 
 -- all rows are covered
 abbrev pub Covers : Index → List (ℕ × Row) → Type 0

@@ -8,10 +8,12 @@ use Rattle.sb_model.specs.declared.row.Row.{Row}
 use Rattle.sb_rows.specs.declared.asks.Asks.{Asks}
 use Rattle.sb_rows.specs.declared.index.Told.{Told}
 use Rattle.sb_rows.specs.inner.Asks.{HasAsked}
+use Rattle.sb_rows.specs.inner.Plain.{asked_by, plain}
 
--- what is asked is in each packet of which the row's match holds
-abbrev pub IsAskedBy : Row → Asks → Type 0
-IsAskedBy row asks = (net : Lookup) (packet : Values) → holds net packet row.matching ≡ true → HasAsked asks net packet
+-- what is asked is in each packet of which the row's match holds, and is all that this asks
+pub record IsAskedBy (row : Row) (asks : Asks) : Type 0 where
+  pub asked : (net : Lookup) (packet : Values) → holds net packet row.matching ≡ true → HasAsked asks net packet
+  pub told : plain asks ≡ asked_by row.matching
 
 -- of each row it is told what its match asks
 abbrev pub AreTold : List Told → List (ℕ × Row) → Type 0

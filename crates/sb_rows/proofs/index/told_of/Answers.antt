@@ -11,7 +11,7 @@ pub loop-place-preserved : goal.loop-place-preserved
 loop-place-preserved c =
     rw c.in_ok-push.ensures.items
     (subst (λ (l : List (ℕ × Row)). AreTold (c.loop-place.told.items ++ record { place = c.in-Some.place.now; asks = c.of-asks.result } ∷ []) l) (sym (map-append deref_pair c.loop-place.yielded ((c.in-Some.place, c.in-Some.stored) ∷ [])))
-    (told_next c.loop-place.told.items (map deref_pair c.loop-place.yielded) c.in-Some.place.now c.in-Some.stored.now c.of-asks.result (λ net packet takes. c.of-asks.ensures net packet (rw c.row.ensures takes)) c.loop-place.invariant))
+    (told_next c.loop-place.told.items (map deref_pair c.loop-place.yielded) c.in-Some.place.now c.in-Some.stored.now c.of-asks.result (record { asked = λ net packet takes. c.of-asks.ensures.asked net packet (rw c.row.ensures takes); told = rw c.row.ensures at c.of-asks.ensures.told }) c.loop-place.invariant))
 
 pub returns : goal.returns
 returns c =

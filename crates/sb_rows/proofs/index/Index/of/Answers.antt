@@ -13,7 +13,7 @@ loop-row-init c t there = absurd (omega (arith, there.1))
 pub loop-row-preserved : goal.loop-row-preserved
 loop-row-preserved c =
     rw c.in_ok-push.ensures.items
-    (filed_next c.loop-row.yielded c.loop-row.shapes.items c.add_shape.new.shapes.items c.loop-row.own c.bucket_for.new.self c.loop-row.filled.items c.in-Some.row c.chosen-shared.result.0 c.in_ok-bucket.bucket c.chosen-shared.ensures.asked
+    (filed_next c.loop-row.yielded c.loop-row.shapes.items c.add_shape.new.shapes.items c.loop-row.own c.bucket_for.new.self c.loop-row.filled.items c.in-Some.row c.chosen-shared.result.0 c.in_ok-bucket.bucket (record { asked = c.chosen-shared.ensures.asked; told = c.chosen-shared.ensures.told })
     c.in_ok-add_shape.ensures.kept (subst (λ (s : Shape). HasShape c.add_shape.new.shapes.items s c.in-Some.row.place) c.shape.ensures c.in_ok-add_shape.ensures.there)
     c.in_ok-bucket.ensures.kept c.in_ok-bucket.ensures.is c.loop-row.invariant)
 

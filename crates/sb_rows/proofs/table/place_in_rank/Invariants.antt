@@ -1,6 +1,6 @@
 use Rattle.std.proofs.Common.{ℕ, ◌↔◌}
 use Rattle.std.specs.List.{Contains}
-use Rattle.sb_rows.proofs.table.place_of.Given as goal
+use Rattle.sb_rows.proofs.table.place_in_rank.Given as goal
 
 -- where the row is, it is among those that are left
 abbrev pub invariant-loop-place : goal.invariant-loop-place

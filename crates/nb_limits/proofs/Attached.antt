@@ -7,11 +7,11 @@ use Rattle.nb_records.specs.declared.switch.Switch.{Switch}
 use Rattle.nb_model.specs.Amounts.{amount, total, vips_of}
 use Rattle.nb_model.specs.Belongs.{is_among}
 use Rattle.nb_model.specs.Network.{Network}
-use Rattle.nb_limits.specs.inner.Attached.{attached_vips, vips_on_switches, vips_on_routers}
+use Rattle.nb_limits.specs.inner.Attached.{attached_vips, switches_with, routers_with}
 use Rattle.nb_limits.proofs.Swapped.{swapped, total_plus}
 
 pub all_attached : (net : Network) → total (attached_vips net) net.lbs ≡ amount net kind.VipDatapath
 all_attached net =
-    total_plus (vips_on_switches net) (vips_on_routers net) net.lbs
-    ∙ ap (λ n. n + total (vips_on_routers net) net.lbs) (sym (swapped (λ (switch : Switch) (lb : Lb). length lb.vips) (λ switch lb. is_among lb.id switch.lbs) net.switches net.lbs))
+    total_plus (λ (lb : Lb). switches_with net lb.id (length lb.vips)) (λ lb. routers_with net lb.id (length lb.vips)) net.lbs
+    ∙ ap (λ n. n + total (λ (lb : Lb). routers_with net lb.id (length lb.vips)) net.lbs) (sym (swapped (λ (switch : Switch) (lb : Lb). length lb.vips) (λ switch lb. is_among lb.id switch.lbs) net.switches net.lbs))
     ∙ ap (λ n. total (λ switch. vips_of net switch.lbs) net.switches + n) (sym (swapped (λ (router : Router) (lb : Lb). length lb.vips) (λ router lb. is_among lb.id router.lbs) net.routers net.lbs))

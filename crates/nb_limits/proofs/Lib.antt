@@ -3,6 +3,7 @@ pub mod Attached
 pub mod Bounded
 pub mod Clipped
 pub mod Counted
+pub mod Every
 pub mod Firsts
 pub mod Fitting
 pub mod Greatest
@@ -13,6 +14,8 @@ pub mod NewPorts
 pub mod NewVips
 pub mod Noted
 pub mod PortNeighbours
+pub mod OnePort
+pub mod PortsKnown
 pub mod Raised
 pub mod Rest
 pub mod Sums

@@ -1,6 +1,6 @@
 -- By how much other ports of a group raise the amounts of ACLs.
-use Rattle.std.proofs.Common.{◌≡◌, ℕ, ◌+◌, ◌*◌, ◌≤◌, min, ⊎_elim, Bool, true, false, cond, not, ◌&&◌, ◌||◌, List, [], ◌∷◌, Option, Some, None, arith, refl, sym, ap, ◌∙◌, subst, length}
-use Rattle.std.proofs.lemmas.Bool.{false≢true, or_cases, or_left, or_right}
+use Rattle.std.proofs.Common.{◌≡◌, ℕ, ◌+◌, ◌*◌, ◌-◌, ◌≤◌, min, ⊎_elim, Bool, true, false, cond, not, ◌&&◌, ◌||◌, List, [], ◌∷◌, Option, Some, None, arith, refl, sym, ap, ◌∙◌, subst, length}
+use Rattle.std.proofs.lemmas.Bool.{and_from, and_parts, false≢true, or_cases, or_left, or_right}
 use Rattle.std.proofs.lemmas.Nat.{mul-le}
 use Rattle.std.proofs.Math.Nat.{le-min}
 use Rattle.std.specs.Prelude.{IsTrue, filter, find}
@@ -17,19 +17,26 @@ use Rattle.nb_model.specs.Applies.{switches_of_acl}
 use Rattle.nb_model.specs.Belongs.{is_among, once}
 use Rattle.nb_model.specs.Effect.{each_where, named_port_ids}
 use Rattle.nb_model.specs.Network.{Network, port_id, same}
+use Rattle.nb_model.specs.Sound.{group_ids}
 use Rattle.nb_model.proofs.Alike.{same_sym}
 use Rattle.nb_model.proofs.AnyOf.{all_true}
+use Rattle.nb_model.proofs.Lists.{same_is}
+use Rattle.nb_model.proofs.RecordLists.{found_holds}
 use Rattle.nb_model.proofs.RisesApplies.{applies, has_port}
-use Rattle.nb_model.proofs.Totals.{le_self, le_trans, length_fewer, length_kept, sums, total_le}
+use Rattle.nb_model.proofs.Totals.{le_self, le_trans, length_fewer, length_kept, total_le}
+use Rattle.nb_store.proofs.Peering.{found_is_record}
 use Rattle.nb_store.proofs.PlacedRecords.{rises}
 use Rattle.nv_table.specs.Table.{record_of}
 use Rattle.nb_limits.specs.Limitless.{IsSoundButLimits}
+use Rattle.nb_limits.specs.inner.GroupSwitches.{switch_count, has_port_on}
 use Rattle.nb_limits.specs.inner.Weights.{weight, acl_weight, of_owner}
 use Rattle.nb_limits.specs.declared.acl_limits.Measure.{Measure}
 use Rattle.nb_limits.specs.declared.acl_limits.Measure.TheVariants.{Count, Text}
-use Rattle.nb_limits.proofs.AclSums.{count_weight}
+use Rattle.nb_limits.proofs.AclSums.{count_weight, groups_rise, no_switch}
 use Rattle.nb_limits.proofs.Counted.{any_or, any_same, any_of_number, found_list, holds_of, none_kept, of_number}
+use Rattle.nb_limits.proofs.Every.{each_is_record, every_as}
 use Rattle.nb_limits.proofs.Noted.{none_there}
+use Rattle.nb_limits.proofs.Raised.{group_there, none_there as no_switch_there}
 use Rattle.nb_limits.proofs.Rest.{same_kept}
 use Rattle.nb_limits.proofs.Swapped.{total_filter, total_plus}
 
@@ -197,11 +204,50 @@ raised_sum {X} w f g q more less xs =
     each x true low = both (w x) (f x) (g x) more low
     each x false low = none (w x) (f x) (g x) low
 
-module _ (net : Network) (limitless : IsSoundButLimits net) (name : List ℕ) (own : Group)
+-- those of the only group of its name and number are the new ones
+members_only : (has : List ObjId → Bool) (named : Group → Bool) (members : List ObjId) (own : Group) (groups : List Group) → named own ≡ true → AllByRecursion (λ (g : Group). IsTrue (same g.id own.id) → g ≡ own) groups
+    → IsTrue (list_any (λ g. same g.id own.id && has g.ports) (each_where named (with_members members) groups)) → IsTrue (has members)
+members_only has named members own [] is alike there = absurd (false≢true there)
+members_only has named members own (g ∷ groups) is alike there = by (named g) refl there (members_only has named members own groups is alike.1)
+  where
+    after : Bool
+    after = list_any (λ (x : Group). same x.id own.id && has x.ports) (each_where named (with_members members) groups)
+
+    by : (b : Bool) → named g ≡ b → IsTrue ((same (cond b (with_members members g) g).id own.id && has (cond b (with_members members g) g).ports) || after) → (IsTrue after → IsTrue (has members)) → IsTrue (has members)
+    by true e any more = ⊎_elim (λ first. (and_parts (same g.id own.id) (has members) first).1) more (or_cases (same g.id own.id && has members) after any)
+    by false e any more =
+        ⊎_elim (λ first. absurd (false≢true (sym e ∙ ap named (alike.0 (and_parts (same g.id own.id) (has g.ports) first).0) ∙ is))) more (or_cases (same g.id own.id && has g.ports) after any)
+
+-- what is found makes any pass
+any_found : {X : Type 0} (p q : X → Bool) (xs : List X) (x : X) → find q xs ≡ Some x → IsTrue (p x) → IsTrue (list_any p xs)
+any_found p q [] x found passes = absurd (cc)
+any_found {X} p q (y ∷ xs) x found passes = by (q y) found (any_found p q xs x)
+  where
+    by : (b : Bool) → cond b (Some y) (find q xs) ≡ Some x → (find q xs ≡ Some x → IsTrue (p x) → IsTrue (list_any p xs)) → IsTrue (p y || list_any p xs)
+    by true f more = let is : y ≡ x = cc in or_left (p y) (list_any p xs) (subst (λ z. IsTrue (p z)) (sym is) passes)
+    by false f more = or_right (p y) (list_any p xs) (more f passes)
+
+module _ (net : Network) (limitless : IsSoundButLimits net) (name : List ℕ) (own : Group) (found : find (λ (g : Group). bytes_eq g.name name) net.groups ≡ Some own)
     (only : AllByRecursion (λ (g : Group). IsTrue (bytes_eq g.name name) → g ≡ own) net.groups) (members : List ObjId) (most : ℕ)
     (few : length (filter (λ (s : Switch). has_port net.ports s.id members) net.switches) ≤ most) where
   abbrev changed : Network
   changed = record net { groups = each_where (λ group. bytes_eq group.name name) (with_members members) net.groups }
+
+  own_record : record_of (λ (g : Group). g.id) own.id net.groups ≡ Some own
+  own_record = found_is_record (λ (g : Group). g.id) (λ g. bytes_eq g.name name) net.groups own (groups_rise net limitless) found
+
+  -- the group is the only one of its number
+  alike : AllByRecursion (λ (g : Group). IsTrue (same g.id own.id) → g ≡ own) net.groups
+  alike =
+      every_as (λ (g : Group). record_of (λ (x : Group). x.id) g.id net.groups ≡ Some g) (λ g. IsTrue (same g.id own.id) → g ≡ own) net.groups
+      (λ g there is. let both : Some g ≡ Some own = sym there ∙ ap (λ (n : ObjId). record_of (λ (x : Group). x.id) n net.groups) (same_is g.id own.id is) ∙ own_record in cc)
+      (each_is_record (λ (g : Group). g.id) net.groups (groups_rise net limitless))
+
+  -- and no switch has it
+  not_a_switch : length (filter (λ (s : Switch). same s.id own.id) net.switches) ≡ 0
+  not_a_switch =
+      ap length (of_number (λ (s : Switch). s.id) own.id net.switches (rises (λ (s : Switch). s.id) net.switches limitless.numbered.order.switches)
+      ∙ ap (found_list (λ (s : Switch). s.id) own.id) (no_switch_there own.id (group_ids net) net.switches (group_there own.id net.groups own own_record) (no_switch net limitless)))
 
   -- where an ACL of an owner applies then
   owned_after : (owner switch : ObjId) → IsTrue (applies net.ports changed.groups owner switch)
@@ -215,37 +261,63 @@ module _ (net : Network) (limitless : IsSoundButLimits net) (name : List ℕ) (o
       by true b c is = refl
       by false b c is = is
 
-  switches_after : (acl : Acl) → length (switches_of_acl changed acl) ≤ length (switches_of_acl net acl) + cond (same own.id acl.owner) most 0
-  switches_after acl =
-      le_trans (length (switches_of_acl changed acl)) (length (switches_of_acl net acl) + length (filter (λ (s : Switch). new s.id) net.switches)) (length (switches_of_acl net acl) + cond (same own.id acl.owner) most 0)
-      (le_trans (length (switches_of_acl changed acl)) (length (filter (λ (s : Switch). old s.id || new s.id) net.switches)) (length (switches_of_acl net acl) + length (filter (λ (s : Switch). new s.id) net.switches))
-      (length_fewer (λ (s : Switch). applies net.ports changed.groups acl.owner s.id) (λ s. old s.id || new s.id) net.switches (λ s. owned_after acl.owner s.id))
-      (either_length (λ (s : Switch). old s.id) (λ s. new s.id) net.switches))
-      (sums (length (switches_of_acl net acl)) (length (filter (λ (s : Switch). new s.id) net.switches)) (length (switches_of_acl net acl)) (cond (same own.id acl.owner) most 0) (le_self (length (switches_of_acl net acl)))
-      (by (same own.id acl.owner)))
+  -- more than before by so many
+  abbrev more : ℕ
+  more = most - switch_count net own
+
+  switches_after : (acl : Acl) → length (switches_of_acl changed acl) ≤ length (switches_of_acl net acl) + cond (same own.id acl.owner) more 0
+  switches_after acl = by (same own.id acl.owner) refl
     where
-      old : ObjId → Bool
-      old switch = applies net.ports net.groups acl.owner switch
+      left : (a b c : Bool) → c ≡ false → IsTrue (a || (c && b)) → IsTrue a
+      left a b c is there = ⊎_elim (λ first. first) (λ second. absurd (false≢true (sym (ap (λ x. x && b) is) ∙ second))) (or_cases a (c && b) there)
 
-      new : ObjId → Bool
-      new switch = same own.id acl.owner && has_port net.ports switch members
+      low : (a b k : ℕ) → a ≤ most → k ≤ b → a ≤ b + (most - k)
+      low a b k e f = omega (arith, e, f)
 
-      by : (is : Bool) → length (filter (λ (s : Switch). is && has_port net.ports s.id members) net.switches) ≤ cond is most 0
-      by true = few
-      by false = subst (λ n. n ≤ 0) (sym (none_kept net.switches)) (le_self 0)
+      both : (a b c : ℕ) → a ≤ b + c → b ≡ 0 → c ≤ most → a ≤ most
+      both a b c e f g = omega (arith, e, f, g)
 
-  weight_after : (measure : Measure) → acl_weight measure changed ≤ acl_weight measure net + of_owner measure net own.id most
-  weight_after measure = raised_sum (weight measure) (λ acl. length (switches_of_acl changed acl)) (λ acl. length (switches_of_acl net acl)) (λ acl. same own.id acl.owner) most switches_after net.acls
+      plus_none : (n : ℕ) → n ≡ n + 0
+      plus_none n = omega arith
 
-  pub set_switches : amount changed kind.AclSwitch ≤ amount net kind.AclSwitch + of_owner Count net own.id most * 1
+      here : same own.id acl.owner ≡ true → (s : Switch) → IsTrue (applies net.ports changed.groups acl.owner s.id) → IsTrue (same s.id own.id || has_port net.ports s.id members)
+      here is s there =
+          ⊎_elim (λ first. or_left (same s.id own.id) (has_port net.ports s.id members) (subst (λ (n : ObjId). IsTrue (same s.id n)) (sym (same_is own.id acl.owner is)) first))
+          (λ second. or_right (same s.id own.id) (has_port net.ports s.id members)
+          (members_only (has_port net.ports s.id) (λ group. bytes_eq group.name name) members own net.groups (found_holds (λ (g : Group). bytes_eq g.name name) net.groups own found) alike
+          (subst (λ (n : ObjId). IsTrue (list_any (λ (g : Group). same g.id n && has_port net.ports s.id g.ports) changed.groups)) (sym (same_is own.id acl.owner is)) second)))
+          (or_cases (same s.id acl.owner) (list_any (λ (g : Group). same g.id acl.owner && has_port net.ports s.id g.ports) changed.groups) there)
+
+      before : same own.id acl.owner ≡ true → (s : Switch) → IsTrue (has_port_on net own s.id) → IsTrue (applies net.ports net.groups acl.owner s.id)
+      before is s there =
+          or_right (same s.id acl.owner) (list_any (λ (g : Group). same g.id acl.owner && has_port net.ports s.id g.ports) net.groups)
+          (any_found (λ (g : Group). same g.id acl.owner && has_port net.ports s.id g.ports) (λ g. bytes_eq g.name name) net.groups own found (and_from (same own.id acl.owner) (has_port net.ports s.id own.ports) is there))
+
+      by : (b : Bool) → same own.id acl.owner ≡ b → length (switches_of_acl changed acl) ≤ length (switches_of_acl net acl) + cond b more 0
+      by true is =
+          low (length (switches_of_acl changed acl)) (length (switches_of_acl net acl)) (switch_count net own)
+          (both (length (switches_of_acl changed acl)) (length (filter (λ (s : Switch). same s.id own.id) net.switches)) (length (filter (λ (s : Switch). has_port net.ports s.id members) net.switches))
+          (le_trans (length (switches_of_acl changed acl)) (length (filter (λ (s : Switch). same s.id own.id || has_port net.ports s.id members) net.switches)) _
+          (length_fewer (λ (s : Switch). applies net.ports changed.groups acl.owner s.id) (λ s. same s.id own.id || has_port net.ports s.id members) net.switches (here is))
+          (either_length (λ (s : Switch). same s.id own.id) (λ s. has_port net.ports s.id members) net.switches)) not_a_switch few)
+          (length_fewer (λ (s : Switch). has_port_on net own s.id) (λ s. applies net.ports net.groups acl.owner s.id) net.switches (before is))
+      by false is =
+          subst (λ n. length (switches_of_acl changed acl) ≤ n) (plus_none (length (switches_of_acl net acl)))
+          (length_fewer (λ (s : Switch). applies net.ports changed.groups acl.owner s.id) (λ s. applies net.ports net.groups acl.owner s.id) net.switches
+          (λ s there. left (applies net.ports net.groups acl.owner s.id) (has_port net.ports s.id members) (same own.id acl.owner) is (owned_after acl.owner s.id there)))
+
+  weight_after : (measure : Measure) → acl_weight measure changed ≤ acl_weight measure net + of_owner measure net own.id more
+  weight_after measure = raised_sum (weight measure) (λ acl. length (switches_of_acl changed acl)) (λ acl. length (switches_of_acl net acl)) (λ acl. same own.id acl.owner) more switches_after net.acls
+
+  pub set_switches : amount changed kind.AclSwitch ≤ amount net kind.AclSwitch + of_owner Count net own.id more * 1
   set_switches =
-      once_more (amount changed kind.AclSwitch) (acl_weight Count changed) (acl_weight Count net) (amount net kind.AclSwitch) (of_owner Count net own.id most) (sym (count_weight changed)) (count_weight net) (weight_after Count)
+      once_more (amount changed kind.AclSwitch) (acl_weight Count changed) (acl_weight Count net) (amount net kind.AclSwitch) (of_owner Count net own.id more) (sym (count_weight changed)) (count_weight net) (weight_after Count)
     where
       once_more : (a b c d n : ℕ) → a ≡ b → c ≡ d → b ≤ c + n → a ≤ d + n * 1
       once_more a b c d n e f low = omega (arith, e, f, low)
 
-  pub set_text : amount changed kind.MatchText ≤ amount net kind.MatchText + of_owner Text net own.id most * 1
-  set_text = once_more (amount changed kind.MatchText) (amount net kind.MatchText) (of_owner Text net own.id most) (weight_after Text)
+  pub set_text : amount changed kind.MatchText ≤ amount net kind.MatchText + of_owner Text net own.id more * 1
+  set_text = once_more (amount changed kind.MatchText) (amount net kind.MatchText) (of_owner Text net own.id more) (weight_after Text)
     where
       once_more : (a d n : ℕ) → a ≤ d + n → a ≤ d + n * 1
       once_more a d n low = omega (arith, low)

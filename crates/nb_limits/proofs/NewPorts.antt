@@ -13,7 +13,7 @@ use Rattle.nb_model.specs.Belongs.{is_to_router, is_port, peer_port, peer_router
 use Rattle.nb_model.specs.Effect.{effect, where_there, add_router_port}
 use Rattle.nb_model.specs.Network.{Network, same, router_named, router_port_named}
 use Rattle.nb_limits.specs.Ceilings.{IsCeiling}
-use Rattle.nb_limits.specs.inner.KnownAfter.{peer_named, where_unnamed}
+use Rattle.nb_limits.specs.inner.NeighboursAfter.{peer_named, where_unnamed}
 use Rattle.nb_limits.proofs.Raised.{total_last}
 
 -- what is found does not change where one more does not pass

@@ -2,11 +2,12 @@
 use Rattle.std.proofs.Common.{◌≡◌, ℕ, ◌+◌, ◌*◌, ◌<◌, ◌≤◌, ⊎_elim, Bool, true, false, cond, not, ◌||◌, List, [], ◌∷◌, ◌++◌, map, nat_lt, Option, Some, None, arith, refl, sym, ap, ◌∙◌, subst, length}
 use Rattle.std.proofs.lemmas.Bool.{and_parts, false≢true, ltb-true, ne_eqb, not-true, or_cases}
 use Rattle.std.specs.Prelude.{IsTrue, filter}
-use Rattle.std.specs.List.{list_all}
+use Rattle.std.specs.List.{list_all, AllByRecursion}
 use Rattle.std.specs.Str.{bytes_eq}
 use Rattle.nv_base.specs.declared.object.ObjId.{ObjId}
 use Rattle.nb_records.specs.declared.balancer.Lb.{Lb}
 use Rattle.nb_records.specs.declared.refusal.Kind.TheVariants as kind
+use Rattle.nb_records.specs.declared.balancer.Vip.{Vip}
 use Rattle.nb_records.specs.declared.router.Router.{Router}
 use Rattle.nb_records.specs.declared.switch.Switch.{Switch}
 use Rattle.nb_model.specs.Amounts.{amount, total, vips_of}
@@ -22,9 +23,13 @@ use Rattle.nb_model.proofs.Lists.{same_is}
 use Rattle.nb_model.proofs.Numbered.{are_used}
 use Rattle.nb_model.proofs.Totals.{le_equal, kept_push, sums, total_cons, total_le}
 use Rattle.nv_table.specs.Table.{NumbersRise, record_of}
+use Rattle.nb_limits.specs.inner.Attached.{attached, attached_vips, switches_with, routers_with}
 use Rattle.nb_limits.specs.inner.KnownAfter.{own_vips}
+use Rattle.nb_limits.proofs.Attached.{all_attached}
 use Rattle.nb_limits.proofs.Counted.{among_with, found_list, of_number}
+use Rattle.nb_limits.proofs.Every.{every_as}
 use Rattle.nb_limits.proofs.Rest.{same_kept}
+use Rattle.nb_limits.proofs.Swapped.{total_plus}
 
 -- A new load balancer has the next number, which is attached nowhere.
 
@@ -120,12 +125,12 @@ module _ {X : Type 0} (name_of : X → List ℕ) (name : List ℕ) (change : X �
       let other : bytes_eq (name_of x) name ≡ false = names_sym (name_of x) name ∙ ap (λ n. bytes_eq n (name_of x)) (sym is) ∙ not-true (bytes_eq own (name_of x)) parts.0 in
       ap (λ b. cond b (change x) x ∷ each_where (λ y. bytes_eq (name_of y) name) change xs) other ∙ ap (λ (ys : List X). x ∷ ys) (none_named own xs is parts.1)
 
-  pub one_total : (f : X → ℕ) (more : ℕ) → ((x : X) → f (change x) ≤ f x + more) → (xs : List X) → IsTrue (are_apart bytes_eq (map name_of xs))
+  pub one_rises : (f : X → ℕ) (more : ℕ) (xs : List X) → IsTrue (are_apart bytes_eq (map name_of xs)) → AllByRecursion (λ x. IsTrue (bytes_eq (name_of x) name) → f (change x) ≤ f x + more) xs
       → total f (each_where (λ x. bytes_eq (name_of x) name) change xs) ≤ total f xs + more
-  one_total f more less [] apart = omega arith
-  one_total f more less (x ∷ xs) apart =
+  one_rises f more [] apart less = omega arith
+  one_rises f more (x ∷ xs) apart less =
       let parts = and_parts (list_all (λ other. not (bytes_eq (name_of x) other)) (map name_of xs)) (are_apart bytes_eq (map name_of xs)) apart in
-      by (bytes_eq (name_of x) name) refl parts.0 (one_total f more less xs parts.1)
+      by (bytes_eq (name_of x) name) refl less.0 parts.0 (one_rises f more xs parts.1 less.1)
     where
       changed : List X
       changed = each_where (λ y. bytes_eq (name_of y) name) change xs
@@ -136,12 +141,54 @@ module _ {X : Type 0} (name_of : X → List ℕ) (name : List ℕ) (change : X �
       later : (v w a t e : ℕ) → v ≡ a + e → w ≡ a + t → e ≤ t + more → v ≤ w + more
       later v w a t e left right low = omega (arith, left, right, low)
 
-      by : (b : Bool) → bytes_eq (name_of x) name ≡ b → IsTrue (list_all (λ other. not (bytes_eq (name_of x) other)) (map name_of xs)) → total f changed ≤ total f xs + more
+      by : (b : Bool) → bytes_eq (name_of x) name ≡ b → (IsTrue b → f (change x) ≤ f x + more) → IsTrue (list_all (λ other. not (bytes_eq (name_of x) other)) (map name_of xs)) → total f changed ≤ total f xs + more
           → total f (cond b (change x) x ∷ changed) ≤ total f (x ∷ xs) + more
-      by true is differ rest =
+      by true is low differ rest =
           here (total f (change x ∷ changed)) (total f (x ∷ xs)) (f x) (f (change x)) (total f xs) (total f changed) (total_cons f (change x) changed) (total_cons f x xs)
-          (ap (total f) (none_named (name_of x) xs (same_names (name_of x) name is) differ)) (less x)
-      by false is differ rest = later (total f (x ∷ changed)) (total f (x ∷ xs)) (f x) (total f xs) (total f changed) (total_cons f x changed) (total_cons f x xs) rest
+          (ap (total f) (none_named (name_of x) xs (same_names (name_of x) name is) differ)) (low refl)
+      by false is low differ rest = later (total f (x ∷ changed)) (total f (x ∷ xs)) (f x) (total f xs) (total f changed) (total_cons f x changed) (total_cons f x xs) rest
+
+  pub one_total : (f : X → ℕ) (more : ℕ) → ((x : X) → f (change x) ≤ f x + more) → (xs : List X) → IsTrue (are_apart bytes_eq (map name_of xs))
+      → total f (each_where (λ x. bytes_eq (name_of x) name) change xs) ≤ total f xs + more
+  one_total f more less xs apart = one_rises f more xs apart (each xs)
+    where
+      each : (l : List X) → AllByRecursion (λ x. IsTrue (bytes_eq (name_of x) name) → f (change x) ≤ f x + more) l
+      each [] = tt
+      each (x ∷ l) = (λ is. less x, each l)
+
+-- A VIP more of one load balancer, once for each datapath that has it.
+
+attached_one : (net : Network) (n : ObjId) (each : ℕ) → attached net n (each + 1) ≡ attached net n each + attached net n 1
+attached_one net n each =
+    parts (switches_with net n (each + 1)) (switches_with net n each) (switches_with net n 1) (routers_with net n (each + 1)) (routers_with net n each) (routers_with net n 1)
+    (total_plus (λ (s : Switch). each) (λ s. 1) (filter (λ s. is_among n s.lbs) net.switches)) (total_plus (λ (r : Router). each) (λ r. 1) (filter (λ r. is_among n r.lbs) net.routers))
+  where
+    parts : (a b c d e f : ℕ) → a ≡ b + c → d ≡ e + f → a + d ≡ (b + e) + (c + f)
+    parts a b c d e f g h = omega (arith, g, h)
+
+module _ (net : Network) (name : List ℕ) (lb : Lb) (vip : Vip) (apart : IsTrue (are_apart bytes_eq (map (λ (own : Lb). own.name) net.lbs)))
+    (only : AllByRecursion (λ (own : Lb). IsTrue (bytes_eq own.name name) → own ≡ lb) net.lbs) where
+  abbrev longer_lb : Lb → Lb
+  longer_lb own = record own { vips = own.vips ++ vip ∷ [] }
+
+  pub vip_more : amount (record net { lbs = each_where (λ own. bytes_eq own.name name) longer_lb net.lbs }) kind.VipDatapath ≤ amount net kind.VipDatapath + attached net lb.id 1 * 1
+  vip_more =
+      once_more (amount (record net { lbs = each_where (λ own. bytes_eq own.name name) longer_lb net.lbs }) kind.VipDatapath) (total (attached_vips net) (each_where (λ own. bytes_eq own.name name) longer_lb net.lbs))
+      (total (attached_vips net) net.lbs) (amount net kind.VipDatapath) (attached net lb.id 1)
+      (sym (all_attached (record net { lbs = each_where (λ own. bytes_eq own.name name) longer_lb net.lbs }))) (all_attached net)
+      (one_rises (λ (own : Lb). own.name) name longer_lb (attached_vips net) (attached net lb.id 1) net.lbs apart
+      (every_as (λ (own : Lb). IsTrue (bytes_eq own.name name) → own ≡ lb) (λ own. IsTrue (bytes_eq own.name name) → attached_vips net (longer_lb own) ≤ attached_vips net own + attached net lb.id 1) net.lbs
+      (λ own is named. subst (λ (l : Lb). attached_vips net (longer_lb l) ≤ attached_vips net l + attached net lb.id 1) (sym (is named)) one_more) only))
+    where
+      last : (vips : List Vip) → length (vips ++ vip ∷ []) ≡ length vips + 1
+      last [] = refl
+      last (v ∷ vips) = let rest = last vips in omega (arith, rest)
+
+      one_more : attached_vips net (longer_lb lb) ≤ attached_vips net lb + attached net lb.id 1
+      one_more = le_equal (attached_vips net (longer_lb lb)) (attached_vips net lb + attached net lb.id 1) (ap (attached net lb.id) (last lb.vips) ∙ attached_one net lb.id (length lb.vips))
+
+      once_more : (a b c d n : ℕ) → a ≡ b → c ≡ d → b ≤ c + n → a ≤ d + n * 1
+      once_more a b c d n e f low = omega (arith, e, f, low)
 
 pub apart_last : {K : Type 0} (test : K → K → Bool) (xs ys : List K) → IsTrue (are_apart test (xs ++ ys)) → IsTrue (are_apart test ys)
 apart_last test [] ys apart = apart

@@ -1,8 +1,8 @@
--- How many neighbours there may be once a port has other addresses, or a host's port is gone.
+-- How many neighbours there may be once a port has other addresses, or hosts' ports are gone.
 use Rattle.std.proofs.Common.{◌≡◌, ℕ, ◌+◌, ◌*◌, ◌≤◌, Bool, true, false, cond, not, ◌&&◌, List, [], ◌∷◌, map, Option, Some, None, arith, refl, sym, ap, ◌∙◌, subst, length}
-use Rattle.std.proofs.lemmas.Bool.{and_parts, cond_both, not-true}
+use Rattle.std.proofs.lemmas.Bool.{cond_both}
 use Rattle.std.specs.Prelude.{IsTrue, find, filter, option_map}
-use Rattle.std.specs.List.{list_all}
+use Rattle.std.specs.List.{AllByRecursion}
 use Rattle.std.specs.Str.{bytes_eq}
 use Rattle.nb_records.specs.declared.refusal.Kind.TheVariants as kind
 use Rattle.nb_records.specs.declared.router.RouterPort.{RouterPort}
@@ -10,10 +10,9 @@ use Rattle.nb_records.specs.declared.switch.Addr.{Addr}
 use Rattle.nb_records.specs.declared.switch.Port.{Port}
 use Rattle.nb_model.specs.Amounts.{amount, total, ip_count, net_count, pair_count, neighbours_across}
 use Rattle.nb_model.specs.Belongs.{is_to_router, is_name, is_port, peer_port, peer_router_port}
-use Rattle.nb_model.specs.Effect.{delete_port, set_port, without}
+use Rattle.nb_model.specs.Effect.{set_port, without, without_ports}
 use Rattle.nb_model.specs.Network.{Network, same}
 use Rattle.nb_model.specs.Readable.{are_apart}
-use Rattle.nb_model.proofs.Alike.{names_sym, same_names}
 use Rattle.nb_model.proofs.AnyOf.{all_true, find_changed}
 use Rattle.nb_model.proofs.RisesNeighbours.{is_across, is_peer_of}
 use Rattle.nb_model.proofs.Totals.{le_equal, le_self, le_trans, total_cons, total_kept_twice, total_le}
@@ -22,7 +21,7 @@ use Rattle.nb_limits.proofs.Rest.{same_met}
 use Rattle.nb_limits.proofs.Swapped.{total_filter, total_same}
 
 -- A sum of which each part is at most so much more.
-each_more : {X : Type 0} (f g : X → ℕ) (k : ℕ) (xs : List X) → ((x : X) → f x ≤ g x + k) → total f xs ≤ total g xs + k * length xs
+pub each_more : {X : Type 0} (f g : X → ℕ) (k : ℕ) (xs : List X) → ((x : X) → f x ≤ g x + k) → total f xs ≤ total g xs + k * length xs
 each_more f g k [] less = omega arith
 each_more f g k (x ∷ xs) less =
     joined (total f (x ∷ xs)) (f x) (total f xs) (total g (x ∷ xs)) (g x) (total g xs) (k * length (x ∷ xs)) (k * length xs) (total_cons f x xs) (total_cons g x xs) (ap (λ n. k * n) longer ∙ once (length xs)) (less x) (each_more f g k xs less)
@@ -37,7 +36,7 @@ each_more f g k (x ∷ xs) less =
     joined v a b w c d m n e f g low high = omega (arith, e, f, g, low, high)
 
 -- the port by its number alone
-same_port : (a b : Port) → a.id ≡ b.id → (found : Option Port) → is_port a found ≡ is_port b found
+pub same_port : (a b : Port) → a.id ≡ b.id → (found : Option Port) → is_port a found ≡ is_port b found
 same_port a b is None = refl
 same_port a b is (Some other) = ap (λ n. same n other.id) is
 
@@ -127,61 +126,42 @@ module _ (net : Network) (name : List ℕ) (list : List Addr) (apart : IsTrue (a
       each_more (λ port. neighbours_across after (peer_port after port)) (λ port. neighbours_across net (peer_port net port)) more net.router_ports
       (λ port. subst (λ peer. neighbours_across after peer ≤ neighbours_across net (peer_port net port) + more) (sym (peers port)) (across (peer_port net port)))
 
--- A port less, which is a host's.
+-- Ports less, which are hosts'.
 
--- what is found, if anything is, is a host's port
-abbrev pub IsHosts : Option Port → Type 0
-IsHosts None = Unit {0}
-IsHosts (Some port) = is_to_router port ≡ false
+module _ (gone : Port → Bool) where
+  -- those that go are hosts' ports
+  abbrev pub AreHosts : List Port → Type 0
+  AreHosts ports = AllByRecursion (λ (p : Port). IsTrue (gone p) → is_to_router p ≡ false) ports
 
-module _ (name : List ℕ) where
-  abbrev gone : Port → Bool
-  gone port = bytes_eq port.name name
+  still_found : (q : Port → Bool) → ((port : Port) → is_to_router port ≡ false → q port ≡ false) → (ports : List Port) → AreHosts ports → find q (without gone ports) ≡ find q ports
+  still_found q of_routers [] hosts = refl
+  still_found q of_routers (p ∷ ports) hosts = by (gone p) hosts.0 (still_found q of_routers ports hosts.1)
+    where
+      by : (b : Bool) → (IsTrue b → is_to_router p ≡ false) → find q (without gone ports) ≡ find q ports → find q (cond (not b) (p ∷ without gone ports) (without gone ports)) ≡ cond (q p) (Some p) (find q ports)
+      by true host rest = rest ∙ sym (ap (λ b. cond b (Some p) (find q ports)) (of_routers p (host refl)))
+      by false host rest = ap (λ (o : Option Port). cond (q p) (Some p) o) rest
 
-  none_gone : (own : List ℕ) (ports : List Port) → own ≡ name → IsTrue (list_all (λ other. not (bytes_eq own other)) (map (λ (p : Port). p.name) ports)) → without gone ports ≡ ports
-  none_gone own [] is apart = refl
-  none_gone own (p ∷ ports) is apart =
-      let parts = and_parts (not (bytes_eq own p.name)) (list_all (λ other. not (bytes_eq own other)) (map (λ (x : Port). x.name) ports)) apart in
-      let other : gone p ≡ false = names_sym p.name name ∙ ap (λ n. bytes_eq n p.name) (sym is) ∙ not-true (bytes_eq own p.name) parts.0 in
-      ap (λ b. cond (not b) (p ∷ without gone ports) (without gone ports)) other ∙ ap (λ (ps : List Port). p ∷ ps) (none_gone own ports is parts.1)
+  module _ (net : Network) (hosts : AreHosts net.ports) where
+    abbrev left : Network
+    left = without_ports gone net
 
-  module _ (q : Port → Bool) (of_routers : (port : Port) → is_to_router port ≡ false → q port ≡ false) where
-    still_found : (ports : List Port) → IsTrue (are_apart bytes_eq (map (λ (p : Port). p.name) ports)) → IsHosts (find gone ports) → find q (without gone ports) ≡ find q ports
-    still_found [] apart host = refl
-    still_found (p ∷ ports) apart host =
-        let parts = and_parts (list_all (λ other. not (bytes_eq p.name other)) (map (λ (x : Port). x.name) ports)) (are_apart bytes_eq (map (λ (x : Port). x.name) ports)) apart in
-        by (gone p) refl host parts.0 (still_found ports parts.1)
-      where
-        later : (b : Bool) → find q (without gone ports) ≡ find q ports → cond b (Some p) (find q (without gone ports)) ≡ cond b (Some p) (find q ports)
-        later b rest = ap (λ (o : Option Port). cond b (Some p) o) rest
+    left_peers : (port : RouterPort) → peer_port left port ≡ peer_port net port
+    left_peers port = still_found (is_peer_of port.name) (λ other is. ap (λ b. b && is_name other.router_port port.name) is) net.ports hosts
 
-        by : (b : Bool) → gone p ≡ b → IsHosts (cond b (Some p) (find gone ports)) → IsTrue (list_all (λ other. not (bytes_eq p.name other)) (map (λ (x : Port). x.name) ports))
-            → (IsHosts (find gone ports) → find q (without gone ports) ≡ find q ports)
-            → find q (cond (not b) (p ∷ without gone ports) (without gone ports)) ≡ cond (q p) (Some p) (find q ports)
-        by true is hosts differ rest = ap (find q) (none_gone p.name ports (same_names p.name name is) differ) ∙ sym (ap (λ b. cond b (Some p) (find q ports)) (of_routers p hosts))
-        by false is hosts differ rest = later (q p) (rest hosts)
+    left_pairs : (own : Port) → pair_count left own ≡ pair_count net own
+    left_pairs own =
+        ap (λ o. cond (is_to_router own) (net_count o) (total ip_count own.addresses))
+        (same_met (λ other. is_port own (peer_port left other)) (λ other. is_port own (peer_port net other)) net.router_ports (λ other. ap (is_port own) (left_peers other)))
 
-module _ (net : Network) (name : List ℕ) (apart : IsTrue (are_apart bytes_eq (map (λ (p : Port). p.name) net.ports))) (host : IsHosts (find (λ port. bytes_eq port.name name) net.ports)) where
-  abbrev left : Network
-  left = delete_port net name
+    left_across : (peer : Option Port) → neighbours_across left peer ≤ neighbours_across net peer
+    left_across None = le_self 0
+    left_across (Some peer) =
+        le_trans (neighbours_across left (Some peer)) (total (pair_count net) (filter (is_across peer) (without gone net.ports))) (neighbours_across net (Some peer))
+        (le_equal (neighbours_across left (Some peer)) (total (pair_count net) (filter (is_across peer) (without gone net.ports)))
+        (total_same (pair_count left) (pair_count net) (filter (is_across peer) (without gone net.ports)) left_pairs))
+        (total_kept_twice (pair_count net) (λ p. not (gone p)) (is_across peer) net.ports)
 
-  left_peers : (port : RouterPort) → peer_port left port ≡ peer_port net port
-  left_peers port = still_found name (is_peer_of port.name) (λ other is. ap (λ b. b && is_name other.router_port port.name) is) net.ports apart host
-
-  left_pairs : (own : Port) → pair_count left own ≡ pair_count net own
-  left_pairs own =
-      ap (λ o. cond (is_to_router own) (net_count o) (total ip_count own.addresses))
-      (same_met (λ other. is_port own (peer_port left other)) (λ other. is_port own (peer_port net other)) net.router_ports (λ other. ap (is_port own) (left_peers other)))
-
-  left_across : (peer : Option Port) → neighbours_across left peer ≤ neighbours_across net peer
-  left_across None = le_self 0
-  left_across (Some peer) =
-      le_trans (neighbours_across left (Some peer)) (total (pair_count net) (filter (is_across peer) (without (gone name) net.ports))) (neighbours_across net (Some peer))
-      (le_equal (neighbours_across left (Some peer)) (total (pair_count net) (filter (is_across peer) (without (gone name) net.ports)))
-      (total_same (pair_count left) (pair_count net) (filter (is_across peer) (without (gone name) net.ports)) left_pairs))
-      (total_kept_twice (pair_count net) (λ p. not (gone name p)) (is_across peer) net.ports)
-
-  pub hosts_leave : amount (delete_port net name) kind.Neighbour ≤ amount net kind.Neighbour
-  hosts_leave =
-      total_le (λ port. neighbours_across left (peer_port left port)) (λ port. neighbours_across net (peer_port net port)) (λ port. true) net.router_ports (all_true net.router_ports)
-      (λ port of. subst (λ peer. neighbours_across left peer ≤ neighbours_across net (peer_port net port)) (sym (left_peers port)) (left_across (peer_port net port)))
+    pub hosts_leave : amount (without_ports gone net) kind.Neighbour ≤ amount net kind.Neighbour
+    hosts_leave =
+        total_le (λ port. neighbours_across left (peer_port left port)) (λ port. neighbours_across net (peer_port net port)) (λ port. true) net.router_ports (all_true net.router_ports)
+        (λ port of. subst (λ peer. neighbours_across left peer ≤ neighbours_across net (peer_port net port)) (sym (left_peers port)) (left_across (peer_port net port)))

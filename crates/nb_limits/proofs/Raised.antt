@@ -16,14 +16,14 @@ use Rattle.nb_model.specs.Effect.{add_acl, acl_like}
 use Rattle.nb_model.specs.Network.{Network, same}
 use Rattle.nb_model.specs.Sound.{group_ids}
 use Rattle.nb_model.proofs.Lists.{same_is}
-use Rattle.nb_model.proofs.Totals.{total_cons}
+use Rattle.nb_model.proofs.Totals.{le_self, total_cons}
 use Rattle.nv_table.specs.Table.{record_of}
 use Rattle.nb_limits.specs.Ceilings.{IsCeiling}
-use Rattle.nb_limits.specs.inner.KnownAfter.{raised, owner_reach, reach}
+use Rattle.nb_limits.specs.inner.KnownAfter.{owner_reach, reach}
 use Rattle.nb_limits.specs.Limitless.{IsSoundButLimits}
 use Rattle.nb_limits.specs.inner.GroupSwitches.{switch_count}
 use Rattle.nb_limits.specs.inner.Weights.{found_count}
-use Rattle.nb_limits.specs.inner.Within.{up_to}
+use Rattle.nb_limits.specs.inner.Within.{up_to, raised, raised_by}
 use Rattle.nb_limits.specs.declared.acl_limits.Measure.TheVariants.{Count}
 use Rattle.nb_limits.proofs.AclSums.{of_acl, no_switch, groups_rise}
 use Rattle.nb_limits.proofs.Counted.{found_list, of_number}
@@ -69,7 +69,7 @@ module _ (net : Network) (acl : Acl) where
       (total_last (λ own. length (typed_text own.matching) * length (switches_of_acl net own)) net.acls acl))
 
 -- a number that is not among those of switches is no switch's
-none_there : (owner : ObjId) (groups : List ObjId) (switches : List Switch) → IsTrue (is_among owner groups) → IsTrue (list_all (λ n. not (is_among n groups)) (map (λ (s : Switch). s.id) switches))
+pub none_there : (owner : ObjId) (groups : List ObjId) (switches : List Switch) → IsTrue (is_among owner groups) → IsTrue (list_all (λ n. not (is_among n groups)) (map (λ (s : Switch). s.id) switches))
     → record_of (λ (s : Switch). s.id) owner switches ≡ None
 none_there owner groups [] there apart = refl
 none_there owner groups (s ∷ switches) there apart =
@@ -82,7 +82,7 @@ none_there owner groups (s ∷ switches) there apart =
     by false is other rest = rest
 
 -- and that of a group that is found is among those of groups
-group_there : (owner : ObjId) (groups : List Group) (group : Group) → record_of (λ (g : Group). g.id) owner groups ≡ Some group → IsTrue (is_among owner (map (λ (g : Group). g.id) groups))
+pub group_there : (owner : ObjId) (groups : List Group) (group : Group) → record_of (λ (g : Group). g.id) owner groups ≡ Some group → IsTrue (is_among owner (map (λ (g : Group). g.id) groups))
 group_there owner [] group found = absurd (cc)
 group_there owner (g ∷ groups) group found = by (same owner g.id) found (group_there owner groups group)
   where
@@ -131,3 +131,16 @@ raised_ceiling bound before after (Some most) more some times known rise less = 
     by (Some n) is =
         let it = told bound (most + more * times) n (sym is) in
         (subst (λ m. after ≤ m) (sym it.0) (grown (more * some) (more * times) factor rise), it.1)
+
+-- what is known of an amount is so of one that is at most it
+pub falls : (limit before after : ℕ) (most : Option ℕ) → after ≤ before → IsCeiling limit before most → IsCeiling limit after most
+falls limit before after None less known = tt
+falls limit before after (Some most) less known = let low = known.0 in (omega (arith, low, less), known.1)
+
+-- what is known of an amount that is raised by at most so much, where that is told
+pub raised_by_ceiling : (limit before after : ℕ) (most : Option ℕ) (more times : ℕ) → IsCeiling limit before most → after ≤ before + more * times → IsCeiling limit after (raised_by limit most (up_to limit more) times)
+raised_by_ceiling limit before after most more times known rise = by (up_to limit more) refl
+  where
+    by : (own : Option ℕ) → up_to limit more ≡ own → IsCeiling limit after (raised_by limit most own times)
+    by None is = tt
+    by (Some n) is = subst (λ m. IsCeiling limit after (raised limit most m times)) (sym (told limit more n (sym is)).0) (raised_ceiling limit before after most more times times known rise (le_self times))

@@ -3,5 +3,6 @@ pub mod Across
 pub mod Attached
 pub mod GroupSwitches
 pub mod KnownAfter
+pub mod NeighboursAfter
 pub mod Weights
 pub mod Within

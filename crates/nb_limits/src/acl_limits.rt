@@ -11,8 +11,8 @@ use crate::bounds::bound;
 use crate::within::{add, add_times};
 use expr_core::put_tree;
 use nb_records::{Acl, Group, Kind};
-use nb_store::{Records, add_number};
-use nv_base::{Items, ObjId, OutOfMemory};
+use nb_store::Records;
+use nv_base::{ObjId, OutOfMemory};
 use std::alloc::Global;
 
 /// What is added up of ACLs.
@@ -185,7 +185,7 @@ pub(crate) fn of_owner(
     Ok(Some(sum))
 }
 
-/// How many switches have a port of the group.
+/// How many switches have a port of the group: those of its ports, sorted, each once.
 pub(crate) fn switch_count(
     alloc: Global,
     records: &Records,
@@ -194,11 +194,13 @@ pub(crate) fn switch_count(
     requires limitless { IsSoundButLimits records.now }
     ensures { IfOk result (λ count. count ≡ switch_count records.now group.now) }
 {
-    let mut switches = Items::new(alloc);
+    let mut switches = Vec::new(alloc);
     for number in group.ports.as_slice() {
         if let Some(port) = records.ports().get(*number) {
-            add_number(&mut switches, port.switch)?;
+            switches.push(port.switch)?;
         }
     }
-    Ok(switches.as_slice().len() as u64)
+    switches.sort_unstable();
+    switches.dedup();
+    Ok(switches.len() as u64)
 }

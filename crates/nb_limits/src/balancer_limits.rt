@@ -1,15 +1,15 @@
 //! How many VIPs and backends load balancers have (not from OVN).
 ghost use Rattle.std.specs.Prelude.{◌≡◌, length};
-ghost use Rattle.nb_limits.specs.inner.Attached.{attached_vips, vips_on_switches, vips_on_routers};
+ghost use Rattle.nb_limits.specs.inner.Attached.{attached, switches_with, routers_with};
 ghost use Rattle.nb_limits.specs.Limitless.{IsSoundButLimits};
 ghost use Rattle.nb_limits.specs.inner.Within.{up_to};
 ghost use Rattle.nb_records.specs.declared.refusal.Kind.TheVariants as kind;
 ghost use Rattle.nb_model.specs.Amounts.{amount, greatest};
-ghost use Rattle.nv_table.specs.Table.{NumbersRise};
 
 use crate::within::add;
 use nb_records::Lb;
 use nb_store::Records;
+use nv_base::ObjId;
 
 /// The most VIPs that a load balancer has.
 pub(crate) fn vip_count(records: &Records) -> u64
@@ -56,49 +56,47 @@ pub(crate) fn vip_datapaths(records: &Records, bound: u64) -> Option<u64>
     let mut sum = 0;
     let mut after = None;
     while let Some(lb) = records.lbs().after(after) {
-        let more = attached_vips(records, lb, bound)?;
+        let vips = lb.vips.as_slice().len() as u64;
+        let more = attached(records, lb.id, vips, bound)?;
         sum = add(sum, more, bound)?;
         after = Some(lb.id);
     }
     Some(sum)
 }
 
-// How many VIPs of a load balancer there are, each counted once for each datapath that has it.
-fn attached_vips(records: &Records, lb: &Lb, bound: u64) -> Option<u64>
-    requires switches { NumbersRise (λ x. x.id) records.now.switches }
-    requires routers { NumbersRise (λ x. x.id) records.now.routers }
-    ensures { result ≡ up_to bound (attached_vips records.now lb.now) }
+/// So many for each datapath that has the load balancer of this number, where they are within the bound.
+pub(crate) fn attached(records: &Records, lb: ObjId, each: u64, bound: u64) -> Option<u64>
+    requires limitless { IsSoundButLimits records.now }
+    ensures { result ≡ up_to bound (attached records.now lb each) }
 {
-    let switches = vips_on_switches(records, lb, bound)?;
-    let routers = vips_on_routers(records, lb, bound)?;
+    let switches = switches_with(records, lb, each, bound)?;
+    let routers = routers_with(records, lb, each, bound)?;
     add(switches, routers, bound)
 }
 
-// How many there are, each counted once for each switch that has it.
-fn vips_on_switches(records: &Records, lb: &Lb, bound: u64) -> Option<u64>
-    requires { NumbersRise (λ x. x.id) records.now.switches }
-    ensures { result ≡ up_to bound (vips_on_switches records.now lb.now) }
+// So many for each switch that has it.
+fn switches_with(records: &Records, lb: ObjId, each: u64, bound: u64) -> Option<u64>
+    requires limitless { IsSoundButLimits records.now }
+    ensures { result ≡ up_to bound (switches_with records.now lb each) }
 {
-    let vips = lb.vips.as_slice().len() as u64;
     let mut sum = 0;
     let mut after = None;
-    while let Some(switch) = records.switch_with(lb.id, after) {
-        sum = add(sum, vips, bound)?;
+    while let Some(switch) = records.switch_with(lb, after) {
+        sum = add(sum, each, bound)?;
         after = Some(switch.id);
     }
     Some(sum)
 }
 
-// How many there are, each counted once for each router that has it.
-fn vips_on_routers(records: &Records, lb: &Lb, bound: u64) -> Option<u64>
-    requires { NumbersRise (λ x. x.id) records.now.routers }
-    ensures { result ≡ up_to bound (vips_on_routers records.now lb.now) }
+// So many for each router that has it.
+fn routers_with(records: &Records, lb: ObjId, each: u64, bound: u64) -> Option<u64>
+    requires limitless { IsSoundButLimits records.now }
+    ensures { result ≡ up_to bound (routers_with records.now lb each) }
 {
-    let vips = lb.vips.as_slice().len() as u64;
     let mut sum = 0;
     let mut after = None;
-    while let Some(router) = records.router_with(lb.id, after) {
-        sum = add(sum, vips, bound)?;
+    while let Some(router) = records.router_with(lb, after) {
+        sum = add(sum, each, bound)?;
         after = Some(router.id);
     }
     Some(sum)

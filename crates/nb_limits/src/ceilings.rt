@@ -7,18 +7,19 @@ ghost use Rattle.nb_model.specs.Effect.{effect};
 ghost use Rattle.nb_model.specs.Network.{Network, empty_network};
 ghost use Rattle.nb_model.specs.Sound.{IsSound};
 ghost use Rattle.nb_limits.specs.Ceilings.{AreCeilings};
-ghost use Rattle.nb_limits.specs.inner.KnownAfter.{raised, reach, with_acl, with_ports, raised_by, has_vip_room, own_vips, vips_after, with_lb, where_unnamed, without_port, without_kind, with_addresses, known_after};
+ghost use Rattle.nb_limits.specs.inner.KnownAfter.{reach, with_acl, on_more, with_ports, has_vip_room, own_vips, vips_after, with_lb, known_after};
 ghost use Rattle.nb_limits.specs.inner.Weights.{of_owner};
 ghost use Rattle.nb_limits.specs.inner.Within.{up_to};
 ghost use Rattle.nb_limits.specs.Limitless.{IsSoundButLimits};
 
 use crate::acl_limits::{Measure, acl_switches, match_text, of_owner, switch_count};
-use crate::balancer_limits::{backend_count, vip_count, vip_datapaths};
+use crate::balancer_limits::{attached, backend_count, vip_count, vip_datapaths};
 use crate::bounds::bound;
-use crate::neighbour_limits::{ip_counts, neighbours};
-use crate::within::add_times;
+use crate::neighbour_ceilings::neighbours_after;
+use crate::neighbour_limits::neighbours;
+use crate::within::{raised, raised_by};
 use expr_core::{Typed, put_tree};
-use nb_records::{Addr, Backend, Edit, Kind, Lb, Port, PortKind};
+use nb_records::{Backend, Edit, Group, Kind, Lb};
 use nb_store::Records;
 use nv_base::{ObjId, OutOfMemory};
 use std::alloc::Global;
@@ -104,37 +105,21 @@ impl Ceilings {
             Edit::PgSetPorts { name, ports } => {
                 let named = ports.as_slice().len() as u64;
                 let most = named.min(records.switches().count());
-                self.with_ports(alloc, records, records.group_id(name), most)
+                self.with_ports(alloc, records, records.group_named(name), most)
             }
             Edit::LbAdd { lb, backends, .. } => Ok(Ceilings {
                 vips_fit: has_vip_room(records.lb_named(lb)),
                 backends_fit: do_fit(backends.as_slice()),
-                vip_datapaths: vips_after(records.lb_named(lb), self.vip_datapaths),
+                vip_datapaths: vips_after(records, records.lb_named(lb), self.vip_datapaths),
                 ..self
             }),
             Edit::LsLbAdd { lb, .. } | Edit::LrLbAdd { lb, .. } => {
                 Ok(self.with_lb(records, records.lb_id(lb)))
             }
-            Edit::LrpAdd { port, .. } => Ok(Ceilings {
-                neighbours: where_unnamed(records.peer_named(port), self.neighbours),
+            _ => Ok(Ceilings {
+                neighbours: neighbours_after(records, edit, self.neighbours),
                 ..self
             }),
-            Edit::LspDel { port, .. } => Ok(Ceilings {
-                neighbours: without_port(records.port_named(port), self.neighbours),
-                ..self
-            }),
-            Edit::LspSetAddresses { addresses, .. } => Ok(Ceilings {
-                neighbours: with_addresses(records, addresses.as_slice(), self.neighbours),
-                ..self
-            }),
-            Edit::LsDel { .. }
-            | Edit::LspSetType { .. }
-            | Edit::LspSetOptions { .. }
-            | Edit::LspSetEnabled { enabled: true, .. } => Ok(Ceilings {
-                neighbours: None,
-                ..self
-            }),
-            _ => Ok(self),
         }
     }
 
@@ -271,23 +256,42 @@ impl Ceilings {
         })
     }
 
-    // What is known once the group of this number, if it is there, has other ports, which are on at most so many switches: each of its
-    // ACLs applies to at most so many more.
+    // What is known once this group, if it is there, has other ports, which are on at most so many switches. Where it was on as many,
+    // no ACL is looked at.
     fn with_ports(
         self,
         alloc: Global,
         records: &Records,
-        group: Option<ObjId>,
+        group: Option<&Group>,
         most: u64,
     ) -> Result<Ceilings, OutOfMemory>
         requires limitless { IsSoundButLimits records.now }
-        ensures { IfOk result (λ known. known ≡ with_ports records.now self group most) }
+        ensures { IfOk result (λ known. known ≡ with_ports records.now self (option_copied group.entry) most) }
     {
         let Some(group) = group else {
             return Ok(self);
         };
-        let switches = owned(alloc, records, group, Measure::Count, most, Kind::AclSwitch)?;
-        let text = owned(alloc, records, group, Measure::Text, most, Kind::MatchText)?;
+        let had = switch_count(alloc, records, group)?;
+        if had < most {
+            self.on_more(alloc, records, group.id, most - had)
+        } else {
+            Ok(self)
+        }
+    }
+
+    // What is known once each ACL of a group applies to at most so many more switches.
+    fn on_more(
+        self,
+        alloc: Global,
+        records: &Records,
+        group: ObjId,
+        more: u64,
+    ) -> Result<Ceilings, OutOfMemory>
+        requires limitless { IsSoundButLimits records.now }
+        ensures { IfOk result (λ known. known ≡ on_more records.now self group more) }
+    {
+        let switches = owned(alloc, records, group, Measure::Count, more, Kind::AclSwitch)?;
+        let text = owned(alloc, records, group, Measure::Text, more, Kind::MatchText)?;
         Ok(Ceilings {
             acl_switches: raised_by(self.acl_switches, switches, 1, Kind::AclSwitch),
             match_text: raised_by(self.match_text, text, 1, Kind::MatchText),
@@ -316,20 +320,6 @@ fn owned(
         times,
         u64::from(bound(kind)),
     )
-}
-
-// So many more, each of this amount, where that is known and within the bound of the kind.
-fn raised(most: Option<u64>, more: u64, times: u64, kind: Kind) -> Option<u64>
-    ensures { result ≡ raised (bound kind) most more times }
-{
-    add_times(most?, more, times, u64::from(bound(kind)))
-}
-
-// The same, where the amount is told.
-fn raised_by(most: Option<u64>, more: Option<u64>, times: u64, kind: Kind) -> Option<u64>
-    ensures { result ≡ raised_by (bound kind) most more times }
-{
-    raised(most, more?, times, kind)
 }
 
 // To how many switches an ACL of this owner applies: a group, or a switch.
@@ -369,51 +359,19 @@ fn own_vips(lb: Option<&Lb>) -> u64
     }
 }
 
-// What is known of the VIPs of datapaths after a VIP more of this load balancer, or of a new one, which no datapath has.
-fn vips_after(lb: Option<&Lb>, known: Option<u64>) -> Option<u64>
-    ensures { result ≡ vips_after (option_copied lb.entry) known }
+// What is known of the VIPs of datapaths after a VIP more of this load balancer, once for each datapath that has it, or of a new one,
+// which none has.
+fn vips_after(records: &Records, lb: Option<&Lb>, known: Option<u64>) -> Option<u64>
+    requires limitless { IsSoundButLimits records.now }
+    ensures { result ≡ vips_after records.now (option_copied lb.entry) known }
 {
     match lb {
-        Some(_) => None,
+        Some(lb) => {
+            let more = attached(records, lb.id, 1, u64::from(bound(Kind::VipDatapath)));
+            raised_by(known, more, 1, Kind::VipDatapath)
+        }
         None => known,
     }
-}
-
-// What is known of neighbours after a router port more, which brings none where no port names it.
-fn where_unnamed(peer: Option<&Port>, known: Option<u64>) -> Option<u64>
-    ensures { result ≡ where_unnamed (option_copied peer.entry) known }
-{
-    match peer {
-        Some(_) => None,
-        None => known,
-    }
-}
-
-// What is known of neighbours without this port, if it is there: where it is a host's, there are no more.
-fn without_port(port: Option<&Port>, known: Option<u64>) -> Option<u64>
-    ensures { result ≡ without_port (option_copied port.entry) known }
-{
-    match port {
-        Some(port) => without_kind(port.kind, known),
-        None => known,
-    }
-}
-
-fn without_kind(kind: PortKind, known: Option<u64>) -> Option<u64>
-    ensures { result ≡ without_kind kind known }
-{
-    match kind {
-        PortKind::Router => None,
-        PortKind::Host => known,
-    }
-}
-
-// What is known of neighbours once a port has these addresses: each router port knows no more than all of them besides.
-fn with_addresses(records: &Records, addresses: &[Addr], known: Option<u64>) -> Option<u64>
-    ensures { result ≡ with_addresses records.now addresses.now known }
-{
-    let more = ip_counts(addresses, u64::from(bound(Kind::Neighbour)));
-    raised_by(known, more, records.router_ports().count(), Kind::Neighbour)
 }
 
 // Whether a VIP may have these backends.

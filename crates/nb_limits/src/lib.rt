@@ -7,6 +7,7 @@ mod balancer_limits;
 mod bounds;
 mod ceilings;
 mod limits;
+mod neighbour_ceilings;
 mod neighbour_limits;
 mod within;
 

@@ -1,21 +1,12 @@
-use Rattle.std.proofs.Common.{sym, ap, ◌∙◌}
+use Rattle.std.proofs.Common.{sym, ap, ◌∙◌, length}
 use Rattle.nb_records.specs.declared.balancer.Lb.{Lb}
-use Rattle.nb_records.specs.declared.router.Router.{Router}
-use Rattle.nb_records.specs.declared.switch.Switch.{Switch}
 use Rattle.nb_model.specs.Amounts.{total}
-use Rattle.nb_store.proofs.PlacedRecords.{rises}
-use Rattle.nb_limits.specs.inner.Attached.{attached_vips}
+use Rattle.nb_limits.specs.inner.Attached.{attached, attached_vips}
 use Rattle.nb_limits.specs.inner.Within.{up_to}
 use Rattle.nb_limits.proofs.Attached.{all_attached}
 use Rattle.nb_limits.proofs.Rest.{next_left, none_left, first_left}
 use Rattle.nb_limits.proofs.Sums.{fewer, told, sum_begins, sum_goes_on, sum_over, part_over, sum_ends}
 use Rattle.nb_limits.proofs.balancer_limits.vip_datapaths.Goals as goal
-
-pub attached_vips-requires : goal.attached_vips-requires
-attached_vips-requires c = record {
-  switches = rises (λ (x : Switch). x.id) c.args.records.now.switches c.requires.limitless.numbered.order.switches;
-  routers = rises (λ (x : Router). x.id) c.args.records.now.routers c.requires.limitless.numbered.order.routers;
-}
 
 pub loop-after-smaller : goal.loop-after-smaller
 loop-after-smaller c = fewer _ _ c.in-Some.lb.now (next_left (λ (lb : Lb). lb.id) c.loop-after.after c.args.records.now.lbs c.in-Some.lb.now c.lbs.result.now c.lbs.ensures c.in-Some.ensures.rise c.in-Some.ensures.record)
@@ -26,18 +17,18 @@ loop-after-init c = sum_begins (attached_vips c.args.records.now) c.args.bound _
 pub loop-after-preserved : goal.loop-after-preserved
 loop-after-preserved c =
     sum_goes_on _ _ _ _ _ c.loop-after.invariant c.in-Some.lb.now _ (next_left (λ (lb : Lb). lb.id) c.loop-after.after c.args.records.now.lbs c.in-Some.lb.now c.lbs.result.now c.lbs.ensures c.in-Some.ensures.rise c.in-Some.ensures.record)
-    c.in_ok-more.more c.in_ok-sum.sum (told _ _ _ c.in_ok-more.ensures).0 c.in_ok-sum.ensures
+    c.in_ok-more.more c.in_ok-sum.sum ((told _ _ _ c.in_ok-more.ensures).0 ∙ ap (attached c.args.records.now c.in-Some.lb.now.id) (ap length c.as_slice.ensures)) c.in_ok-sum.ensures
 
 pub returns-in_err-more : goal.returns-in_err-more
 returns-in_err-more c =
     c.from_residual.ensures
-    ∙ sym (part_over _ _ _ _ _ c.loop-after.invariant c.in-Some.lb.now _ (next_left (λ (lb : Lb). lb.id) c.loop-after.after c.args.records.now.lbs c.in-Some.lb.now c.lbs.result.now c.lbs.ensures c.in-Some.ensures.rise c.in-Some.ensures.record) c.in_err-more.ensures)
+    ∙ sym (part_over _ _ _ _ _ c.loop-after.invariant c.in-Some.lb.now _ (next_left (λ (lb : Lb). lb.id) c.loop-after.after c.args.records.now.lbs c.in-Some.lb.now c.lbs.result.now c.lbs.ensures c.in-Some.ensures.rise c.in-Some.ensures.record) (c.in_err-more.ensures ∙ ap (λ n. up_to c.args.bound (attached c.args.records.now c.in-Some.lb.now.id n)) (ap length c.as_slice.ensures)))
     ∙ ap (up_to c.args.bound) (all_attached c.args.records.now)
 
 pub returns-in_err-sum : goal.returns-in_err-sum
 returns-in_err-sum c =
     c.from_residual-in_err-sum.ensures
-    ∙ sym (sum_over _ _ _ _ _ c.loop-after.invariant c.in-Some.lb.now _ (next_left (λ (lb : Lb). lb.id) c.loop-after.after c.args.records.now.lbs c.in-Some.lb.now c.lbs.result.now c.lbs.ensures c.in-Some.ensures.rise c.in-Some.ensures.record) c.in_ok-more.more (told _ _ _ c.in_ok-more.ensures).0 c.in_err-sum.ensures)
+    ∙ sym (sum_over _ _ _ _ _ c.loop-after.invariant c.in-Some.lb.now _ (next_left (λ (lb : Lb). lb.id) c.loop-after.after c.args.records.now.lbs c.in-Some.lb.now c.lbs.result.now c.lbs.ensures c.in-Some.ensures.rise c.in-Some.ensures.record) c.in_ok-more.more ((told _ _ _ c.in_ok-more.ensures).0 ∙ ap (attached c.args.records.now c.in-Some.lb.now.id) (ap length c.as_slice.ensures)) c.in_err-sum.ensures)
     ∙ ap (up_to c.args.bound) (all_attached c.args.records.now)
 
 pub returns : goal.returns

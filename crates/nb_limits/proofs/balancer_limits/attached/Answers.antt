@@ -1,6 +1,6 @@
 use Rattle.std.proofs.Common.{sym, ◌∙◌}
 use Rattle.nb_limits.proofs.Sums.{first_over, second_over, both_told}
-use Rattle.nb_limits.proofs.balancer_limits.attached_vips.Goals as goal
+use Rattle.nb_limits.proofs.balancer_limits.attached.Goals as goal
 
 pub returns-in_err-switches : goal.returns-in_err-switches
 returns-in_err-switches c = c.from_residual.ensures ∙ sym (first_over _ _ _ c.in_err-switches.ensures)

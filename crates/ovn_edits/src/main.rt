@@ -3,7 +3,7 @@
 //! it, `count` by how much there is of each kind, and `deciding` before a switch and two MACs by the ACL that decides in each direction
 //! on a packet from the first to the second; `route` before a router and two addresses by the hop by which it passes a packet from the first
 //! to the second on: the number of the port, the next host, and the address that asks for its MAC; `touched` by the kinds and numbers of the
-//! records that the last accepted line of edits may have changed.
+//! records that the last accepted line of edits may have changed, and where that is one number of what a record lists, by `lists` and it.
 #![tactic(auto)]
 
 mod answer;

@@ -1,5 +1,6 @@
 pub mod AclSums
 pub mod Attached
+pub mod Beside
 pub mod Bounded
 pub mod Clipped
 pub mod Counted

@@ -2,7 +2,7 @@
 //! counted once, by a walk over the ports of all switches: where peers change.
 ghost use Rattle.std.specs.Prelude.{◌≡◌, Some, length};
 ghost use Rattle.std.specs.Option.{option_copied};
-ghost use Rattle.nb_limits.specs.inner.NeighboursAfter.{neighbours_after, where_unnamed, without_port, without_kind, has_router_kind, without_switch, with_addresses, with_enabled, same_kind, unnamed_kind, other_kind, with_kind, same_option, with_option};
+ghost use Rattle.nb_limits.specs.inner.NeighboursAfter.{neighbours_after, peer_named, with_peer, with_router_port, without_port, without_kind, has_router_kind, without_switch, with_addresses, with_enabled, same_kind, unnamed_kind, other_kind, with_kind, same_option, with_option};
 ghost use Rattle.nb_limits.specs.inner.Within.{raised_by};
 ghost use Rattle.nb_limits.specs.Limitless.{IsSoundButLimits};
 ghost use Rattle.nb_model.specs.Amounts.{bound};
@@ -12,8 +12,8 @@ ghost use Rattle.nb_records.specs.declared.refusal.Kind.TheVariants as kind;
 ghost use Rattle.nv_table.specs.Table.{NumbersRise, record_of};
 
 use crate::bounds::bound;
-use crate::neighbour_limits::{ip_counts, pair_count};
-use crate::within::raised_by;
+use crate::neighbour_limits::{ip_counts, neighbours_beside, pair_count};
+use crate::within::{raised, raised_by};
 use nb_records::{Addr, Edit, Kind, Port, PortKind};
 use nb_store::Records;
 use nv_base::{Name, ObjId};
@@ -24,7 +24,9 @@ pub(crate) fn neighbours_after(records: &Records, edit: &Edit, known: Option<u64
     ensures { result ≡ neighbours_after records.now edit.now known }
 {
     match edit {
-        Edit::LrpAdd { port, .. } => where_unnamed(records.peer_named(port), known),
+        Edit::LrpAdd { port, nets, .. } => {
+            with_router_port(records, port, nets.as_slice().len() as u64, known)
+        }
         Edit::LsDel { name, .. } => without_switch(records, name, known),
         Edit::LspDel { port, .. } => without_port(records, port, known),
         Edit::LspSetAddresses { addresses, .. } => {
@@ -42,14 +44,26 @@ pub(crate) fn neighbours_after(records: &Records, edit: &Edit, known: Option<u64
     }
 }
 
-// After a router port more, which brings none where no port names it. Where one does, that port becomes a peer.
-fn where_unnamed(peer: Option<&Port>, known: Option<u64>) -> Option<u64>
-    ensures { result ≡ where_unnamed (option_copied peer.entry) known }
+// After a router port more of this name and so many networks, which brings none where no port names it.
+fn with_router_port(records: &Records, name: &Name, nets: u64, known: Option<u64>) -> Option<u64>
+    requires limitless { IsSoundButLimits records.now }
+    ensures { result ≡ with_router_port records.now (peer_named records.now name.now) nets known }
 {
-    match peer {
-        Some(_) => None,
+    match records.peer_named(name) {
+        Some(peer) => with_peer(records, peer, nets, known),
         None => known,
     }
+}
+
+// Where a port names it: it knows what is across that port, and all router ports no more than its networks besides.
+fn with_peer(records: &Records, peer: &Port, nets: u64, known: Option<u64>) -> Option<u64>
+    requires limitless { IsSoundButLimits records.now }
+    ensures { result ≡ with_peer records.now peer.now nets known }
+{
+    let across = neighbours_beside(records, peer, u64::from(bound(Kind::Neighbour)));
+    let own = raised_by(known, across, 1, Kind::Neighbour);
+    let others = raised(own, nets, records.router_ports().count(), Kind::Neighbour);
+    raised(others, nets, 1, Kind::Neighbour)
 }
 
 // Without the port of this name, if it is there: where it is a host's, there are no more. Where it is a peer, another port may become

@@ -10,10 +10,10 @@ use Rattle.nb_records.specs.declared.switch.Addr.{Addr}
 use Rattle.nb_records.specs.declared.switch.Port.{Port}
 use Rattle.nb_records.specs.declared.switch.PortKind.{PortKind}
 use Rattle.nb_records.specs.declared.switch.PortKind.TheVariants as port_kind
-use Rattle.nb_model.specs.Amounts.{bound, total, ip_count, pair_count}
+use Rattle.nb_model.specs.Amounts.{bound, total, ip_count, pair_count, neighbours_across}
 use Rattle.nb_model.specs.Belongs.{is_to_router, is_name}
 use Rattle.nb_model.specs.Network.{Network, port_named, same, switch_id}
-use Rattle.nb_limits.specs.inner.Within.{up_to, raised_by}
+use Rattle.nb_limits.specs.inner.Within.{up_to, raised, raised_by}
 
 -- each router port knows no more than so many besides
 abbrev pub each_knows : Network → ℕ → Option ℕ → Option ℕ
@@ -23,10 +23,15 @@ each_knows net more most = raised_by (bound kind.Neighbour) most (up_to (bound k
 abbrev pub peer_named : Network → List ℕ → Option Port
 peer_named net name = find (λ port. is_to_router port && is_name port.router_port name) net.ports
 
--- after a router port more: none comes where no port names it
-abbrev pub where_unnamed : Option Port → Option ℕ → Option ℕ
-where_unnamed None most = most
-where_unnamed (Some peer) most = None
+-- after a router port more of so many networks, with this peer: it knows what is across the peer, and the others, and it, no more than its networks besides
+abbrev pub with_peer : Network → Port → ℕ → Option ℕ → Option ℕ
+with_peer net peer nets most =
+    raised (bound kind.Neighbour) (raised (bound kind.Neighbour) (raised_by (bound kind.Neighbour) most (up_to (bound kind.Neighbour) (neighbours_across net (Some peer))) 1) nets (length net.router_ports)) nets 1
+
+-- none comes where no port names it
+abbrev pub with_router_port : Network → Option Port → ℕ → Option ℕ → Option ℕ
+with_router_port net None nets most = most
+with_router_port net (Some peer) nets most = with_peer net peer nets most
 
 -- without a port of this kind: there are no more without a host's
 abbrev pub without_kind : PortKind → Option ℕ → Option ℕ
@@ -90,7 +95,7 @@ with_option (Some port) name most = if not (is_to_router port) || same_option po
 
 -- after an edit
 abbrev pub neighbours_after : Network → Edit → Option ℕ → Option ℕ
-neighbours_after net (edit.LrpAdd router port mac nets may) most = where_unnamed (peer_named net port) most
+neighbours_after net (edit.LrpAdd router port mac nets may) most = with_router_port net (peer_named net port) (length nets) most
 neighbours_after net (edit.LsDel name may) most = without_switch net (switch_id net name) most
 neighbours_after net (edit.LspDel port may) most = without_port (port_named net port) most
 neighbours_after net (edit.LspSetAddresses port list) most = with_addresses net list most

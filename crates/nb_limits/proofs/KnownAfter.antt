@@ -252,8 +252,8 @@ known_holds net known (edit.LsDel name may) sound are =
     (edit_falls net given sound kind.AclSwitch refl) (edit_falls net given sound kind.MatchText refl) (edit_falls net given sound kind.Vip refl) (edit_falls net given sound kind.Backend refl) (edit_falls net given sound kind.VipDatapath refl)
 known_holds net known (edit.LspDel port may) sound are =
     let given = edit.LspDel port may in
-    kept_but net known are (effect net given) (without_port (port_named net port) known.neighbours)
-    (one_less net known.neighbours are.neighbours port (ports_apart net sound))
+    kept_but net known are (effect net given) (without_port net (port_named net port) known.neighbours)
+    (one_less net known.neighbours are.neighbours (but_limits net sound) port (ports_apart net sound))
     (edit_falls net given sound kind.AclSwitch refl) (edit_falls net given sound kind.MatchText refl) (edit_falls net given sound kind.Vip refl) (edit_falls net given sound kind.Backend refl) (edit_falls net given sound kind.VipDatapath refl)
 known_holds net known (edit.LspSetAddresses port list) sound are =
     let given = edit.LspSetAddresses port list in

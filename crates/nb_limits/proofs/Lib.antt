@@ -15,6 +15,7 @@ pub mod NewPorts
 pub mod NewVips
 pub mod Noted
 pub mod PortNeighbours
+pub mod OneGone
 pub mod OnePort
 pub mod PortsKnown
 pub mod Raised

@@ -2,7 +2,7 @@
 //! counted once, by a walk over the ports of all switches: where peers change.
 ghost use Rattle.std.specs.Prelude.{◌≡◌, Some, length};
 ghost use Rattle.std.specs.Option.{option_copied};
-ghost use Rattle.nb_limits.specs.inner.NeighboursAfter.{neighbours_after, peer_named, with_peer, with_router_port, without_port, without_kind, has_router_kind, without_switch, with_addresses, with_enabled, same_kind, unnamed_kind, other_kind, with_kind, same_option, with_option};
+ghost use Rattle.nb_limits.specs.inner.NeighboursAfter.{neighbours_after, peer_named, with_peer, with_router_port, named_after, unless_named, without_named, without_kind, without_port, has_router_kind, without_switch, with_addresses, with_enabled, same_kind, unnamed_kind, other_kind, with_kind, same_option, with_option};
 ghost use Rattle.nb_limits.specs.inner.Within.{raised_by};
 ghost use Rattle.nb_limits.specs.Limitless.{IsSoundButLimits};
 ghost use Rattle.nb_model.specs.Amounts.{bound};
@@ -14,7 +14,7 @@ ghost use Rattle.nv_table.specs.Table.{NumbersRise, record_of};
 use crate::bounds::bound;
 use crate::neighbour_limits::{ip_counts, neighbours_beside, pair_count};
 use crate::within::{raised, raised_by};
-use nb_records::{Addr, Edit, Kind, Port, PortKind};
+use nb_records::{Addr, Edit, Kind, Names, Port, PortKind};
 use nb_store::Records;
 use nv_base::{Name, ObjId};
 
@@ -66,24 +66,54 @@ fn with_peer(records: &Records, peer: &Port, nets: u64, known: Option<u64>) -> O
     raised(others, nets, 1, Kind::Neighbour)
 }
 
-// Without the port of this name, if it is there: where it is a host's, there are no more. Where it is a peer, another port may become
-// one in its place.
+// Without the port of this name, if it is there: where it is a host's, there are no more, and none where no port above it names what
+// it names. Where one does, that port may become a peer in its place.
 fn without_port(records: &Records, name: &Name, known: Option<u64>) -> Option<u64>
-    ensures { result ≡ without_port (port_named records.now name.now) known }
+    ensures { result ≡ without_port records.now (port_named records.now name.now) known }
 {
     match records.port_named(name) {
-        Some(port) => without_kind(port.kind, known),
+        Some(port) => without_kind(records, port, known),
         None => known,
     }
 }
 
-fn without_kind(kind: PortKind, known: Option<u64>) -> Option<u64>
-    ensures { result ≡ without_kind kind known }
+fn without_kind(records: &Records, port: &Port, known: Option<u64>) -> Option<u64>
+    ensures { result ≡ without_kind records.now port.now port.now.kind known }
 {
-    match kind {
-        PortKind::Router => None,
+    match port.kind {
+        PortKind::Router => without_named(records, port.id, port.router_port.as_ref(), known),
         PortKind::Host => known,
     }
+}
+
+fn without_named(
+    records: &Records,
+    number: ObjId,
+    name: Option<&Name>,
+    known: Option<u64>,
+) -> Option<u64>
+    ensures { result ≡ without_named records.now number (option_copied name.entry) known }
+{
+    match name {
+        Some(name) => unless_named(named_after(records, number, name), known),
+        None => known,
+    }
+}
+
+fn unless_named(port: Option<&Port>, known: Option<u64>) -> Option<u64>
+    ensures { result ≡ unless_named (option_copied port.entry) known }
+{
+    match port {
+        Some(_) => None,
+        None => known,
+    }
+}
+
+// The first port above a number that is of kind Router and names this router port.
+fn named_after<'a>(records: &'a Records, number: ObjId, name: &Name) -> Option<&'a Port>
+    ensures { option_copied result ≡ named_after records.now number name.now }
+{
+    records.ports().tagged(&Names(name), Some(number))
 }
 
 // Without the switch of this name, if it is there: where its ports are hosts' alone, there are no more. Where one is a peer, another

@@ -1,5 +1,5 @@
 -- How many neighbours there may be once one port is gone, after which no port names what it names.
-use Rattle.std.proofs.Common.{◌≡◌, ℕ, ◌≤◌, ◌<◌, ◌⊎◌, ⊎_elim, inl, inr, Bool, true, false, cond, not, ◌&&◌, nat_lt, List, [], ◌∷◌, Option, Some, None, arith, refl, sym, ap, ◌∙◌, subst}
+use Rattle.std.proofs.Common.{◌≡◌, ℕ, ◌≤◌, ◌<◌, ◌⊎◌, inl, inr, Bool, true, false, cond, not, nat_lt, List, [], ◌∷◌, Option, Some, None, arith, refl, sym, ap, ◌∙◌, subst}
 use Rattle.std.proofs.lemmas.Bool.{and_from, false≢true, lt-ltb, not-true}
 use Rattle.std.specs.Prelude.{IsTrue, find, filter}
 use Rattle.std.specs.List.{list_all, AllByRecursion}
@@ -8,7 +8,7 @@ use Rattle.nb_records.specs.declared.refusal.Kind.TheVariants as kind
 use Rattle.nb_records.specs.declared.router.RouterPort.{RouterPort}
 use Rattle.nb_records.specs.declared.switch.Port.{Port}
 use Rattle.nb_model.specs.Amounts.{amount, total, ip_count, net_count, pair_count, neighbours_across}
-use Rattle.nb_model.specs.Belongs.{is_to_router, is_name, is_port, peer_port, peer_router_port}
+use Rattle.nb_model.specs.Belongs.{is_to_router, is_port, peer_port}
 use Rattle.nb_model.specs.Effect.{without, without_ports}
 use Rattle.nb_model.specs.Network.{Network, same}
 use Rattle.nb_model.proofs.AnyOf.{all_true}

@@ -36,7 +36,7 @@ use Rattle.nb_limits.specs.declared.ceilings.Ceilings.{Ceilings}
 use Rattle.nb_limits.specs.Ceilings.{IsCeiling, AreCeilings}
 use Rattle.nb_limits.specs.inner.Attached.{attached}
 use Rattle.nb_limits.specs.inner.KnownAfter.{with_acl, on_more, with_ports, reach, own_vips, vips_after, with_lb, known_after}
-use Rattle.nb_limits.specs.inner.NeighboursAfter.{peer_named, where_unnamed, without_port, without_switch, with_addresses, with_enabled, with_kind, with_option}
+use Rattle.nb_limits.specs.inner.NeighboursAfter.{peer_named, with_router_port, without_port, without_switch, with_addresses, with_enabled, with_kind, with_option}
 use Rattle.nb_limits.specs.inner.GroupSwitches.{switch_count}
 use Rattle.nb_limits.specs.inner.Weights.{of_owner, weight}
 use Rattle.nb_limits.specs.inner.Within.{raised}
@@ -244,7 +244,7 @@ known_holds net known (edit.LrLbAdd owner name may) sound are =
     (edit_falls net given sound kind.AclSwitch refl) (edit_falls net given sound kind.MatchText refl) (edit_falls net given sound kind.Vip refl) (edit_falls net given sound kind.Backend refl) (edit_falls net given sound kind.Neighbour refl)
 known_holds net known (edit.LrpAdd router port mac nets may) sound are =
     let given = edit.LrpAdd router port mac nets may in
-    kept_but net known are (effect net given) (where_unnamed (peer_named net port) known.neighbours) (port_fits net router port mac nets may known.neighbours are.neighbours)
+    kept_but net known are (effect net given) (with_router_port net (peer_named net port) (length nets) known.neighbours) (port_fits net (but_limits net sound) router port mac nets may known.neighbours are.neighbours)
     (edit_falls net given sound kind.AclSwitch refl) (edit_falls net given sound kind.MatchText refl) (edit_falls net given sound kind.Vip refl) (edit_falls net given sound kind.Backend refl) (edit_falls net given sound kind.VipDatapath refl)
 known_holds net known (edit.LsDel name may) sound are =
     let given = edit.LsDel name may in
@@ -252,8 +252,8 @@ known_holds net known (edit.LsDel name may) sound are =
     (edit_falls net given sound kind.AclSwitch refl) (edit_falls net given sound kind.MatchText refl) (edit_falls net given sound kind.Vip refl) (edit_falls net given sound kind.Backend refl) (edit_falls net given sound kind.VipDatapath refl)
 known_holds net known (edit.LspDel port may) sound are =
     let given = edit.LspDel port may in
-    kept_but net known are (effect net given) (without_port (port_named net port) known.neighbours)
-    (one_less net known.neighbours are.neighbours port (ports_apart net sound))
+    kept_but net known are (effect net given) (without_port net (port_named net port) known.neighbours)
+    (one_less net known.neighbours are.neighbours (but_limits net sound) port (ports_apart net sound))
     (edit_falls net given sound kind.AclSwitch refl) (edit_falls net given sound kind.MatchText refl) (edit_falls net given sound kind.Vip refl) (edit_falls net given sound kind.Backend refl) (edit_falls net given sound kind.VipDatapath refl)
 known_holds net known (edit.LspSetAddresses port list) sound are =
     let given = edit.LspSetAddresses port list in

@@ -1,5 +1,6 @@
 pub mod AclSums
 pub mod Attached
+pub mod Beside
 pub mod Bounded
 pub mod Clipped
 pub mod Counted
@@ -14,6 +15,7 @@ pub mod NewPorts
 pub mod NewVips
 pub mod Noted
 pub mod PortNeighbours
+pub mod OneGone
 pub mod OnePort
 pub mod PortsKnown
 pub mod Raised

@@ -1,6 +1,6 @@
 -- What is known of neighbours once a port is changed, or ports are gone, is so.
-use Rattle.std.proofs.Common.{◌≡◌, ℕ, ◌≤◌, map, Bool, true, false, cond, not, ◌&&◌, ◌||◌, List, [], ◌∷◌, Option, Some, None, arith, refl, sym, ap, ◌∙◌, subst, length}
-use Rattle.std.proofs.lemmas.Bool.{false≢true}
+use Rattle.std.proofs.Common.{◌≡◌, ℕ, ◌≤◌, map, Bool, true, false, cond, not, ◌&&◌, ◌||◌, nat_lt, List, [], ◌∷◌, Option, Some, None, arith, refl, sym, ap, ◌∙◌, subst, length}
+use Rattle.std.proofs.lemmas.Bool.{and_parts, false≢true}
 use Rattle.std.specs.Prelude.{IsTrue, find}
 use Rattle.std.specs.List.{list_any, AllByRecursion}
 use Rattle.std.specs.Str.{bytes_eq}
@@ -17,16 +17,19 @@ use Rattle.nb_model.specs.Effect.{delete_port, delete_switch, set_port, without_
 use Rattle.nb_model.specs.Network.{Network, port_named, same as is_same, switch_id}
 use Rattle.nb_model.specs.Readable.{are_apart}
 use Rattle.nb_model.proofs.Alike.{same_names}
+use Rattle.nb_model.proofs.RecordLists.{found_holds}
+use Rattle.nb_model.proofs.RisesNeighbours.{is_peer_of}
 use Rattle.nb_model.proofs.Totals.{le_self}
 use Rattle.nb_store.proofs.Peering.{found_is_record}
-use Rattle.nv_table.specs.Table.{record_of}
+use Rattle.nv_table.specs.Table.{is_after, record_of}
 use Rattle.nb_limits.specs.Ceilings.{IsCeiling}
-use Rattle.nb_limits.specs.inner.NeighboursAfter.{each_knows, without_kind, without_port, without_switch, with_addresses, with_enabled, same_kind, unnamed_kind, other_kind, with_kind, same_option, with_option}
+use Rattle.nb_limits.specs.inner.NeighboursAfter.{each_knows, named_after, unless_named, without_named, without_kind, without_port, without_switch, with_addresses, with_enabled, same_kind, unnamed_kind, other_kind, with_kind, same_option, with_option}
 use Rattle.nb_limits.specs.Limitless.{IsSoundButLimits}
 use Rattle.nb_limits.proofs.Every.{every_as, every_fails, none_differs}
 use Rattle.nb_limits.proofs.Fitting.{only_named}
 use Rattle.nb_limits.proofs.Neighbours.{names_it, ports_rise}
 use Rattle.nb_limits.proofs.NewMembers.{none_changed}
+use Rattle.nb_limits.proofs.OneGone.{one_leaves}
 use Rattle.nb_limits.proofs.OnePort.{pairs_bring, pairs_stay}
 use Rattle.nb_limits.proofs.PortNeighbours.{addresses_bring, hosts_leave}
 use Rattle.nb_limits.proofs.Raised.{falls, raised_by_ceiling}
@@ -52,17 +55,51 @@ module _ (net : Network) (most : Option ℕ) (are : IsCeiling 262144 (amount net
   same after low = falls 262144 (amount net kind.Neighbour) (amount after kind.Neighbour) most low are
 
   -- where a port is gone
-  pub one_less : (name : List ℕ) → IsTrue (are_apart bytes_eq (map (λ (p : Port). p.name) net.ports)) → IsCeiling 262144 (amount (delete_port net name) kind.Neighbour) (without_port (port_named net name) most)
-  one_less name apart = by (port_named net name) refl
+  pub one_less : IsSoundButLimits net → (name : List ℕ) → IsTrue (are_apart bytes_eq (map (λ (p : Port). p.name) net.ports)) → IsCeiling 262144 (amount (delete_port net name) kind.Neighbour) (without_port net (port_named net name) most)
+  one_less limitless name apart = by (port_named net name) refl
     where
-      of_kind : (port : Port) (own : PortKind) → port.kind ≡ own → port_named net name ≡ Some port → IsCeiling 262144 (amount (delete_port net name) kind.Neighbour) (without_kind own most)
+      only : (port : Port) → port_named net name ≡ Some port → AllByRecursion (λ (p : Port). IsTrue (bytes_eq p.name name) → p ≡ port) net.ports
+      only port found = only_named (λ (p : Port). p.name) net.ports name port apart found
+
+      none_later : (port : Port) (given : List ℕ) → port.router_port ≡ Some given → named_after net port.id given ≡ None → (n : List ℕ)
+          → AllByRecursion (λ (p : Port). IsTrue (nat_lt port.id.0 p.id.0) → is_peer_of n port ≡ true → is_peer_of n p ≡ false) net.ports
+      none_later port given says none n =
+          every_as (λ (p : Port). (is_after (Some port.id) p.id && (is_to_router p && is_name p.router_port given)) ≡ false) (λ p. IsTrue (nat_lt port.id.0 p.id.0) → is_peer_of n port ≡ true → is_peer_of n p ≡ false) net.ports
+          (λ p fails above passes.
+          let named : IsTrue (is_name port.router_port n) = (and_parts (is_to_router port) (is_name port.router_port n) passes).1 in
+          let same_name : given ≡ n = same_names given n (subst (λ o. IsTrue (is_name o n)) says named) in
+          subst (λ m. (is_to_router p && is_name p.router_port m) ≡ false) same_name (sym (ap (λ b. b && (is_to_router p && is_name p.router_port given)) above) ∙ fails))
+          (every_fails (λ (p : Port). is_after (Some port.id) p.id && (is_to_router p && is_name p.router_port given)) net.ports none)
+
+      nothing_named : (port : Port) → port.router_port ≡ None → (n : List ℕ) → AllByRecursion (λ (p : Port). IsTrue (nat_lt port.id.0 p.id.0) → is_peer_of n port ≡ true → is_peer_of n p ≡ false) net.ports
+      nothing_named port says n = each net.ports
+        where
+          each : (l : List Port) → AllByRecursion (λ (p : Port). IsTrue (nat_lt port.id.0 p.id.0) → is_peer_of n port ≡ true → is_peer_of n p ≡ false) l
+          each [] = tt
+          each (p ∷ l) = (λ above passes. absurd (false≢true (subst (λ o. IsTrue (is_name o n)) says (and_parts (is_to_router port) (is_name port.router_port n) passes).1)), each l)
+
+      leaves : (port : Port) → port_named net name ≡ Some port → ((n : List ℕ) → AllByRecursion (λ (p : Port). IsTrue (nat_lt port.id.0 p.id.0) → is_peer_of n port ≡ true → is_peer_of n p ≡ false) net.ports)
+          → IsCeiling 262144 (amount (delete_port net name) kind.Neighbour) most
+      leaves port found later =
+          same (delete_port net name) (one_leaves net limitless (λ p. bytes_eq p.name name) port (found_record net limitless name port found) (found_holds (λ (p : Port). bytes_eq p.name name) net.ports port found) (only port found) later)
+
+      of_found : (port : Port) (given : List ℕ) → port_named net name ≡ Some port → port.router_port ≡ Some given → (next : Option Port) → named_after net port.id given ≡ next
+          → IsCeiling 262144 (amount (delete_port net name) kind.Neighbour) (unless_named next most)
+      of_found port given found says None is = leaves port found (none_later port given says is)
+      of_found port given found says (Some next) is = tt
+
+      of_option : (port : Port) → port_named net name ≡ Some port → (option : Option (List ℕ)) → port.router_port ≡ option → IsCeiling 262144 (amount (delete_port net name) kind.Neighbour) (without_named net port.id option most)
+      of_option port found None says = leaves port found (nothing_named port says)
+      of_option port found (Some given) says = of_found port given found says (named_after net port.id given) refl
+
+      of_kind : (port : Port) (own : PortKind) → port.kind ≡ own → port_named net name ≡ Some port → IsCeiling 262144 (amount (delete_port net name) kind.Neighbour) (without_kind net port own most)
       of_kind port port_kind.Host is found =
           same (delete_port net name) (hosts_leave (λ p. bytes_eq p.name name) net
           (every_as (λ (p : Port). IsTrue (bytes_eq p.name name) → p ≡ port) (λ p. IsTrue (bytes_eq p.name name) → is_to_router p ≡ false) net.ports
-          (λ p only gone. subst (λ (q : Port). is_to_router q ≡ false) (sym (only gone)) (ap is_router_kind is)) (only_named (λ (p : Port). p.name) net.ports name port apart found)))
-      of_kind port port_kind.Router is found = tt
+          (λ p is_port gone. subst (λ (q : Port). is_to_router q ≡ false) (sym (is_port gone)) (ap is_router_kind is)) (only port found)))
+      of_kind port port_kind.Router is found = of_option port found port.router_port refl
 
-      by : (found : Option Port) → port_named net name ≡ found → IsCeiling 262144 (amount (delete_port net name) kind.Neighbour) (without_port found most)
+      by : (found : Option Port) → port_named net name ≡ found → IsCeiling 262144 (amount (delete_port net name) kind.Neighbour) (without_port net found most)
       by None is =
           same (delete_port net name) (hosts_leave (λ p. bytes_eq p.name name) net
           (every_as (λ (p : Port). bytes_eq p.name name ≡ false) (λ p. IsTrue (bytes_eq p.name name) → is_to_router p ≡ false) net.ports (λ p fails gone. absurd (false≢true (sym fails ∙ gone))) (every_fails (λ (p : Port). bytes_eq p.name name) net.ports is)))

@@ -2,7 +2,7 @@
 //! counted once, by a walk over the ports of all switches: where peers change.
 ghost use Rattle.std.specs.Prelude.{◌≡◌, Some, length};
 ghost use Rattle.std.specs.Option.{option_copied};
-ghost use Rattle.nb_limits.specs.inner.NeighboursAfter.{neighbours_after, where_unnamed, without_port, without_kind, has_router_kind, without_switch, with_addresses, with_enabled, same_kind, unnamed_kind, other_kind, with_kind, same_option, with_option};
+ghost use Rattle.nb_limits.specs.inner.NeighboursAfter.{neighbours_after, peer_named, with_peer, with_router_port, named_after, unless_named, without_named, without_kind, without_port, has_router_kind, without_switch, with_addresses, with_enabled, same_kind, unnamed_kind, other_kind, with_kind, same_option, with_option};
 ghost use Rattle.nb_limits.specs.inner.Within.{raised_by};
 ghost use Rattle.nb_limits.specs.Limitless.{IsSoundButLimits};
 ghost use Rattle.nb_model.specs.Amounts.{bound};
@@ -12,9 +12,9 @@ ghost use Rattle.nb_records.specs.declared.refusal.Kind.TheVariants as kind;
 ghost use Rattle.nv_table.specs.Table.{NumbersRise, record_of};
 
 use crate::bounds::bound;
-use crate::neighbour_limits::{ip_counts, pair_count};
-use crate::within::raised_by;
-use nb_records::{Addr, Edit, Kind, Port, PortKind};
+use crate::neighbour_limits::{ip_counts, neighbours_beside, pair_count};
+use crate::within::{raised, raised_by};
+use nb_records::{Addr, Edit, Kind, Names, Port, PortKind};
 use nb_store::Records;
 use nv_base::{Name, ObjId};
 
@@ -24,7 +24,9 @@ pub(crate) fn neighbours_after(records: &Records, edit: &Edit, known: Option<u64
     ensures { result ≡ neighbours_after records.now edit.now known }
 {
     match edit {
-        Edit::LrpAdd { port, .. } => where_unnamed(records.peer_named(port), known),
+        Edit::LrpAdd { port, nets, .. } => {
+            with_router_port(records, port, nets.as_slice().len() as u64, known)
+        }
         Edit::LsDel { name, .. } => without_switch(records, name, known),
         Edit::LspDel { port, .. } => without_port(records, port, known),
         Edit::LspSetAddresses { addresses, .. } => {
@@ -42,34 +44,76 @@ pub(crate) fn neighbours_after(records: &Records, edit: &Edit, known: Option<u64
     }
 }
 
-// After a router port more, which brings none where no port names it. Where one does, that port becomes a peer.
-fn where_unnamed(peer: Option<&Port>, known: Option<u64>) -> Option<u64>
-    ensures { result ≡ where_unnamed (option_copied peer.entry) known }
+// After a router port more of this name and so many networks, which brings none where no port names it.
+fn with_router_port(records: &Records, name: &Name, nets: u64, known: Option<u64>) -> Option<u64>
+    requires limitless { IsSoundButLimits records.now }
+    ensures { result ≡ with_router_port records.now (peer_named records.now name.now) nets known }
 {
-    match peer {
+    match records.peer_named(name) {
+        Some(peer) => with_peer(records, peer, nets, known),
+        None => known,
+    }
+}
+
+// Where a port names it: it knows what is across that port, and all router ports no more than its networks besides.
+fn with_peer(records: &Records, peer: &Port, nets: u64, known: Option<u64>) -> Option<u64>
+    requires limitless { IsSoundButLimits records.now }
+    ensures { result ≡ with_peer records.now peer.now nets known }
+{
+    let across = neighbours_beside(records, peer, u64::from(bound(Kind::Neighbour)));
+    let own = raised_by(known, across, 1, Kind::Neighbour);
+    let others = raised(own, nets, records.router_ports().count(), Kind::Neighbour);
+    raised(others, nets, 1, Kind::Neighbour)
+}
+
+// Without the port of this name, if it is there: where it is a host's, there are no more, and none where no port above it names what
+// it names. Where one does, that port may become a peer in its place.
+fn without_port(records: &Records, name: &Name, known: Option<u64>) -> Option<u64>
+    ensures { result ≡ without_port records.now (port_named records.now name.now) known }
+{
+    match records.port_named(name) {
+        Some(port) => without_kind(records, port, known),
+        None => known,
+    }
+}
+
+fn without_kind(records: &Records, port: &Port, known: Option<u64>) -> Option<u64>
+    ensures { result ≡ without_kind records.now port.now port.now.kind known }
+{
+    match port.kind {
+        PortKind::Router => without_named(records, port.id, port.router_port.as_ref(), known),
+        PortKind::Host => known,
+    }
+}
+
+fn without_named(
+    records: &Records,
+    number: ObjId,
+    name: Option<&Name>,
+    known: Option<u64>,
+) -> Option<u64>
+    ensures { result ≡ without_named records.now number (option_copied name.entry) known }
+{
+    match name {
+        Some(name) => unless_named(named_after(records, number, name), known),
+        None => known,
+    }
+}
+
+fn unless_named(port: Option<&Port>, known: Option<u64>) -> Option<u64>
+    ensures { result ≡ unless_named (option_copied port.entry) known }
+{
+    match port {
         Some(_) => None,
         None => known,
     }
 }
 
-// Without the port of this name, if it is there: where it is a host's, there are no more. Where it is a peer, another port may become
-// one in its place.
-fn without_port(records: &Records, name: &Name, known: Option<u64>) -> Option<u64>
-    ensures { result ≡ without_port (port_named records.now name.now) known }
+// The first port above a number that is of kind Router and names this router port.
+fn named_after<'a>(records: &'a Records, number: ObjId, name: &Name) -> Option<&'a Port>
+    ensures { option_copied result ≡ named_after records.now number name.now }
 {
-    match records.port_named(name) {
-        Some(port) => without_kind(port.kind, known),
-        None => known,
-    }
-}
-
-fn without_kind(kind: PortKind, known: Option<u64>) -> Option<u64>
-    ensures { result ≡ without_kind kind known }
-{
-    match kind {
-        PortKind::Router => None,
-        PortKind::Host => known,
-    }
+    records.ports().tagged(&Names(name), Some(number))
 }
 
 // Without the switch of this name, if it is there: where its ports are hosts' alone, there are no more. Where one is a peer, another

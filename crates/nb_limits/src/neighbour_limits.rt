@@ -1,12 +1,12 @@
 //! How many neighbours router ports know (not from OVN).
-ghost use Rattle.std.specs.Prelude.{◌≡◌, ◌*◌, Some};
+ghost use Rattle.std.specs.Prelude.{◌≡◌, ◌*◌, Some, if◌then◌else◌};
 ghost use Rattle.std.specs.Option.{option_copied};
 ghost use Rattle.nb_limits.specs.Limitless.{IsSoundButLimits};
 ghost use Rattle.nb_limits.specs.inner.Within.{up_to};
-ghost use Rattle.nb_limits.specs.inner.Across.{peered, peers_on, known_at, neighbours_on};
+ghost use Rattle.nb_limits.specs.inner.Across.{is_across, peered, peers_on, known_at, neighbours_on};
 ghost use Rattle.nb_limits.specs.inner.Weights.{found_count};
 ghost use Rattle.nb_records.specs.declared.refusal.Kind.TheVariants as kind;
-ghost use Rattle.nb_model.specs.Amounts.{amount, total, ip_count, net_count, pair_count};
+ghost use Rattle.nb_model.specs.Amounts.{amount, total, ip_count, net_count, pair_count, neighbours_across};
 ghost use Rattle.nv_table.specs.Table.{NumbersRise, record_of};
 
 use crate::within::{add, add_times};
@@ -110,6 +110,34 @@ fn known_to(records: &Records, port: &Port, others: u64, bound: u64) -> Option<u
     }
     let pairs = pair_count(records, port, bound)?;
     add_times(0, pairs, others, bound)
+}
+
+/// How many a router port with this peer knows: those at the other ports of its switch, where they are within the bound.
+pub(crate) fn neighbours_beside(records: &Records, peer: &Port, bound: u64) -> Option<u64>
+    requires limitless { IsSoundButLimits records.now }
+    ensures { result ≡ up_to bound (neighbours_across records.now (Some peer.now)) }
+{
+    let mut sum = 0;
+    let mut after = None;
+    while let Some(port) = records.port_on(peer.switch, after) {
+        let more = neighbours_at(records, port, peer, bound)?;
+        sum = add(sum, more, bound)?;
+        after = Some(port.id);
+    }
+    Some(sum)
+}
+
+// How many there are at a port of that switch.
+fn neighbours_at(records: &Records, port: &Port, peer: &Port, bound: u64) -> Option<u64>
+    requires there { record_of (λ x. x.id) port.now.id records.now.ports ≡ Some port.now }
+    requires rise { NumbersRise (λ x. x.id) records.now.ports }
+    ensures { result ≡ up_to bound (if is_across peer.now port.now then pair_count records.now port.now else 0) }
+{
+    if port.enabled && port.id != peer.id {
+        pair_count(records, port, bound)
+    } else {
+        Some(0)
+    }
 }
 
 /// By how many pairs a router knows the port, where they are within the bound.

@@ -1,11 +1,15 @@
 -- How many neighbours router ports know at the ports of a switch.
-use Rattle.std.specs.Prelude.{ℕ, ◌*◌, ◌-◌, if◌then◌else◌, filter}
+use Rattle.std.specs.Prelude.{ℕ, ◌*◌, ◌-◌, Bool, ◌&&◌, not, if◌then◌else◌, filter}
 use Rattle.nv_base.specs.declared.object.ObjId.{ObjId}
 use Rattle.nb_records.specs.declared.switch.Port.{Port}
 use Rattle.nb_model.specs.Amounts.{total, pair_count}
 use Rattle.nb_model.specs.Belongs.{peer_router_port}
 use Rattle.nb_model.specs.Network.{Network, same}
 use Rattle.nb_limits.specs.inner.Weights.{found_count}
+
+-- a port of the peer's switch is enabled and is another than the peer
+abbrev pub is_across : Port → Port → Bool
+is_across peer port = port.enabled && not (same port.id peer.id)
 
 -- of how many router ports a port is the peer: of one, or of none
 abbrev pub peered : Network → Port → ℕ

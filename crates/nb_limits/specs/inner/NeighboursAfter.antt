@@ -10,10 +10,11 @@ use Rattle.nb_records.specs.declared.switch.Addr.{Addr}
 use Rattle.nb_records.specs.declared.switch.Port.{Port}
 use Rattle.nb_records.specs.declared.switch.PortKind.{PortKind}
 use Rattle.nb_records.specs.declared.switch.PortKind.TheVariants as port_kind
-use Rattle.nb_model.specs.Amounts.{bound, total, ip_count, pair_count}
+use Rattle.nb_model.specs.Amounts.{bound, total, ip_count, pair_count, neighbours_across}
 use Rattle.nb_model.specs.Belongs.{is_to_router, is_name}
 use Rattle.nb_model.specs.Network.{Network, port_named, same, switch_id}
-use Rattle.nb_limits.specs.inner.Within.{up_to, raised_by}
+use Rattle.nv_table.specs.Table.{is_after}
+use Rattle.nb_limits.specs.inner.Within.{up_to, raised, raised_by}
 
 -- each router port knows no more than so many besides
 abbrev pub each_knows : Network → ℕ → Option ℕ → Option ℕ
@@ -23,20 +24,39 @@ each_knows net more most = raised_by (bound kind.Neighbour) most (up_to (bound k
 abbrev pub peer_named : Network → List ℕ → Option Port
 peer_named net name = find (λ port. is_to_router port && is_name port.router_port name) net.ports
 
--- after a router port more: none comes where no port names it
-abbrev pub where_unnamed : Option Port → Option ℕ → Option ℕ
-where_unnamed None most = most
-where_unnamed (Some peer) most = None
+-- after a router port more of so many networks, with this peer: it knows what is across the peer, and the others, and it, no more than its networks besides
+abbrev pub with_peer : Network → Port → ℕ → Option ℕ → Option ℕ
+with_peer net peer nets most =
+    raised (bound kind.Neighbour) (raised (bound kind.Neighbour) (raised_by (bound kind.Neighbour) most (up_to (bound kind.Neighbour) (neighbours_across net (Some peer))) 1) nets (length net.router_ports)) nets 1
 
--- without a port of this kind: there are no more without a host's
-abbrev pub without_kind : PortKind → Option ℕ → Option ℕ
-without_kind port_kind.Host most = most
-without_kind port_kind.Router most = None
+-- none comes where no port names it
+abbrev pub with_router_port : Network → Option Port → ℕ → Option ℕ → Option ℕ
+with_router_port net None nets most = most
+with_router_port net (Some peer) nets most = with_peer net peer nets most
 
--- and without this port, if it is there
-abbrev pub without_port : Option Port → Option ℕ → Option ℕ
-without_port None most = most
-without_port (Some port) most = without_kind port.kind most
+-- a port above this number is of kind Router and names it too
+abbrev pub named_after : Network → ObjId → List ℕ → Option Port
+named_after net number name = find (λ port. is_after (Some number) port.id && (is_to_router port && is_name port.router_port name)) net.ports
+
+-- where there is no such port
+abbrev pub unless_named : Option Port → Option ℕ → Option ℕ
+unless_named None most = most
+unless_named (Some port) most = None
+
+-- without a port of kind Router: where no port above it names what it names, none becomes a peer in its place
+abbrev pub without_named : Network → ObjId → Option (List ℕ) → Option ℕ → Option ℕ
+without_named net number None most = most
+without_named net number (Some name) most = unless_named (named_after net number name) most
+
+-- and there are no more without a host's
+abbrev pub without_kind : Network → Port → PortKind → Option ℕ → Option ℕ
+without_kind net port port_kind.Host most = most
+without_kind net port port_kind.Router most = without_named net port.id port.router_port most
+
+-- without this port, if it is there
+abbrev pub without_port : Network → Option Port → Option ℕ → Option ℕ
+without_port net None most = most
+without_port net (Some port) most = without_kind net port port.kind most
 
 -- a port of the switch is of kind Router
 abbrev pub has_router_kind : Network → ObjId → Bool
@@ -90,9 +110,9 @@ with_option (Some port) name most = if not (is_to_router port) || same_option po
 
 -- after an edit
 abbrev pub neighbours_after : Network → Edit → Option ℕ → Option ℕ
-neighbours_after net (edit.LrpAdd router port mac nets may) most = where_unnamed (peer_named net port) most
+neighbours_after net (edit.LrpAdd router port mac nets may) most = with_router_port net (peer_named net port) (length nets) most
 neighbours_after net (edit.LsDel name may) most = without_switch net (switch_id net name) most
-neighbours_after net (edit.LspDel port may) most = without_port (port_named net port) most
+neighbours_after net (edit.LspDel port may) most = without_port net (port_named net port) most
 neighbours_after net (edit.LspSetAddresses port list) most = with_addresses net list most
 neighbours_after net (edit.LspSetType port own) most = with_kind net (port_named net port) own most
 neighbours_after net (edit.LspSetOptions port name) most = with_option (port_named net port) name most

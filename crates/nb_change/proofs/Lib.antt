@@ -12,6 +12,7 @@ pub mod AclsThatGo
 pub mod BalancerRemovals
 pub mod Goes
 pub mod ListedNumbers
+pub mod ManyLeave
 pub mod NatsFor
 pub mod OneByOne
 pub mod OneEach

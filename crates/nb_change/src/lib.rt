@@ -8,6 +8,7 @@ mod balancer_removals;
 mod balancers;
 mod edits;
 mod groups;
+mod large_groups;
 mod one_by_one;
 mod one_each;
 mod ports;

@@ -8,6 +8,7 @@ ghost use Rattle.nb_store.specs.Undo.{back_steps};
 ghost use Rattle.nb_change.specs.inner.Leaving.{leaving, without_switch};
 
 use crate::acl_removals::remove_acls;
+use crate::large_groups::leave_large_groups;
 use nb_store::{Place, Work};
 use nv_base::{ObjId, OutOfMemory};
 use std::alloc::Global;
@@ -37,8 +38,19 @@ pub(crate) fn remove_switch(
     work.remove(Place::Switch(switch))
 }
 
-// Removes the ports of a switch, which leave their groups.
+// Removes the ports of a switch, which leave their groups: those of which they are many at once, and the others one by one.
 fn remove_ports_on(work: &mut Work, alloc: Global, switch: ObjId) -> Result<(), OutOfMemory>
+    requires ports { NumbersRise (λ x. x.id) work.old.records.ports }
+    requires groups { NumbersRise (λ x. x.id) work.old.records.groups }
+    ensures ok { OnOk result (work.new.records ≡ without_ports (λ port. same switch port.switch) work.old.records) }
+    ensures back { back_steps work.new.steps.items work.new.records ≡ back_steps work.old.steps.items work.old.records }
+{
+    leave_large_groups(work, alloc, switch)?;
+    remove_each_port_on(work, alloc, switch)
+}
+
+// Removes the ports of a switch one by one.
+fn remove_each_port_on(work: &mut Work, alloc: Global, switch: ObjId) -> Result<(), OutOfMemory>
     requires ports { NumbersRise (λ x. x.id) work.old.records.ports }
     requires groups { NumbersRise (λ x. x.id) work.old.records.groups }
     ensures ok { OnOk result (work.new.records ≡ without_ports (λ port. same switch port.switch) work.old.records) }

@@ -1,6 +1,6 @@
 use Rattle.std.proofs.Common.{◌∙◌}
 use Rattle.nb_change.proofs.Removed.{port_smaller, port_rise, port_groups, port_same, ports_done}
-use Rattle.nb_change.proofs.switch_removals.remove_ports_on.Goals as goal
+use Rattle.nb_change.proofs.switch_removals.remove_each_port_on.Goals as goal
 
 pub loop-port-smaller : goal.loop-port-smaller
 loop-port-smaller c =

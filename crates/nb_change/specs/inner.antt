@@ -3,3 +3,4 @@ pub mod Balancers
 pub mod Leaving
 pub mod Ports
 pub mod Routers
+pub mod Told

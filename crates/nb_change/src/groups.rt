@@ -1,15 +1,17 @@
 //! Edits of port groups.
 ghost use Rattle.std.specs.Prelude.{◌≡◌, OnOk, IfOk};
 ghost use Rattle.nb_records.specs.declared.edit.Edit.TheVariants as edit;
-ghost use Rattle.nb_model.specs.Effect.{effect, named_port_ids};
+ghost use Rattle.nb_model.specs.Effect.{effect, named_port_ids, with_number};
 ghost use Rattle.nb_model.specs.Sound.{IsSound};
+ghost use Rattle.nb_change.specs.inner.Told.{IsTold};
 ghost use Rattle.nb_store.specs.Undo.{back_steps};
 
 use crate::acl_removals::remove_acls;
-use nb_records::Group;
-use nb_store::{Place, Records, Work, add_number};
+use nb_records::{Group, Numbers};
+use nb_store::{Place, Records, Work};
 use nv_base::{Items, Name, ObjId, OutOfMemory};
 use std::alloc::Global;
+use std::collections::BTreeSet;
 
 /// `pg-add`
 pub(crate) fn pg_add(
@@ -73,14 +75,28 @@ pub(crate) fn pg_del(work: &mut Work, name: &Name, if_exists: bool) -> Result<()
 }
 
 // The numbers of the ports of these names, each once.
-fn port_ids(records: &Records, alloc: Global, names: &[Name]) -> Result<Items<ObjId>, OutOfMemory>
+fn port_ids(records: &Records, alloc: Global, names: &[Name]) -> Result<Numbers, OutOfMemory>
     ensures { IfOk result (λ ids. ids ≡ named_port_ids records.now names.now) }
 {
     let mut ids = Items::new(alloc);
+    let mut seen = BTreeSet::new(alloc);
     for name in names {
         if let Some(id) = records.port_id(name) {
-            add_number(&mut ids, id)?;
+            add_new(&mut ids, &mut seen, id)?;
         }
     }
-    Ok(ids)
+    Numbers::from_slice(alloc, ids.as_slice())
+}
+
+// Puts a number last, where it is not there: a set tells which are.
+fn add_new(ids: &mut Items<ObjId>, seen: &mut BTreeSet<u32>, id: ObjId) -> Result<(), OutOfMemory>
+    requires told { IsTold ids.old seen.old }
+    ensures ok { OnOk result (ids.new ≡ with_number id ids.old) }
+    ensures told { OnOk result (IsTold ids.new seen.new) }
+{
+    let is_new = seen.insert(id.0)?;
+    if is_new {
+        ids.push(id)?;
+    }
+    Ok(())
 }

@@ -7,18 +7,18 @@ ghost use Rattle.nb_text.specs.Commands.{command_line, script};
 ghost use Rattle.nb_dump.specs.Edits.{port_name, members_edits, switch_lb_edits, router_lb_edits};
 
 use crate::names::{lb_name, port_name};
-use nb_records::{Group, Router, Switch};
+use nb_records::{Group, Numbers, Router, Switch};
 use nb_store::Records;
 use nb_text::{put_lr_lb_add, put_ls_lb_add, put_word};
-use nv_base::{ObjId, OutOfMemory};
+use nv_base::OutOfMemory;
 
 // The names of ports, each after a space.
-fn put_port_names(out: &mut Vec<u8>, records: &Records, ports: &[ObjId]) -> Result<(), OutOfMemory>
+fn put_port_names(out: &mut Vec<u8>, records: &Records, ports: &Numbers) -> Result<(), OutOfMemory>
     ensures ok { OnOk result (out.new.items ≡ out.old.items ++ each_spaced (port_name records.now) ports.now) }
     ensures err { OnErr result (GrowsAtEnd out.old.items out.new.items) }
 {
-    for port in ports {
-        put_word(out, port_name(records, *port))?;
+    for at in 0..ports.len() {
+        put_word(out, port_name(records, ports.number_at(at)))?;
     }
     Ok(())
 }
@@ -28,7 +28,7 @@ fn put_pg_set_ports(
     out: &mut Vec<u8>,
     records: &Records,
     name: &[u8],
-    ports: &[ObjId],
+    ports: &Numbers,
 ) -> Result<(), OutOfMemory>
     ensures ok { OnOk result (out.new.items ≡ out.old.items ++ command_line (edit.PgSetPorts name.now (map (port_name records.now) ports.now))) }
     ensures err { OnErr result (GrowsAtEnd out.old.items out.new.items) }
@@ -50,11 +50,10 @@ pub(crate) fn put_members(
     ensures ok { OnOk result (out.new.items ≡ out.old.items ++ script (members_edits records.now group.now)) }
     ensures err { OnErr result (GrowsAtEnd out.old.items out.new.items) }
 {
-    let ports = group.ports.as_slice();
-    if ports.is_empty() {
+    if group.ports.is_empty() {
         Ok(())
     } else {
-        put_pg_set_ports(out, records, group.name.as_slice(), ports)
+        put_pg_set_ports(out, records, group.name.as_slice(), &group.ports)
     }
 }
 

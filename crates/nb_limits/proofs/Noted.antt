@@ -1,7 +1,6 @@
 -- The switches of a group's ports, noted one by one, and then each once.
 use Rattle.std.proofs.Common.{◌≡◌, Bool, true, false, cond, not, ◌&&◌, ◌||◌, ⊎_elim, List, [], ◌∷◌, ◌++◌, Some, None, refl, sym, ap, ◌∙◌, subst, length, take, get_or, ℕ, ◌+◌, ◌<◌, ◌≤◌}
 use Rattle.std.proofs.lemmas.Bool.{and_from, and_parts, or_cases, or_left, or_right, false≢true}
-use Rattle.std.proofs.lemmas.List.{take_more, take_all}
 use Rattle.std.proofs.lemmas.List.Kept.{Contains-dedup, Contains-from_dedup, IsStrictlySortedBy-dedup}
 use Rattle.std.proofs.lemmas.List.Sorted.{Contains-permutation, IsPermutation-sym}
 use Rattle.std.proofs.lemmas.Map.Views.{Contains-from_any, list_any-from_Contains}
@@ -43,13 +42,6 @@ has_one_on net ports switch = list_any (λ port. same port.switch switch && is_a
 pub record AreNoted (net : Network) (ports switches : List ObjId) : Type 0 where
   pub there : IsTrue (list_all (λ n. is_among n (switch_ids net)) switches)
   pub noted : (n : ObjId) → is_among n switches ≡ has_one_on net ports n
-
--- the numbers so far, with the next one
-pub take_next : (items all : List ObjId) (i : ℕ) (d : ObjId) → items ≡ all → i < length items → take (i + 1) all ≡ take i all ++ get_or items i d ∷ []
-take_next items all i d same within = ap (take (i + 1)) (sym same) ∙ take_more items i d within ∙ ap (λ l. take i l ++ get_or items i d ∷ []) same
-
-pub all_taken : (items all : List ObjId) (i : ℕ) → items ≡ all → length items ≤ i → take i all ≡ all
-all_taken items all i same past = take_all i all (subst (λ (l : List ObjId). length l ≤ i) same past)
 
 pub none_there : (n : ObjId) (ports : List Port) → false ≡ list_any (λ (port : Port). same port.switch n && is_among port.id []) ports
 none_there n [] = refl

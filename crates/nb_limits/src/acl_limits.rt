@@ -195,8 +195,9 @@ pub(crate) fn switch_count(
     ensures { IfOk result (λ count. count ≡ switch_count records.now group.now) }
 {
     let mut switches = Vec::new(alloc);
-    for number in group.ports.as_slice() {
-        if let Some(port) = records.ports().get(*number) {
+    for at in 0..group.ports.len() {
+        let number = group.ports.number_at(at);
+        if let Some(port) = records.ports().get(number) {
             switches.push(port.switch)?;
         }
     }

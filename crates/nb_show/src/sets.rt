@@ -2,9 +2,9 @@
 use crate::acls::put_acls;
 use crate::objects::{put_comma, put_heading, put_named};
 use crate::quoted::put_list;
-use nb_records::{AddrSet, Group};
+use nb_records::{AddrSet, Group, Numbers};
 use nb_store::Records;
-use nv_base::{ObjId, OutOfMemory};
+use nv_base::OutOfMemory;
 use std::alloc::Global;
 
 /// Appends all address sets.
@@ -49,13 +49,13 @@ fn put_group(
     group: &Group,
 ) -> Result<(), OutOfMemory> {
     put_heading(out, b"port group ", group.id, &group.name)?;
-    put_ports(out, records, group.ports.as_slice())?;
+    put_ports(out, records, &group.ports)?;
     put_acls(alloc, out, records, group.id)?;
     Ok(())
 }
 
 // The ports of a group that has any.
-fn put_ports(out: &mut Vec<u8>, records: &Records, ports: &[ObjId]) -> Result<(), OutOfMemory> {
+fn put_ports(out: &mut Vec<u8>, records: &Records, ports: &Numbers) -> Result<(), OutOfMemory> {
     if ports.is_empty() {
         return Ok(());
     }
@@ -68,11 +68,11 @@ fn put_ports(out: &mut Vec<u8>, records: &Records, ports: &[ObjId]) -> Result<()
 fn put_port_names(
     out: &mut Vec<u8>,
     records: &Records,
-    ports: &[ObjId],
+    ports: &Numbers,
 ) -> Result<(), OutOfMemory> {
     let mut is_first = true;
-    for number in ports {
-        if let Some(port) = records.ports().get(*number) {
+    for at in 0..ports.len() {
+        if let Some(port) = records.ports().get(ports.number_at(at)) {
             put_comma(out, is_first)?;
             put_named(out, port.id, &port.name)?;
             is_first = false;

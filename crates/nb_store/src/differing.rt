@@ -7,7 +7,7 @@ ghost use Rattle.nb_store.specs.declared.step.Step.TheVariants.{Swap};
 
 use crate::records::Records;
 use crate::step::LeanObject;
-use nb_records::{Group, Router, Switch};
+use nb_records::{Group, Numbers, Router, Switch};
 use nv_base::ObjId;
 use nv_table::Lean;
 
@@ -61,9 +61,9 @@ impl Records {
     {
         let group = lean.record();
         if lean.is_longer() {
-            number_at(group.ports.as_slice(), lean.place())
+            port_at(&group.ports, lean.place())
         } else {
-            number_at(self.groups.get(group.id)?.ports.as_slice(), lean.place())
+            port_at(&self.groups.get(group.id)?.ports, lean.place())
         }
     }
 }
@@ -73,6 +73,13 @@ fn number_at(listed: &[ObjId], place: usize) -> Option<ObjId>
     ensures { result ≡ slice_get listed.now (place - 1) }
 {
     listed.get(place.saturating_sub(1)).copied()
+}
+
+// The same of the ports of a group.
+fn port_at(ports: &Numbers, place: usize) -> Option<ObjId>
+    ensures { result ≡ slice_get ports.now (place - 1) }
+{
+    ports.get(place.saturating_sub(1))
 }
 
 // Whether this is the number of an object that was found.

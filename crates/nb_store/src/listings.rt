@@ -5,7 +5,7 @@ ghost use Rattle.nb_model.specs.Effect.{each_where, with_number, without};
 ghost use Rattle.nb_model.specs.Network.{same};
 ghost use Rattle.nb_store.specs.Undo.{back_steps};
 
-use crate::numbers::{is_among, with_last, without_number};
+use crate::numbers::{is_among, with_last, without_number, without_shared};
 use crate::step::LeanObject;
 use crate::work::Work;
 use nb_records::{Group, Router, Switch};
@@ -137,7 +137,7 @@ impl Work {
         let Some(held) = self.records.groups().get(group) else {
             return Ok(());
         };
-        let (ports, only) = without_number(alloc, held.ports.as_slice(), port)?;
+        let (ports, only) = without_shared(alloc, &held.ports, port)?;
         let left = Group {
             id: held.id,
             name: held.name.copy(alloc)?,

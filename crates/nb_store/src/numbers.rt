@@ -6,6 +6,7 @@ ghost use Rattle.nb_model.specs.Effect.{with_number, without};
 ghost use Rattle.nb_model.specs.Network.{same};
 ghost use Rattle.nb_store.specs.inner.Only.{IsOnly};
 
+use nb_records::Numbers;
 use nv_base::{Items, ObjId, OutOfMemory};
 use std::alloc::Global;
 
@@ -58,6 +59,41 @@ pub(crate) fn without_number(
         Some(at) => Ok((without_place(alloc, numbers, at)?, Some(at))),
         None => Ok((others(alloc, numbers, number)?, None)),
     }
+}
+
+/// The same of numbers in blocks. What is left shares the blocks.
+pub(crate) fn without_shared(
+    alloc: Global,
+    numbers: &Numbers,
+    number: ObjId,
+) -> Result<(Numbers, Option<usize>), OutOfMemory>
+    ensures left { IfOk result (λ left. left.0 ≡ without (same number) numbers.now) }
+    ensures only { IfOk result (λ left. IfSome left.1 (λ at. IsOnly number numbers.now at)) }
+    ensures within { IfOk result (λ left. IfSome left.1 (λ at. at < length numbers.now)) }
+{
+    match only_shared(number, numbers) {
+        Some(at) => Ok((numbers.without_place(alloc, at)?, Some(at))),
+        None => Ok((others_shared(alloc, numbers, number)?, None)),
+    }
+}
+
+// The place of a number in blocks, where it is there once.
+fn only_shared(number: ObjId, numbers: &Numbers) -> Option<usize>
+    ensures only { IfSome result (λ at. IsOnly number numbers.now at) }
+    ensures within { IfSome result (λ at. at < length numbers.now) }
+{
+    let at = numbers.place_of(number)?;
+    if is_later(number, numbers, at) {
+        return None;
+    }
+    Some(at)
+}
+
+// Whether a number stands after a place.
+fn is_later(number: ObjId, numbers: &Numbers, at: usize) -> bool
+    ensures { result ≡ is_among number (drop (at + 1) numbers.now) }
+{
+    at < numbers.len() && numbers.has_from(number, at + 1)
 }
 
 // The place of a number, where it is there once.
@@ -144,4 +180,18 @@ fn others(alloc: Global, numbers: &[ObjId], number: ObjId) -> Result<Items<ObjId
         }
     }
     Ok(left)
+}
+
+// The same of numbers in blocks.
+fn others_shared(alloc: Global, numbers: &Numbers, number: ObjId) -> Result<Numbers, OutOfMemory>
+    ensures { IfOk result (λ left. left ≡ without (same number) numbers.now) }
+{
+    let mut left = Items::new(alloc);
+    for at in 0..numbers.len() {
+        let other = numbers.number_at(at);
+        if number.0 != other.0 {
+            left.push(other)?;
+        }
+    }
+    Numbers::from_slice(alloc, left.as_slice())
 }

@@ -5,4 +5,4 @@ use Rattle.nb_dump.proofs.ends.put_port_names.Goals as goal
 pub returns-in_err-put_word-clause-err : goal.returns-in_err-put_word-clause-err
 returns-in_err-put_word-clause-err c =
     let p = err_from_is_err_and c.from_residual.result c.from_residual.ensures.1 in
-    rw (p.1) (grown_more _ _ _ _ c.loop-port.invariant c.in_err-put_word.ensures.err)
+    rw (p.1) (grown_more _ _ _ _ c.loop-at.invariant c.in_err-put_word.ensures.err)

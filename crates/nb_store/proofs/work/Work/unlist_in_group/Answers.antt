@@ -18,9 +18,9 @@ swap-requires c =
     let found = c.in-Some.ensures.record ∙ ap (record_of (λ (x : Group). x.id) c.args.group) c.groups.ensures in
     let rise = subst (NumbersRise (λ (x : Group). x.id)) c.groups.ensures c.in-Some.ensures.rise in
     let left : Group = record { id = held.id; name = c.in_ok-copy.field-0; ports = c.in_ok-ports.ports } in
-    let is : left ≡ record held { ports = without (same c.args.port) held.ports } = λ i. record { id = held.id; name = c.in_ok-copy.ensures i; ports = (c.in_ok-ports.ensures.left ∙ ap (without (same c.args.port)) c.as_slice.ensures) i } in
+    let is : left ≡ record held { ports = without (same c.args.port) held.ports } = λ i. record { id = held.id; name = c.in_ok-copy.ensures i; ports = c.in_ok-ports.ensures.left i } in
     group_fits c.args.self.now.records c.args.group (without (same c.args.port)) held found rise left is c.shorter.result (c.in-Some-only.at + 1) false c.shorter.ensures
-    (less_once c.args.port held.ports c.in-Some-only.at (rw (c.in-Some-only.is, c.as_slice.ensures) at c.in_ok-ports.ensures.only) held.name)
+    (less_once c.args.port held.ports c.in-Some-only.at (rw (c.in-Some-only.is) at c.in_ok-ports.ensures.only) held.name)
 
 pub returns-in-Some-only-clause-ok : goal.returns-in-Some-only-clause-ok
 returns-in-Some-only-clause-ok c =
@@ -28,10 +28,10 @@ returns-in-Some-only-clause-ok c =
     let found = c.in-Some.ensures.record ∙ ap (record_of (λ (x : Group). x.id) c.args.group) c.groups.ensures in
     let rise = subst (NumbersRise (λ (x : Group). x.id)) c.groups.ensures c.in-Some.ensures.rise in
     let left : Group = record { id = held.id; name = c.in_ok-copy.field-0; ports = c.in_ok-ports.ports } in
-    let is : left ≡ record held { ports = without (same c.args.port) held.ports } = λ i. record { id = held.id; name = c.in_ok-copy.ensures i; ports = (c.in_ok-ports.ensures.left ∙ ap (without (same c.args.port)) c.as_slice.ensures) i } in
+    let is : left ≡ record held { ports = without (same c.args.port) held.ports } = λ i. record { id = held.id; name = c.in_ok-copy.ensures i; ports = c.in_ok-ports.ensures.left i } in
     on_ok_weaker c.swap.result (λ e. e
     ∙ group_swaps c.args.self.now.records c.args.group (without (same c.args.port)) held found rise left is c.shorter.result (c.in-Some-only.at + 1) false c.shorter.ensures
-    (less_once c.args.port held.ports c.in-Some-only.at (rw (c.in-Some-only.is, c.as_slice.ensures) at c.in_ok-ports.ensures.only) held.name)) c.swap.ensures.ok
+    (less_once c.args.port held.ports c.in-Some-only.at (rw (c.in-Some-only.is) at c.in_ok-ports.ensures.only) held.name)) c.swap.ensures.ok
 
 pub returns-in-None-clause-ok : goal.returns-in-None-clause-ok
 returns-in-None-clause-ok c =
@@ -39,5 +39,5 @@ returns-in-None-clause-ok c =
     let found = c.in-Some.ensures.record ∙ ap (record_of (λ (x : Group). x.id) c.args.group) c.groups.ensures in
     let rise = subst (NumbersRise (λ (x : Group). x.id)) c.groups.ensures c.in-Some.ensures.rise in
     let left : Group = record { id = held.id; name = c.in_ok-copy.field-0; ports = c.in_ok-ports.ports } in
-    let is : left ≡ record held { ports = without (same c.args.port) held.ports } = λ i. record { id = held.id; name = c.in_ok-copy.ensures i; ports = (c.in_ok-ports.ensures.left ∙ ap (without (same c.args.port)) c.as_slice.ensures) i } in
+    let is : left ≡ record held { ports = without (same c.args.port) held.ports } = λ i. record { id = held.id; name = c.in_ok-copy.ensures i; ports = c.in_ok-ports.ensures.left i } in
     on_ok_weaker c.store_group.result (λ e. e ∙ group_stored c.args.self.now.records c.args.group (without (same c.args.port)) held found rise left is) c.store_group.ensures.ok

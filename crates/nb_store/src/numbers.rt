@@ -1,5 +1,5 @@
 //! Numbers of objects in a list.
-ghost use Rattle.std.specs.Prelude.{◌≡◌, ◌<◌, ◌≤◌, ◌+◌, true, false, [], ◌∷◌, ◌++◌, length, take, drop, OnOk, OnErr, IfOk, IfSome};
+ghost use Rattle.std.specs.Prelude.{◌≡◌, ◌<◌, ◌≤◌, ◌+◌, ◌^◌, true, false, [], ◌∷◌, ◌++◌, length, take, drop, OnOk, OnErr, IfOk, IfSome};
 ghost use Rattle.std.specs.List.{position};
 ghost use Rattle.nb_model.specs.Belongs.{is_among};
 ghost use Rattle.nb_model.specs.Effect.{with_number, without};
@@ -70,6 +70,7 @@ pub(crate) fn without_shared(
     ensures left { IfOk result (λ left. left.0 ≡ without (same number) numbers.now) }
     ensures only { IfOk result (λ left. IfSome left.1 (λ at. IsOnly number numbers.now at)) }
     ensures within { IfOk result (λ left. IfSome left.1 (λ at. at < length numbers.now)) }
+    ensures small { IfOk result (λ left. IfSome left.1 (λ at. at < 2 ^ 63)) }
 {
     match only_shared(number, numbers) {
         Some(at) => Ok((numbers.without_place(alloc, at)?, Some(at))),
@@ -81,7 +82,10 @@ pub(crate) fn without_shared(
 fn only_shared(number: ObjId, numbers: &Numbers) -> Option<usize>
     ensures only { IfSome result (λ at. IsOnly number numbers.now at) }
     ensures within { IfSome result (λ at. at < length numbers.now) }
+    ensures small { IfSome result (λ at. at < 2 ^ 63) }
 {
+    // So many a list may have that the place of one is below the greatest number.
+    let _ = numbers.len();
     let at = numbers.place_of(number)?;
     if is_later(number, numbers, at) {
         return None;

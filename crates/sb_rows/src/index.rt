@@ -75,6 +75,8 @@ pub(crate) struct Index {
     crowds: Crowds,
     // How many places were struck since the first ones were cleared.
     pub(crate) struck: usize,
+    // Of how many rows it was made.
+    made: usize,
 }
 
 impl Index {
@@ -106,6 +108,7 @@ impl Index {
             own,
             crowds,
             struck: 0,
+            made: rows.len(),
         })
     }
 
@@ -138,9 +141,10 @@ impl Index {
         Ok(())
     }
 
-    // Whether it has many more buckets than a table of so many rows needs.
+    // Whether it has many more buckets than a table of so many rows needs, or was made of a quarter of them or fewer, by which it is told
+    // too little what it is worth to tell rows by.
     pub(crate) fn is_old(&self, rows: usize) -> bool {
-        self.own.len() / 2 > rows
+        self.own.len() / 2 > rows || rows / 4 >= self.made
     }
 
     // Whether a bucket has as many places as there is room for, of those that were known at once or of those that came since.

@@ -17,7 +17,7 @@ loop-at-preserved c =
     let at = c.loop-at.at in
     let so_far = take at ports in
     let number : ObjId = c.number_at-number.result in
-    let next = take_more ports at number (omega (arith, c.len.ensures.count, c.loop-at-test.true)) ∙ ap (λ (n : ObjId). so_far ++ n ∷ []) (sym c.number_at-number.ensures.indexed) in
+    let next = take_more ports at number (omega (arith, c.len-at-end.ensures.count, c.loop-at-test.true)) ∙ ap (λ (n : ObjId). so_far ++ n ∷ []) (sym c.number_at-number.ensures.indexed) in
     subst (λ (ports : List ObjId). AreNoted c.args.records.now ports c.match-get.switches.items) (sym next)
     (elim c.match-get.branch [
       | in-Some+in_ok-push w ↦
@@ -32,8 +32,8 @@ loop-at-preserved c =
 
 pub returns : goal.returns
 returns c =
-    let count : c.len-2.result ≡ length c.dedup.new.self.items = search rules in
+    let count : c.len.result ≡ length c.dedup.new.self.items = search rules in
     count ∙ ap length (dedup_is _ _ _ c.dedup.ensures.filtered)
     ∙ noted_count c.args.records.now c.requires.limitless c.args.group.now (take c.loop-at.at c.args.group.now.ports) c.loop-at.switches.items _
     c.loop-at.invariant c.sort_unstable.ensures.permutation c.sort_unstable.ensures.sorted
-    (take_all c.loop-at.at c.args.group.now.ports (omega (arith, c.len.ensures.count, c.loop-at-test.false)))
+    (take_all c.loop-at.at c.args.group.now.ports (omega (arith, c.len-at-end.ensures.count, c.loop-at-test.false)))

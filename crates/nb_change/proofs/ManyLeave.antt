@@ -1,5 +1,5 @@
 -- Ports of a switch that leave a group before they go.
-use Rattle.std.proofs.Common.{◌≡◌, ◌==◌, ℕ, ◌<◌, Bool, true, false, cond, not, ◌&&◌, ◌||◌, List, [], ◌∷◌, map, Option, Some, None, arith, refl, sym, ap, ◌∙◌}
+use Rattle.std.proofs.Common.{◌≡◌, ◌==◌, ℕ, ◌<◌, Bool, true, false, cond, not, ◌&&◌, ◌||◌, List, [], ◌∷◌, ◌++◌, append-nil, map, Option, Some, None, arith, refl, sym, ap, ◌∙◌}
 use Rattle.std.proofs.lemmas.Bool.{eqb-true}
 use Rattle.std.proofs.lemmas.Bool.Decides.{nat_tests}
 use Rattle.std.specs.List.{list_any, AllByRecursion}
@@ -10,11 +10,12 @@ use Rattle.nb_model.specs.Effect.{each_where, without, without_ports}
 use Rattle.nb_model.specs.Network.{Network, same}
 use Rattle.nv_table.specs.Table.{NumbersRise, has_number, record_of, with_exchanged}
 use Rattle.nb_store.proofs.Relisted.{group_stored}
+use Rattle.nb_change.proofs.Goes.{without_both}
 use Rattle.nb_change.proofs.Removed.{without_twice, either_same}
 
 -- ---- the port of a number
 
-test_of : {R : Type 0} → (R → Bool) → Option R → Bool
+abbrev pub test_of : {R : Type 0} → (R → Bool) → Option R → Bool
 test_of p None = false
 test_of p (Some r) = p r
 
@@ -30,7 +31,6 @@ none_later n p x (y ∷ ports) later e =
 -- a test passes of the one port of a number
 pub of_number : (n : ObjId) (p : Port → Bool) (ports : List Port) → NumbersRise (λ (x : Port). x.id) ports
     → list_any (λ (port : Port). same port.id n && p port) ports ≡ test_of p (record_of (λ (x : Port). x.id) n ports)
-unfolding test_of
 of_number n p [] rise = refl
 of_number n p (x ∷ ports) rise = by (has_number (λ (y : Port). y.id) n x) refl (of_number n p ports rise.1)
   where
@@ -48,13 +48,19 @@ of_number n p (x ∷ ports) rise = by (has_number (λ (y : Port). y.id) n x) ref
 -- where there is none, or it is the one that was found
 pub none_on : (n switch : ObjId) (ports : List Port) → NumbersRise (λ (x : Port). x.id) ports → None ≡ record_of (λ (x : Port). x.id) n ports
     → false ≡ list_any (λ (port : Port). same port.id n && same switch port.switch) ports
-unfolding test_of
 none_on n switch ports rise none = sym (of_number n (λ (port : Port). same switch port.switch) ports rise ∙ ap (test_of (λ (port : Port). same switch port.switch)) (sym none))
 
 pub found_on : (n switch : ObjId) (port : Port) (ports : List Port) → NumbersRise (λ (x : Port). x.id) ports → Some port ≡ record_of (λ (x : Port). x.id) n ports
     → same switch port.switch ≡ list_any (λ (other : Port). same other.id n && same switch other.switch) ports
-unfolding test_of
 found_on n switch port ports rise found = sym (of_number n (λ (other : Port). same switch other.switch) ports rise ∙ ap (test_of (λ (other : Port). same switch other.switch)) (sym found))
+
+-- ---- ports that stay, and ports that go
+
+pub one_stays : (p : ObjId → Bool) (xs : List ObjId) (n : ObjId) → p n ≡ false → without p (xs ++ n ∷ []) ≡ without p xs ++ n ∷ []
+one_stays p xs n e = without_both p xs (n ∷ []) ∙ ap (λ b. without p xs ++ cond (not b) (n ∷ []) []) e
+
+pub one_goes : (p : ObjId → Bool) (xs : List ObjId) (n : ObjId) → p n ≡ true → without p (xs ++ n ∷ []) ≡ without p xs
+one_goes p xs n e = without_both p xs (n ∷ []) ∙ ap (λ b. without p xs ++ cond (not b) (n ∷ []) []) e ∙ append-nil (without p xs)
 
 -- ---- a group that some ports leave
 

@@ -1,4 +1,4 @@
-ghost use Rattle.std.specs.Prelude.{◌≡◌, ◌<◌, ◌^◌, All, None, false, refl};
+ghost use Rattle.std.specs.Prelude.{◌≡◌, ◌<◌, ◌^◌, None, false, refl};
 ghost use Rattle.nv_base.specs.declared.field.Field.TheVariants.{EthDst};
 ghost use Rattle.expr_core.specs.Formula.Formula.{Leaf};
 ghost use Rattle.expr_core.specs.declared.part.Bits.TheVariants.{Whole};
@@ -20,7 +20,7 @@ use sb_model::{
     DatapathKind, Pipeline, Row, Stage, bit, both, equals, is_none_of, is_one_of, is_port,
     one_step, predicate, takes_each,
 };
-use sb_rows::{NewRows, RowList, Rows, put_listing};
+use sb_rows::{Rows, put_listing};
 use std::alloc::Global;
 use std::process::Abort;
 
@@ -652,44 +652,5 @@ fn rows_that_are_looked_for_in_one_place_are_met(rt: HostRuntime) {
         put_new(&mut rows, with_pair(at), rt.alloc(), &rt);
     }
     assert!(rt; are_met_but(&rows, &[0]));
-    drop(rows);
-}
-
-// A list of one row.
-fn list_of(plain: Plain, alloc: Global, rt: &impl Abort) -> RowList
-    ensures { All HasTypedMatch result }
-{
-    let mut new = NewRows::new(alloc);
-    new.push(row_of(plain, alloc, rt)).expect(rt, "memory");
-    new.into_list().expect(rt, "memory")
-}
-
-// Puts the row of a list where it is missing, or takes it out.
-fn put_or_take(rows: &mut Rows, plain: Plain, is_put: bool, alloc: Global, rt: &impl Abort) {
-    let list = list_of(plain, alloc, rt);
-    if is_put {
-        rows.put_missing(&list).expect(rt, "memory");
-    } else {
-        rows.take_all(&list);
-    }
-}
-
-#[test]
-fn rows_that_come_and_go_by_lists_are_those_of_a_plain_list(rt: HostRuntime) {
-    let mut random = Random { state: 20_261_202 };
-    let mut rows = Rows::new(rt.alloc());
-    let mut table = Vec::new(rt.alloc());
-    for _ in 0..400 {
-        let plain = some_row(&mut random);
-        let is_put = random.below(5) > 1;
-        put_or_take(&mut rows, plain, is_put, rt.alloc(), &rt);
-        table.retain(|other| *other != plain);
-        if is_put {
-            table.push(plain).expect(&rt, "memory");
-        }
-        assert!(rt; rows.len() == table.len());
-        assert!(rt; is_there(&rows, plain, rt.alloc(), &rt) == is_put);
-        assert!(rt; is_some_met_as_scanned(&rows, &table, &mut random));
-    }
     drop(rows);
 }

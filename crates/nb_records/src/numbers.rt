@@ -10,7 +10,7 @@ use std::marker::Model;
 use std::rc::Rc;
 
 // The most numbers of a block.
-const BLOCK: usize = 128;
+const BLOCK: usize = 256;
 
 /// A list of the numbers of objects, in order, in blocks that copies share. A clause sees it as the list.
 #[derive(Drop)]

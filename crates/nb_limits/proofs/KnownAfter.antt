@@ -248,7 +248,7 @@ known_holds net known (edit.LrpAdd router port mac nets may) sound are =
     (edit_falls net given sound kind.AclSwitch refl) (edit_falls net given sound kind.MatchText refl) (edit_falls net given sound kind.Vip refl) (edit_falls net given sound kind.Backend refl) (edit_falls net given sound kind.VipDatapath refl)
 known_holds net known (edit.LsDel name may) sound are =
     let given = edit.LsDel name may in
-    kept_but net known are (effect net given) (without_switch net (switch_id net name) known.neighbours) (switch_less net known.neighbours are.neighbours name)
+    kept_but net known are (effect net given) (without_switch net (switch_id net name) known.neighbours) (switch_less net known.neighbours are.neighbours (but_limits net sound) name)
     (edit_falls net given sound kind.AclSwitch refl) (edit_falls net given sound kind.MatchText refl) (edit_falls net given sound kind.Vip refl) (edit_falls net given sound kind.Backend refl) (edit_falls net given sound kind.VipDatapath refl)
 known_holds net known (edit.LspDel port may) sound are =
     let given = edit.LspDel port may in
@@ -266,7 +266,7 @@ known_holds net known (edit.LspSetType port own) sound are =
     (edit_falls net given sound kind.AclSwitch refl) (edit_falls net given sound kind.MatchText refl) (edit_falls net given sound kind.Vip refl) (edit_falls net given sound kind.Backend refl) (edit_falls net given sound kind.VipDatapath refl)
 known_holds net known (edit.LspSetOptions port name) sound are =
     let given = edit.LspSetOptions port name in
-    kept_but net known are (effect net given) (with_option (port_named net port) name known.neighbours) (one_option net known.neighbours are.neighbours (but_limits net sound) (ports_apart net sound) port name)
+    kept_but net known are (effect net given) (with_option net (port_named net port) name known.neighbours) (one_option net known.neighbours are.neighbours (but_limits net sound) (ports_apart net sound) port name)
     (edit_falls net given sound kind.AclSwitch refl) (edit_falls net given sound kind.MatchText refl) (edit_falls net given sound kind.Vip refl) (edit_falls net given sound kind.Backend refl) (edit_falls net given sound kind.VipDatapath refl)
 known_holds net known (edit.LspSetEnabled port true) sound are =
     let given = edit.LspSetEnabled port true in

@@ -33,7 +33,7 @@ use Rattle.nb_limits.proofs.Swapped.{total_filter, total_same, swapped}
 -- Sums over lists.
 
 -- of one amount for each
-total_each : {X : Type 0} (n : ℕ) (xs : List X) → total (λ x. n) xs ≡ n * length xs
+pub total_each : {X : Type 0} (n : ℕ) (xs : List X) → total (λ x. n) xs ≡ n * length xs
 total_each n [] = none n
   where
     none : (n : ℕ) → 0 ≡ n * 0
@@ -85,7 +85,7 @@ none_after {X} q x (y ∷ xs) is alone = let parts = and_parts (not (q x && q y)
     by true e fails more = absurd (false≢true (sym (ap (λ b. not (b && q y)) is ∙ ap (λ b. not (true && b)) e) ∙ fails))
     by false e fails more = more
 
-one_passes : {X : Type 0} (q : X → Bool) (xs : List X) → IsTrue (are_apart (λ a b. q a && q b) xs) → length (filter q xs) ≡ found_count (find q xs)
+pub one_passes : {X : Type 0} (q : X → Bool) (xs : List X) → IsTrue (are_apart (λ a b. q a && q b) xs) → length (filter q xs) ≡ found_count (find q xs)
 one_passes q [] apart = refl
 one_passes {X} q (x ∷ xs) apart =
     let parts = and_parts (list_all (λ y. not (q x && q y)) xs) (are_apart (λ a b. q a && q b) xs) apart in
@@ -95,7 +95,7 @@ one_passes {X} q (x ∷ xs) apart =
     by true is alone more = ap (λ (l : List X). length (x ∷ l)) (none_after q x xs is alone)
     by false is alone more = more
 
-not_both_apart : {X : Type 0} (s t : X → X → Bool) (xs : List X) → ((a b : X) → IsTrue (t a b) → IsTrue (s a b)) → IsTrue (are_apart s xs) → IsTrue (are_apart t xs)
+pub not_both_apart : {X : Type 0} (s t : X → X → Bool) (xs : List X) → ((a b : X) → IsTrue (t a b) → IsTrue (s a b)) → IsTrue (are_apart s xs) → IsTrue (are_apart t xs)
 not_both_apart s t [] stronger apart = refl
 not_both_apart {X} s t (x ∷ xs) stronger apart =
     let parts = and_parts (list_all (λ y. not (s x y)) xs) (are_apart s xs) apart in

@@ -10,15 +10,13 @@ use Rattle.nv_base.specs.declared.object.ObjId.{ObjId}
 use Rattle.nb_records.specs.declared.acl.Acl.{Acl}
 use Rattle.nb_records.specs.declared.refusal.Kind.TheVariants as kind
 use Rattle.nb_records.specs.declared.sets.Group.{Group}
-use Rattle.nb_records.specs.declared.switch.Port.{Port}
 use Rattle.nb_records.specs.declared.switch.Switch.{Switch}
 use Rattle.nb_model.specs.Amounts.{amount, total}
 use Rattle.nb_model.specs.Applies.{switches_of_acl}
-use Rattle.nb_model.specs.Belongs.{is_among, once}
+use Rattle.nb_model.specs.Belongs.{once}
 use Rattle.nb_model.specs.Effect.{each_where, named_port_ids}
 use Rattle.nb_model.specs.Network.{Network, port_id, same}
 use Rattle.nb_model.specs.Sound.{group_ids}
-use Rattle.nb_model.proofs.Alike.{same_sym}
 use Rattle.nb_model.proofs.AnyOf.{all_true}
 use Rattle.nb_model.proofs.Lists.{same_is}
 use Rattle.nb_model.proofs.RecordLists.{found_holds}
@@ -33,11 +31,10 @@ use Rattle.nb_limits.specs.inner.Weights.{weight, acl_weight, of_owner}
 use Rattle.nb_limits.specs.declared.acl_limits.Measure.{Measure}
 use Rattle.nb_limits.specs.declared.acl_limits.Measure.TheVariants.{Count, Text}
 use Rattle.nb_limits.proofs.AclSums.{count_weight, groups_rise, no_switch}
-use Rattle.nb_limits.proofs.Counted.{any_or, any_same, any_of_number, found_list, holds_of, none_kept, of_number}
+use Rattle.nb_limits.proofs.Counted.{found_list, of_number}
 use Rattle.nb_limits.proofs.Every.{each_is_record, every_as}
-use Rattle.nb_limits.proofs.Noted.{none_there}
+use Rattle.nb_limits.proofs.FewSwitches.{either_length, few_switches}
 use Rattle.nb_limits.proofs.Raised.{group_there, none_there as no_switch_there}
-use Rattle.nb_limits.proofs.Rest.{same_kept}
 use Rattle.nb_limits.proofs.Swapped.{total_filter, total_plus}
 
 -- The ports of a list of names are no more than the names.
@@ -62,67 +59,12 @@ named_fewer net names =
     le_trans (length (named_port_ids net names)) (length (filter_map (port_id net) names)) (length names)
     (once_fewer (filter_map (port_id net) names)) (found_fewer (port_id net) names)
 
--- Ports are on no more switches than there are of them.
-
--- what passes one of two tests is no more than what passes either
-either_length : {X : Type 0} (p q : X → Bool) (xs : List X) → length (filter (λ x. p x || q x) xs) ≤ length (filter p xs) + length (filter q xs)
-either_length p q [] = le_self 0
-either_length {X} p q (x ∷ xs) = by (p x) (q x) (filter (λ y. p y || q y) xs) (filter p xs) (filter q xs) (either_length p q xs)
-  where
-    by : (c d : Bool) (some ones others : List X) → length some ≤ length ones + length others → length (cond (c || d) (x ∷ some) some) ≤ length (cond c (x ∷ ones) ones) + length (cond d (x ∷ others) others)
-    by true true some ones others low = omega (arith, low)
-    by true false some ones others low = omega (arith, low)
-    by false true some ones others low = omega (arith, low)
-    by false false some ones others low = low
-
+-- Those of a list of names are on no more switches than there are names, and than there are at all.
 module _ (net : Network) (limitless : IsSoundButLimits net) where
-  -- the switches of one port
-  one_switch : (found : Option Port) → length (filter (λ (s : Switch). holds_of (λ (port : Port). same port.switch s.id) found) net.switches) ≤ 1
-  one_switch None = subst (λ n. n ≤ 1) (sym (none_kept net.switches)) (omega arith)
-  one_switch (Some port) =
-      subst (λ (l : List Switch). length l ≤ 1)
-      (sym (same_kept (λ (s : Switch). same port.switch s.id) (λ s. same s.id port.switch) net.switches (λ s. same_sym port.switch s.id)
-      ∙ of_number (λ (s : Switch). s.id) port.switch net.switches (rises (λ (s : Switch). s.id) net.switches limitless.numbered.order.switches)))
-      (alone (record_of (λ (s : Switch). s.id) port.switch net.switches))
-    where
-      alone : (found : Option Switch) → length (found_list (λ (s : Switch). s.id) port.switch found) ≤ 1
-      alone None = omega arith
-      alone (Some s) = omega arith
-
-  few_switches : (numbers : List ObjId) → length (filter (λ (s : Switch). has_port net.ports s.id numbers) net.switches) ≤ length numbers
-  few_switches [] =
-      subst (λ n. n ≤ 0) (sym (ap length (same_kept (λ (s : Switch). has_port net.ports s.id []) (λ s. false) net.switches (λ s. sym (none_there s.id net.ports))) ∙ none_kept net.switches)) (le_self 0)
-  few_switches (n ∷ numbers) =
-      subst (λ (l : List Switch). length l ≤ length (n ∷ numbers)) (sym (same_kept (λ (s : Switch). has_port net.ports s.id (n ∷ numbers)) (λ s. first s.id || has_port net.ports s.id numbers) net.switches (λ s. parts s.id)))
-      (grown (length (filter (λ (s : Switch). first s.id || has_port net.ports s.id numbers) net.switches)) (length (filter (λ (s : Switch). first s.id) net.switches)) (length (filter (λ (s : Switch). has_port net.ports s.id numbers) net.switches))
-      (either_length (λ (s : Switch). first s.id) (λ s. has_port net.ports s.id numbers) net.switches) (one_switch (record_of (λ (port : Port). port.id) n net.ports)) (few_switches numbers))
-    where
-      -- the first port is on this switch
-      first : ObjId → Bool
-      first switch = holds_of (λ (port : Port). same port.switch switch) (record_of (λ (port : Port). port.id) n net.ports)
-
-      spread : (a b c : Bool) → (a && (b || c)) ≡ ((b && a) || (a && c))
-      spread true true c = refl
-      spread true false c = refl
-      spread false true c = refl
-      spread false false c = refl
-
-      parts : (switch : ObjId) → has_port net.ports switch (n ∷ numbers) ≡ (first switch || has_port net.ports switch numbers)
-      parts switch =
-          any_same (λ (port : Port). same port.switch switch && is_among port.id (n ∷ numbers)) (λ port. (same port.id n && same port.switch switch) || (same port.switch switch && is_among port.id numbers)) net.ports
-          (λ port. spread (same port.switch switch) (same port.id n) (is_among port.id numbers))
-          ∙ any_or (λ (port : Port). same port.id n && same port.switch switch) (λ port. same port.switch switch && is_among port.id numbers) net.ports
-          ∙ ap (λ b. b || has_port net.ports switch numbers)
-          (any_of_number (λ (port : Port). port.id) n (λ port. same port.switch switch) net.ports (rises (λ (port : Port). port.id) net.ports limitless.numbered.order.ports))
-
-      grown : (all one more : ℕ) → all ≤ one + more → one ≤ 1 → more ≤ length numbers → all ≤ length (n ∷ numbers)
-      grown all one more low first rest = omega (arith, low, first, rest)
-
-  -- those of a list of names are on no more switches than there are names, and than there are at all
   pub named_on : (names : List (List ℕ)) → length (filter (λ (s : Switch). has_port net.ports s.id (named_port_ids net names)) net.switches) ≤ min (length names) (length net.switches)
   named_on names =
       le-min
-      (le_trans (length (filter on net.switches)) (length (named_port_ids net names)) (length names) (few_switches (named_port_ids net names)) (named_fewer net names))
+      (le_trans (length (filter on net.switches)) (length (named_port_ids net names)) (length names) (few_switches net limitless (named_port_ids net names)) (named_fewer net names))
       (length_kept on net.switches)
     where
       on : Switch → Bool

@@ -55,6 +55,16 @@ module _ (net : Network) (port : RouterPort) (alone : peer_port net port ≡ Non
       ∙ ap (λ o. amount net kind.Neighbour + neighbours_across net o) alone
       ∙ no_more (amount net kind.Neighbour)
 
+-- what is known, raised for a router port that may have this peer, is so of no more than that
+pub peer_fits : (net : Network) (peer : Port) (nets : ℕ) (most : Option ℕ) (after : ℕ) → IsCeiling 262144 (amount net kind.Neighbour) most → after ≤ (amount net kind.Neighbour + neighbours_across net (Some peer) * 1) + nets * length net.router_ports
+    → IsCeiling 262144 after (with_peer net peer nets most)
+peer_fits net peer nets most after known low =
+    raised_ceiling 262144 a after (raised_by 262144 most (up_to 262144 (neighbours_across net (Some peer))) 1) nets (length net.router_ports) (length net.router_ports)
+    (raised_by_ceiling 262144 (amount net kind.Neighbour) a most (neighbours_across net (Some peer)) 1 known (le_self a)) low (le_self (length net.router_ports))
+  where
+    a : ℕ
+    a = amount net kind.Neighbour + neighbours_across net (Some peer) * 1
+
 -- One that a port names.
 
 -- what is found with one more
@@ -133,12 +143,9 @@ module _ (net : Network) (limitless : IsSoundButLimits net) (port : RouterPort) 
 
   -- so that what is known, raised by so much, is so of no more than that
   pub raised_fits : (most : Option ℕ) (after : ℕ) → IsCeiling 262144 (amount net kind.Neighbour) most → after ≤ ((amount net kind.Neighbour + neighbours_across net (Some peer) * 1) + nets * length net.router_ports) + nets * 1
-      → IsCeiling 262144 after (with_peer net peer nets most)
+      → IsCeiling 262144 after (raised 262144 (with_peer net peer nets most) nets 1)
   raised_fits most after known low =
-      raised_ceiling 262144 (a + nets * length net.router_ports) after (raised 262144 (raised_by 262144 most (up_to 262144 (neighbours_across net (Some peer))) 1) nets (length net.router_ports)) nets 1 1
-      (raised_ceiling 262144 a (a + nets * length net.router_ports) (raised_by 262144 most (up_to 262144 (neighbours_across net (Some peer))) 1) nets (length net.router_ports) (length net.router_ports)
-      (raised_by_ceiling 262144 (amount net kind.Neighbour) a most (neighbours_across net (Some peer)) 1 known (le_self a)) (le_self (a + nets * length net.router_ports)) (le_self (length net.router_ports)))
-      low (le_self 1)
+      raised_ceiling 262144 (a + nets * length net.router_ports) after (with_peer net peer nets most) nets 1 1 (peer_fits net peer nets most (a + nets * length net.router_ports) known (le_self (a + nets * length net.router_ports))) low (le_self 1)
     where
       a : ℕ
       a = amount net kind.Neighbour + neighbours_across net (Some peer) * 1
@@ -154,13 +161,13 @@ port_fits net limitless router name mac nets may most known = at (peer_named net
     by None is = known
     by (Some r) is = subst (λ n. IsCeiling 262144 n most) (sym (unraised net (new r) is)) known
 
-    as_before : (r : Router) (peer : Port) → peer_named net name ≡ Some peer → IsCeiling 262144 (amount net kind.Neighbour) (with_peer net peer (length nets) most)
+    as_before : (r : Router) (peer : Port) → peer_named net name ≡ Some peer → IsCeiling 262144 (amount net kind.Neighbour) (raised 262144 (with_peer net peer (length nets) most) (length nets) 1)
     as_before r peer is = raised_fits net limitless (new r) peer is most (amount net kind.Neighbour) known (no_less (amount net kind.Neighbour) (neighbours_across net (Some peer)) (length nets * length net.router_ports) (length nets))
       where
         no_less : (m c k n : ℕ) → m ≤ ((m + c * 1) + k) + n * 1
         no_less m c k n = omega arith
 
-    named : (found : Option Router) (peer : Port) → peer_named net name ≡ Some peer → IsCeiling 262144 (amount (where_there found (add_router_port net name mac nets) net) kind.Neighbour) (with_peer net peer (length nets) most)
+    named : (found : Option Router) (peer : Port) → peer_named net name ≡ Some peer → IsCeiling 262144 (amount (where_there found (add_router_port net name mac nets) net) kind.Neighbour) (raised 262144 (with_peer net peer (length nets) most) (length nets) 1)
     named None peer is = as_before any peer is
       where
         any : Router
@@ -173,4 +180,4 @@ port_fits net limitless router name mac nets may most known = at (peer_named net
         (λ after. IsCeiling 262144 (amount after kind.Neighbour) most) (λ there. known) (λ new. by (router_named net router) is)
     at (Some peer) is =
         cond_both (is_some (router_port_named net name)) net (where_there (router_named net router) (add_router_port net name mac nets) net)
-        (λ after. IsCeiling 262144 (amount after kind.Neighbour) (with_peer net peer (length nets) most)) (λ there. named None peer is) (λ new. named (router_named net router) peer is)
+        (λ after. IsCeiling 262144 (amount after kind.Neighbour) (raised 262144 (with_peer net peer (length nets) most) (length nets) 1)) (λ there. named None peer is) (λ new. named (router_named net router) peer is)

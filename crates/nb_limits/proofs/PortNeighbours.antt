@@ -1,8 +1,7 @@
--- How many neighbours there may be once a port has other addresses, or hosts' ports are gone.
+-- How many neighbours there may be once a port has other addresses.
 use Rattle.std.proofs.Common.{◌≡◌, ℕ, ◌+◌, ◌*◌, ◌≤◌, Bool, true, false, cond, not, ◌&&◌, List, [], ◌∷◌, map, Option, Some, None, arith, refl, sym, ap, ◌∙◌, subst, length}
 use Rattle.std.proofs.lemmas.Bool.{cond_both}
-use Rattle.std.specs.Prelude.{IsTrue, find, filter, option_map}
-use Rattle.std.specs.List.{AllByRecursion}
+use Rattle.std.specs.Prelude.{IsTrue, option_map}
 use Rattle.std.specs.Str.{bytes_eq}
 use Rattle.nb_records.specs.declared.refusal.Kind.TheVariants as kind
 use Rattle.nb_records.specs.declared.router.RouterPort.{RouterPort}
@@ -10,12 +9,12 @@ use Rattle.nb_records.specs.declared.switch.Addr.{Addr}
 use Rattle.nb_records.specs.declared.switch.Port.{Port}
 use Rattle.nb_model.specs.Amounts.{amount, total, ip_count, net_count, pair_count, neighbours_across}
 use Rattle.nb_model.specs.Belongs.{is_to_router, is_name, is_port, peer_port, peer_router_port}
-use Rattle.nb_model.specs.Effect.{set_port, without, without_ports}
+use Rattle.nb_model.specs.Effect.{set_port}
 use Rattle.nb_model.specs.Network.{Network, same}
 use Rattle.nb_model.specs.Readable.{are_apart}
-use Rattle.nb_model.proofs.AnyOf.{all_true, find_changed}
+use Rattle.nb_model.proofs.AnyOf.{find_changed}
 use Rattle.nb_model.proofs.RisesNeighbours.{is_across, is_peer_of}
-use Rattle.nb_model.proofs.Totals.{le_equal, le_self, le_trans, total_cons, total_kept_twice, total_le}
+use Rattle.nb_model.proofs.Totals.{total_cons}
 use Rattle.nb_limits.proofs.NewVips.{one_total}
 use Rattle.nb_limits.proofs.Rest.{same_met}
 use Rattle.nb_limits.proofs.Swapped.{total_filter, total_same}
@@ -125,43 +124,3 @@ module _ (net : Network) (name : List ℕ) (list : List Addr) (apart : IsTrue (a
   addresses_bring =
       each_more (λ port. neighbours_across after (peer_port after port)) (λ port. neighbours_across net (peer_port net port)) more net.router_ports
       (λ port. subst (λ peer. neighbours_across after peer ≤ neighbours_across net (peer_port net port) + more) (sym (peers port)) (across (peer_port net port)))
-
--- Ports less, which are hosts'.
-
-module _ (gone : Port → Bool) where
-  -- those that go are hosts' ports
-  abbrev pub AreHosts : List Port → Type 0
-  AreHosts ports = AllByRecursion (λ (p : Port). IsTrue (gone p) → is_to_router p ≡ false) ports
-
-  still_found : (q : Port → Bool) → ((port : Port) → is_to_router port ≡ false → q port ≡ false) → (ports : List Port) → AreHosts ports → find q (without gone ports) ≡ find q ports
-  still_found q of_routers [] hosts = refl
-  still_found q of_routers (p ∷ ports) hosts = by (gone p) hosts.0 (still_found q of_routers ports hosts.1)
-    where
-      by : (b : Bool) → (IsTrue b → is_to_router p ≡ false) → find q (without gone ports) ≡ find q ports → find q (cond (not b) (p ∷ without gone ports) (without gone ports)) ≡ cond (q p) (Some p) (find q ports)
-      by true host rest = rest ∙ sym (ap (λ b. cond b (Some p) (find q ports)) (of_routers p (host refl)))
-      by false host rest = ap (λ (o : Option Port). cond (q p) (Some p) o) rest
-
-  module _ (net : Network) (hosts : AreHosts net.ports) where
-    abbrev left : Network
-    left = without_ports gone net
-
-    left_peers : (port : RouterPort) → peer_port left port ≡ peer_port net port
-    left_peers port = still_found (is_peer_of port.name) (λ other is. ap (λ b. b && is_name other.router_port port.name) is) net.ports hosts
-
-    left_pairs : (own : Port) → pair_count left own ≡ pair_count net own
-    left_pairs own =
-        ap (λ o. cond (is_to_router own) (net_count o) (total ip_count own.addresses))
-        (same_met (λ other. is_port own (peer_port left other)) (λ other. is_port own (peer_port net other)) net.router_ports (λ other. ap (is_port own) (left_peers other)))
-
-    left_across : (peer : Option Port) → neighbours_across left peer ≤ neighbours_across net peer
-    left_across None = le_self 0
-    left_across (Some peer) =
-        le_trans (neighbours_across left (Some peer)) (total (pair_count net) (filter (is_across peer) (without gone net.ports))) (neighbours_across net (Some peer))
-        (le_equal (neighbours_across left (Some peer)) (total (pair_count net) (filter (is_across peer) (without gone net.ports)))
-        (total_same (pair_count left) (pair_count net) (filter (is_across peer) (without gone net.ports)) left_pairs))
-        (total_kept_twice (pair_count net) (λ p. not (gone p)) (is_across peer) net.ports)
-
-    pub hosts_leave : amount (without_ports gone net) kind.Neighbour ≤ amount net kind.Neighbour
-    hosts_leave =
-        total_le (λ port. neighbours_across left (peer_port left port)) (λ port. neighbours_across net (peer_port net port)) (λ port. true) net.router_ports (all_true net.router_ports)
-        (λ port of. subst (λ peer. neighbours_across left peer ≤ neighbours_across net (peer_port net port)) (sym (left_peers port)) (left_across (peer_port net port)))

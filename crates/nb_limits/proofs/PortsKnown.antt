@@ -1,7 +1,7 @@
 -- What is known of neighbours once a port is changed, or ports are gone, is so.
-use Rattle.std.proofs.Common.{◌≡◌, ℕ, ◌≤◌, map, Bool, true, false, cond, not, ◌&&◌, ◌||◌, nat_lt, List, [], ◌∷◌, Option, Some, None, arith, refl, sym, ap, ◌∙◌, subst, length}
+use Rattle.std.proofs.Common.{◌≡◌, ℕ, ◌+◌, ◌*◌, ◌≤◌, map, Bool, true, false, cond, not, ◌&&◌, ◌||◌, nat_lt, List, [], ◌∷◌, Option, Some, None, arith, refl, sym, ap, ◌∙◌, subst, length}
 use Rattle.std.proofs.lemmas.Bool.{and_parts, false≢true}
-use Rattle.std.specs.Prelude.{IsTrue, find}
+use Rattle.std.specs.Prelude.{IsTrue, filter, find, is_some}
 use Rattle.std.specs.List.{list_any, AllByRecursion}
 use Rattle.std.specs.Str.{bytes_eq}
 use Rattle.nv_base.specs.declared.object.ObjId.{ObjId}
@@ -11,111 +11,120 @@ use Rattle.nb_records.specs.declared.switch.Addr.{Addr}
 use Rattle.nb_records.specs.declared.switch.Port.{Port}
 use Rattle.nb_records.specs.declared.switch.PortKind.{PortKind}
 use Rattle.nb_records.specs.declared.switch.PortKind.TheVariants as port_kind
-use Rattle.nb_model.specs.Amounts.{amount, total, ip_count, net_count, pair_count}
-use Rattle.nb_model.specs.Belongs.{is_router_kind, is_to_router, is_name, is_number, is_port, peer_port, peer_router_port}
+use Rattle.nb_model.specs.Amounts.{amount, total, ip_count, net_count, pair_count, neighbours_across}
+use Rattle.nb_model.specs.Belongs.{is_router_kind, is_to_router, is_name, is_number, peer_router_port}
 use Rattle.nb_model.specs.Effect.{delete_port, delete_switch, set_port, without_ports}
-use Rattle.nb_model.specs.Network.{Network, port_named, same as is_same, switch_id}
+use Rattle.nb_model.specs.Network.{Network, port_named, router_port_named, same as is_same, switch_id}
 use Rattle.nb_model.specs.Readable.{are_apart}
-use Rattle.nb_model.proofs.Alike.{same_names}
+use Rattle.nb_model.proofs.Alike.{names_sym, same_names}
 use Rattle.nb_model.proofs.RecordLists.{found_holds}
 use Rattle.nb_model.proofs.RisesNeighbours.{is_peer_of}
-use Rattle.nb_model.proofs.Totals.{le_self}
+use Rattle.nb_model.proofs.Totals.{le_equal, le_self}
 use Rattle.nb_store.proofs.Peering.{found_is_record}
 use Rattle.nv_table.specs.Table.{is_after, record_of}
 use Rattle.nb_limits.specs.Ceilings.{IsCeiling}
-use Rattle.nb_limits.specs.inner.NeighboursAfter.{each_knows, named_after, unless_named, without_named, without_kind, without_port, without_switch, with_addresses, with_enabled, same_kind, unnamed_kind, other_kind, with_kind, same_option, with_option}
+use Rattle.nb_limits.specs.inner.NeighboursAfter.{each_knows, with_own, with_name, named_after, is_followed, has_follower, without, without_port, has_followers, without_switch, with_addresses, with_enabled, same_kind, other_kind, with_kind, same_option, with_option}
+use Rattle.nb_limits.specs.inner.Weights.{found_count}
+use Rattle.nb_limits.specs.inner.Within.{up_to, raised, raised_by}
 use Rattle.nb_limits.specs.Limitless.{IsSoundButLimits}
 use Rattle.nb_limits.proofs.Every.{every_as, every_fails, none_differs}
 use Rattle.nb_limits.proofs.Fitting.{only_named}
-use Rattle.nb_limits.proofs.Neighbours.{names_it, ports_rise}
+use Rattle.nb_limits.proofs.Leaving.{IsLast, some_leave}
+use Rattle.nb_limits.proofs.Neighbours.{ports_rise}
 use Rattle.nb_limits.proofs.NewMembers.{none_changed}
-use Rattle.nb_limits.proofs.OneGone.{one_leaves}
+use Rattle.nb_limits.proofs.NewPorts.{peer_fits}
 use Rattle.nb_limits.proofs.OnePort.{pairs_bring, pairs_stay}
-use Rattle.nb_limits.proofs.PortNeighbours.{addresses_bring, hosts_leave}
+use Rattle.nb_limits.proofs.PeerChanged.{alone_named, few_pairs, one_changes}
+use Rattle.nb_limits.proofs.PortNeighbours.{addresses_bring}
 use Rattle.nb_limits.proofs.Raised.{falls, raised_by_ceiling}
 
 -- a port that is found is the one of its number
 found_record : (net : Network) → IsSoundButLimits net → (name : List ℕ) (port : Port) → port_named net name ≡ Some port → record_of (λ (p : Port). p.id) port.id net.ports ≡ Some port
 found_record net limitless name port found = found_is_record (λ (p : Port). p.id) (λ p. bytes_eq p.name name) net.ports port (ports_rise net limitless) found
 
--- a port that names no router port is the peer of none
-no_router_port : (net : Network) → IsSoundButLimits net → (port : Port) → record_of (λ (p : Port). p.id) port.id net.ports ≡ Some port → port.router_port ≡ None → peer_router_port net port ≡ None
-no_router_port net limitless port there none = find_none net.router_ports
+-- after a port that has none to follow it, none names what it names
+none_follows : (net : Network) (port : Port) → has_follower net port ≡ false → (n : List ℕ) → is_peer_of n port ≡ true → IsLast (is_peer_of n) net.ports port
+none_follows net port none n passes = by port.router_port refl
   where
-    not_its : (own : RouterPort) (b : Bool) → is_port port (peer_port net own) ≡ b → b ≡ false
-    not_its own true is = absurd (false≢true (subst (λ o. IsTrue (is_name o own.name)) none (names_it net limitless port there own (peer_port net own) refl is)))
-    not_its own false is = refl
+    parts : (is_to_router port ≡ true) × IsTrue (is_name port.router_port n)
+    parts = and_parts (is_to_router port) (is_name port.router_port n) passes
 
-    find_none : (l : List RouterPort) → find (λ own. is_port port (peer_port net own)) l ≡ None
-    find_none [] = refl
-    find_none (own ∷ l) = ap (λ b. cond b (Some own) (find (λ o. is_port port (peer_port net o)) l)) (not_its own (is_port port (peer_port net own)) refl) ∙ find_none l
+    not_followed : (a b : Bool) → a ≡ true → (a && b) ≡ false → b ≡ false
+    not_followed true b is e = e
+    not_followed false b is e = absurd (false≢true is)
+
+    not_there : (found : Option Port) → is_some found ≡ false → found ≡ None
+    not_there None is = refl
+    not_there (Some p) is = absurd (false≢true (sym is))
+
+    by : (option : Option (List ℕ)) → port.router_port ≡ option → IsLast (is_peer_of n) net.ports port
+    by None says = absurd (false≢true (subst (λ o. IsTrue (is_name o n)) says parts.1))
+    by (Some given) says =
+        every_as (λ (p : Port). (is_after (Some port.id) p.id && (is_to_router p && is_name p.router_port given)) ≡ false) (λ p. IsTrue (nat_lt port.id.0 p.id.0) → is_peer_of n p ≡ false) net.ports
+        (λ p fails above.
+        let same_name : given ≡ n = same_names given n (subst (λ o. IsTrue (is_name o n)) says parts.1) in
+        subst (λ m. (is_to_router p && is_name p.router_port m) ≡ false) same_name (sym (ap (λ b. b && (is_to_router p && is_name p.router_port given)) above) ∙ fails))
+        (every_fails (λ (p : Port). is_after (Some port.id) p.id && (is_to_router p && is_name p.router_port given)) net.ports
+        (not_there (named_after net port.id given) (subst (λ o. is_followed net port.id o ≡ false) says (not_followed (is_to_router port) (is_followed net port.id port.router_port) parts.0 none))))
+
+-- what is raised where nothing is known is not known
+
+none_raised : (limit : ℕ) (more : Option ℕ) (times : ℕ) → raised_by limit None more times ≡ None
+none_raised limit None times = refl
+none_raised limit (Some more) times = refl
+
+none_named : (net : Network) (port : Port) (option : Option (List ℕ)) → with_name net port option None ≡ None
+none_named net port None = refl
+none_named net port (Some given) = by (router_port_named net given)
+  where
+    by : (own : Option RouterPort) → with_own net port own None ≡ None
+    by None = refl
+    by (Some own) = ap (λ most. raised 262144 most (length own.nets) (length net.router_ports)) (none_raised 262144 (up_to 262144 (neighbours_across net (Some port))) 1)
+
+no_more_than : (a b n : ℕ) → a ≤ (b + 0 * 1) + 0 * n → a ≤ b
+no_more_than a b n low = omega (arith, low)
 
 module _ (net : Network) (most : Option ℕ) (are : IsCeiling 262144 (amount net kind.Neighbour) most) where
   same : (after : Network) → amount after kind.Neighbour ≤ amount net kind.Neighbour → IsCeiling 262144 (amount after kind.Neighbour) most
   same after low = falls 262144 (amount net kind.Neighbour) (amount after kind.Neighbour) most low are
 
+  -- where ports are gone, after none of which another one follows
+  some_less : IsSoundButLimits net → (gone : Port → Bool) → AllByRecursion (λ (p : Port). IsTrue (gone p) → has_follower net p ≡ false) net.ports → IsCeiling 262144 (amount (without_ports gone net) kind.Neighbour) most
+  some_less limitless gone none =
+      same (without_ports gone net) (some_leave gone net limitless
+      (λ n. every_as (λ (p : Port). IsTrue (gone p) → has_follower net p ≡ false) (λ p. IsTrue (gone p) → is_peer_of n p ≡ true → IsLast (is_peer_of n) net.ports p) net.ports (λ p is goes passes. none_follows net p (is goes) n passes) none))
+
   -- where a port is gone
   pub one_less : IsSoundButLimits net → (name : List ℕ) → IsTrue (are_apart bytes_eq (map (λ (p : Port). p.name) net.ports)) → IsCeiling 262144 (amount (delete_port net name) kind.Neighbour) (without_port net (port_named net name) most)
   one_less limitless name apart = by (port_named net name) refl
     where
-      only : (port : Port) → port_named net name ≡ Some port → AllByRecursion (λ (p : Port). IsTrue (bytes_eq p.name name) → p ≡ port) net.ports
-      only port found = only_named (λ (p : Port). p.name) net.ports name port apart found
-
-      none_later : (port : Port) (given : List ℕ) → port.router_port ≡ Some given → named_after net port.id given ≡ None → (n : List ℕ)
-          → AllByRecursion (λ (p : Port). IsTrue (nat_lt port.id.0 p.id.0) → is_peer_of n port ≡ true → is_peer_of n p ≡ false) net.ports
-      none_later port given says none n =
-          every_as (λ (p : Port). (is_after (Some port.id) p.id && (is_to_router p && is_name p.router_port given)) ≡ false) (λ p. IsTrue (nat_lt port.id.0 p.id.0) → is_peer_of n port ≡ true → is_peer_of n p ≡ false) net.ports
-          (λ p fails above passes.
-          let named : IsTrue (is_name port.router_port n) = (and_parts (is_to_router port) (is_name port.router_port n) passes).1 in
-          let same_name : given ≡ n = same_names given n (subst (λ o. IsTrue (is_name o n)) says named) in
-          subst (λ m. (is_to_router p && is_name p.router_port m) ≡ false) same_name (sym (ap (λ b. b && (is_to_router p && is_name p.router_port given)) above) ∙ fails))
-          (every_fails (λ (p : Port). is_after (Some port.id) p.id && (is_to_router p && is_name p.router_port given)) net.ports none)
-
-      nothing_named : (port : Port) → port.router_port ≡ None → (n : List ℕ) → AllByRecursion (λ (p : Port). IsTrue (nat_lt port.id.0 p.id.0) → is_peer_of n port ≡ true → is_peer_of n p ≡ false) net.ports
-      nothing_named port says n = each net.ports
-        where
-          each : (l : List Port) → AllByRecursion (λ (p : Port). IsTrue (nat_lt port.id.0 p.id.0) → is_peer_of n port ≡ true → is_peer_of n p ≡ false) l
-          each [] = tt
-          each (p ∷ l) = (λ above passes. absurd (false≢true (subst (λ o. IsTrue (is_name o n)) says (and_parts (is_to_router port) (is_name port.router_port n) passes).1)), each l)
-
-      leaves : (port : Port) → port_named net name ≡ Some port → ((n : List ℕ) → AllByRecursion (λ (p : Port). IsTrue (nat_lt port.id.0 p.id.0) → is_peer_of n port ≡ true → is_peer_of n p ≡ false) net.ports)
-          → IsCeiling 262144 (amount (delete_port net name) kind.Neighbour) most
-      leaves port found later =
-          same (delete_port net name) (one_leaves net limitless (λ p. bytes_eq p.name name) port (found_record net limitless name port found) (found_holds (λ (p : Port). bytes_eq p.name name) net.ports port found) (only port found) later)
-
-      of_found : (port : Port) (given : List ℕ) → port_named net name ≡ Some port → port.router_port ≡ Some given → (next : Option Port) → named_after net port.id given ≡ next
-          → IsCeiling 262144 (amount (delete_port net name) kind.Neighbour) (unless_named next most)
-      of_found port given found says None is = leaves port found (none_later port given says is)
-      of_found port given found says (Some next) is = tt
-
-      of_option : (port : Port) → port_named net name ≡ Some port → (option : Option (List ℕ)) → port.router_port ≡ option → IsCeiling 262144 (amount (delete_port net name) kind.Neighbour) (without_named net port.id option most)
-      of_option port found None says = leaves port found (nothing_named port says)
-      of_option port found (Some given) says = of_found port given found says (named_after net port.id given) refl
-
-      of_kind : (port : Port) (own : PortKind) → port.kind ≡ own → port_named net name ≡ Some port → IsCeiling 262144 (amount (delete_port net name) kind.Neighbour) (without_kind net port own most)
-      of_kind port port_kind.Host is found =
-          same (delete_port net name) (hosts_leave (λ p. bytes_eq p.name name) net
-          (every_as (λ (p : Port). IsTrue (bytes_eq p.name name) → p ≡ port) (λ p. IsTrue (bytes_eq p.name name) → is_to_router p ≡ false) net.ports
-          (λ p is_port gone. subst (λ (q : Port). is_to_router q ≡ false) (sym (is_port gone)) (ap is_router_kind is)) (only port found)))
-      of_kind port port_kind.Router is found = of_option port found port.router_port refl
+      given : (port : Port) (b : Bool) → port_named net name ≡ Some port → has_follower net port ≡ b → IsCeiling 262144 (amount (delete_port net name) kind.Neighbour) (cond b None most)
+      given port true found is = tt
+      given port false found is =
+          some_less limitless (λ p. bytes_eq p.name name)
+          (every_as (λ (p : Port). IsTrue (bytes_eq p.name name) → p ≡ port) (λ p. IsTrue (bytes_eq p.name name) → has_follower net p ≡ false) net.ports (λ p is_port gone. ap (has_follower net) (is_port gone) ∙ is)
+          (only_named (λ (p : Port). p.name) net.ports name port apart found))
 
       by : (found : Option Port) → port_named net name ≡ found → IsCeiling 262144 (amount (delete_port net name) kind.Neighbour) (without_port net found most)
       by None is =
-          same (delete_port net name) (hosts_leave (λ p. bytes_eq p.name name) net
-          (every_as (λ (p : Port). bytes_eq p.name name ≡ false) (λ p. IsTrue (bytes_eq p.name name) → is_to_router p ≡ false) net.ports (λ p fails gone. absurd (false≢true (sym fails ∙ gone))) (every_fails (λ (p : Port). bytes_eq p.name name) net.ports is)))
-      by (Some port) is = of_kind port port.kind refl is
+          some_less limitless (λ p. bytes_eq p.name name)
+          (every_as (λ (p : Port). bytes_eq p.name name ≡ false) (λ p. IsTrue (bytes_eq p.name name) → has_follower net p ≡ false) net.ports (λ p fails gone. absurd (false≢true (sym fails ∙ gone))) (every_fails (λ (p : Port). bytes_eq p.name name) net.ports is))
+      by (Some port) is = given port (has_follower net port) is refl
 
   -- where a switch is gone
-  pub switch_less : (name : List ℕ) → IsCeiling 262144 (amount (delete_switch net name) kind.Neighbour) (without_switch net (switch_id net name) most)
-  switch_less name = by (switch_id net name)
+  pub switch_less : IsSoundButLimits net → (name : List ℕ) → IsCeiling 262144 (amount (delete_switch net name) kind.Neighbour) (without_switch net (switch_id net name) most)
+  switch_less limitless name = by (switch_id net name)
     where
-      none_gone : (l : List Port) → AllByRecursion (λ (p : Port). IsTrue (is_number None p.switch) → is_to_router p ≡ false) l
+      none_gone : (l : List Port) → AllByRecursion (λ (p : Port). IsTrue (is_number None p.switch) → has_follower net p ≡ false) l
       none_gone [] = tt
       none_gone (p ∷ l) = (λ gone. absurd (false≢true gone), none_gone l)
 
-      of_hosts : (switch : ObjId) (l : List Port) → list_any (λ port. is_same switch port.switch && is_to_router port) l ≡ false → AllByRecursion (λ (p : Port). IsTrue (is_same switch p.switch) → is_to_router p ≡ false) l
-      of_hosts switch [] is = tt
-      of_hosts switch (p ∷ l) is = (λ gone. first (is_same switch p.switch) (is_to_router p) (list_any (λ port. is_same switch port.switch && is_to_router port) l) gone is, of_hosts switch l (later (is_same switch p.switch && is_to_router p) (list_any (λ port. is_same switch port.switch && is_to_router port) l) is))
+      no_followers : (switch : ObjId) (l : List Port) → list_any (λ port. is_same switch port.switch && has_follower net port) l ≡ false → AllByRecursion (λ (p : Port). IsTrue (is_same switch p.switch) → has_follower net p ≡ false) l
+      no_followers switch [] is = tt
+      no_followers switch (p ∷ l) is = (
+        λ gone. first (is_same switch p.switch) (has_follower net p) (list_any (λ port. is_same switch port.switch && has_follower net port) l) gone is,
+        no_followers switch l (later (is_same switch p.switch && has_follower net p) (list_any (λ port. is_same switch port.switch && has_follower net port) l) is),
+      )
         where
           first : (a b c : Bool) → IsTrue a → ((a && b) || c) ≡ false → b ≡ false
           first true true c gone e = absurd (false≢true (sym e))
@@ -126,14 +135,13 @@ module _ (net : Network) (most : Option ℕ) (are : IsCeiling 262144 (amount net
           later true b e = absurd (false≢true (sym e))
           later false b e = e
 
-      given : (switch : ObjId) (b : Bool) → list_any (λ port. is_same switch port.switch && is_to_router port) net.ports ≡ b
-          → IsCeiling 262144 (amount (without_ports (λ port. is_same switch port.switch) net) kind.Neighbour) (cond b None most)
+      given : (switch : ObjId) (b : Bool) → has_followers net switch ≡ b → IsCeiling 262144 (amount (without_ports (λ port. is_same switch port.switch) net) kind.Neighbour) (cond b None most)
       given switch true is = tt
-      given switch false is = same (without_ports (λ port. is_same switch port.switch) net) (hosts_leave (λ port. is_same switch port.switch) net (of_hosts switch net.ports is))
+      given switch false is = some_less limitless (λ port. is_same switch port.switch) (no_followers switch net.ports is)
 
       by : (found : Option ObjId) → IsCeiling 262144 (amount (without_ports (λ port. is_number found port.switch) net) kind.Neighbour) (without_switch net found most)
-      by None = same (without_ports (λ port. false) net) (hosts_leave (λ port. false) net (none_gone net.ports))
-      by (Some switch) = given switch (list_any (λ port. is_same switch port.switch && is_to_router port) net.ports) refl
+      by None = some_less limitless (λ port. false) (none_gone net.ports)
+      by (Some switch) = given switch (has_followers net switch) refl
 
   module _ (limitless : IsSoundButLimits net) (apart : IsTrue (are_apart bytes_eq (map (λ (p : Port). p.name) net.ports))) (name : List ℕ) where
     -- where a port that is there is left as it is
@@ -168,54 +176,125 @@ module _ (net : Network) (most : Option ℕ) (are : IsCeiling 262144 (amount net
         by None is = none_there (λ p. record p { enabled = true }) is
         by (Some port) is = given port port.enabled refl is
 
-    -- where a port has this kind
+    -- where a port may be the peer of another router port then, or of none
+    module _ (change : Port → Port) (port : Port) (found : port_named net name ≡ Some port) (same_id : (p : Port) → (change p).id ≡ p.id) (same_switch : (p : Port) → (change p).switch ≡ p.switch)
+        (same_enabled : (p : Port) → (change p).enabled ≡ p.enabled) (last : (n : List ℕ) → is_peer_of n port ≡ true → is_peer_of n (change port) ≡ false → IsLast (is_peer_of n) net.ports port) where
+      abbrev after : Network
+      after = set_port net name change
+
+      abbrev there : record_of (λ (p : Port). p.id) port.id net.ports ≡ Some port
+      there = found_record net limitless name port found
+
+      abbrev named : bytes_eq port.name name ≡ true
+      named = found_holds (λ (p : Port). bytes_eq p.name name) net.ports port found
+
+      -- of none, where it has the kind of a host
+      unpeered : is_to_router (change port) ≡ false → (more : ℕ) → total ip_count (change port).addresses ≡ more → IsCeiling 262144 (amount after kind.Neighbour) (each_knows net more most)
+      unpeered host more is =
+          raised_by_ceiling 262144 (amount net kind.Neighbour) (amount after kind.Neighbour) most more (length net.router_ports) are
+          (plain (amount after kind.Neighbour) (amount net kind.Neighbour) (more * length net.router_ports)
+          (one_changes net limitless name change port there named (only_port port found) same_id same_switch same_enabled last more
+          (le_equal (pair_count after (change port)) more (ap (λ b. cond b (net_count (peer_router_port after (change port))) (total ip_count (change port).addresses)) host ∙ is)) [] 0
+          (of_all net.router_ports)))
+        where
+          plain : (a b c : ℕ) → a ≤ (b + 0 * 1) + c → a ≤ b + c
+          plain a b c low = omega (arith, low)
+
+          of_all : (owns : List RouterPort)
+              → AllByRecursion (λ (own : RouterPort). is_peer_of own.name (change port) ≡ true → is_peer_of own.name port ≡ false → IsTrue (bytes_eq own.name []) × (neighbours_across net (Some port) ≤ 0)) owns
+          of_all [] = tt
+          of_all (own ∷ owns) = (λ passes failed. absurd (false≢true (sym host ∙ (and_parts (is_to_router (change port)) (is_name (change port).router_port own.name) passes).0)), of_all owns)
+
+      -- of the one that its option names
+      peered_then : is_to_router (change port) ≡ true → (option : Option (List ℕ)) → (change port).router_port ≡ option → IsCeiling 262144 (amount after kind.Neighbour) (with_name net port option most)
+      peered_then router None says =
+          same after (no_more_than (amount after kind.Neighbour) (amount net kind.Neighbour) (length net.router_ports)
+          (one_changes net limitless name change port there named (only_port port found) same_id same_switch same_enabled last 0
+          (subst (λ o. pair_count after (change port) ≤ net_count o) (none net.router_ports)
+          (few_pairs net limitless name change port there named (only_port port found) same_id same_switch same_enabled last (λ own. false) (λ own passes. absurd (unnamed own passes)) (both net.router_ports) router)) [] 0
+          (of_all net.router_ports)))
+        where
+          unnamed : (own : RouterPort) → is_peer_of own.name (change port) ≡ true → ⊥
+          unnamed own passes = false≢true (subst (λ o. IsTrue (is_name o own.name)) says (and_parts (is_to_router (change port)) (is_name (change port).router_port own.name) passes).1)
+
+          none : (owns : List RouterPort) → find (λ (own : RouterPort). false) owns ≡ None
+          none [] = refl
+          none (own ∷ owns) = none owns
+
+          both : (owns : List RouterPort) → length (filter (λ (own : RouterPort). false) owns) ≡ found_count (find (λ (own : RouterPort). false) owns)
+          both [] = refl
+          both (own ∷ owns) = both owns
+
+          of_all : (owns : List RouterPort)
+              → AllByRecursion (λ (own : RouterPort). is_peer_of own.name (change port) ≡ true → is_peer_of own.name port ≡ false → IsTrue (bytes_eq own.name []) × (neighbours_across net (Some port) ≤ 0)) owns
+          of_all [] = tt
+          of_all (own ∷ owns) = (λ passes failed. absurd (unnamed own passes), of_all owns)
+      peered_then router (Some given) says = by (router_port_named net given) refl
+        where
+          names : (own : RouterPort) → is_peer_of own.name (change port) ≡ true → IsTrue (bytes_eq own.name given)
+          names own passes =
+              names_sym own.name given ∙ subst (λ o. IsTrue (is_name o own.name)) says (and_parts (is_to_router (change port)) (is_name (change port).router_port own.name) passes).1
+
+          few : pair_count after (change port) ≤ net_count (router_port_named net given)
+          few = few_pairs net limitless name change port there named (only_port port found) same_id same_switch same_enabled last (λ own. bytes_eq own.name given) names (alone_named net limitless given) router
+
+          by : (own : Option RouterPort) → router_port_named net given ≡ own → IsCeiling 262144 (amount after kind.Neighbour) (with_own net port own most)
+          by None is =
+              same after (no_more_than (amount after kind.Neighbour) (amount net kind.Neighbour) (length net.router_ports)
+              (one_changes net limitless name change port there named (only_port port found) same_id same_switch same_enabled last 0 (subst (λ o. pair_count after (change port) ≤ net_count o) is few) given 0
+              (every_as (λ (own : RouterPort). bytes_eq own.name given ≡ false)
+              (λ own. is_peer_of own.name (change port) ≡ true → is_peer_of own.name port ≡ false → IsTrue (bytes_eq own.name given) × (neighbours_across net (Some port) ≤ 0)) net.router_ports
+              (λ own fails passes failed. absurd (false≢true (sym fails ∙ names own passes))) (every_fails (λ (own : RouterPort). bytes_eq own.name given) net.router_ports is))))
+          by (Some own) is =
+              peer_fits net port (length own.nets) most (amount after kind.Neighbour) are
+              (one_changes net limitless name change port there named (only_port port found) same_id same_switch same_enabled last (length own.nets) (subst (λ o. pair_count after (change port) ≤ net_count o) is few) given
+              (neighbours_across net (Some port)) (of_all net.router_ports))
+            where
+              of_all : (owns : List RouterPort)
+                  → AllByRecursion (λ (x : RouterPort). is_peer_of x.name (change port) ≡ true → is_peer_of x.name port ≡ false → IsTrue (bytes_eq x.name given) × (neighbours_across net (Some port) ≤ neighbours_across net (Some port))) owns
+              of_all [] = tt
+              of_all (x ∷ owns) = (λ passes failed. (names x passes, le_self (neighbours_across net (Some port))), of_all owns)
+
+  -- where a port has this kind, or option
+  module _ (limitless : IsSoundButLimits net) (apart : IsTrue (are_apart bytes_eq (map (λ (p : Port). p.name) net.ports))) (name : List ℕ) where
     pub one_kind : (own : PortKind) → IsCeiling 262144 (amount (set_port net name (λ p. record p { kind = own })) kind.Neighbour) (with_kind net (port_named net name) own most)
     one_kind own = by (port_named net name) refl
       where
-        after : Network
-        after = set_port net name (λ p. record p { kind = own })
-
         alike : (a b : PortKind) → same_kind a b ≡ true → b ≡ a
         alike port_kind.Host port_kind.Host is = refl
         alike port_kind.Router port_kind.Router is = refl
         alike port_kind.Host port_kind.Router is = absurd (false≢true is)
         alike port_kind.Router port_kind.Host is = absurd (false≢true is)
 
-        no_peer : (b : Bool) (o : Option (List ℕ)) (n : List ℕ) → o ≡ None → (b && is_name o n) ≡ false
-        no_peer true o n is = ap (λ x. is_name x n) is
-        no_peer false o n is = refl
+        was_host : (k : PortKind) → same_kind k port_kind.Router ≡ false → is_router_kind k ≡ false
+        was_host port_kind.Host is = refl
+        was_host port_kind.Router is = absurd (false≢true (sym is))
 
-        still : (port : Port) → port.router_port ≡ None → (n : List ℕ) → (is_router_kind own && is_name port.router_port n) ≡ (is_to_router port && is_name port.router_port n)
-        still port is n = no_peer (is_router_kind own) port.router_port n is ∙ sym (no_peer (is_to_router port) port.router_port n is)
+        other : (port : Port) (given : PortKind) → own ≡ given → same_kind port.kind given ≡ false → port_named net name ≡ Some port
+            → IsCeiling 262144 (amount (set_port net name (λ p. record p { kind = given })) kind.Neighbour) (other_kind net port given most)
+        other port port_kind.Router is differs found =
+            peered_then limitless apart name (λ p. record p { kind = port_kind.Router }) port found (λ p. refl) (λ p. refl) (λ p. refl)
+            (λ n passes fails. absurd (false≢true (sym (was_host port.kind differs) ∙ (and_parts (is_to_router port) (is_name port.router_port n) passes).0))) refl port.router_port refl
+        other port port_kind.Host is differs found = by (has_follower net port) refl
+          where
+            by : (b : Bool) → has_follower net port ≡ b → IsCeiling 262144 (amount (set_port net name (λ p. record p { kind = port_kind.Host })) kind.Neighbour) (each_knows net (total ip_count port.addresses) (cond b None most))
+            by true e = subst (IsCeiling 262144 (amount (set_port net name (λ p. record p { kind = port_kind.Host })) kind.Neighbour)) (sym (none_raised 262144 (up_to 262144 (total ip_count port.addresses)) (length net.router_ports))) tt
+            by false e =
+                unpeered limitless apart name (λ p. record p { kind = port_kind.Host }) port found (λ p. refl) (λ p. refl) (λ p. refl) (λ n passes fails. none_follows net port e n passes) refl (total ip_count port.addresses) refl
 
-        unnamed : (port : Port) → port_named net name ≡ Some port → port.router_port ≡ None → (given : PortKind) → own ≡ given → IsCeiling 262144 (amount after kind.Neighbour) (unnamed_kind net port given most)
-        unnamed port found none port_kind.Router is =
-            same after (pairs_stay net name (λ p. record p { kind = own }) port apart (only_port port found) (λ p. refl) (λ p. refl) (still port none) refl
-            (subst (λ k. cond (is_router_kind k) (net_count (peer_router_port net port)) (total ip_count port.addresses) ≤ pair_count net port) (sym is)
-            (subst (λ o. net_count o ≤ pair_count net port) (sym (no_router_port net limitless port (found_record net limitless name port found) none)) (omega arith))))
-        unnamed port found none port_kind.Host is =
-            raised_by_ceiling 262144 (amount net kind.Neighbour) (amount after kind.Neighbour) most (total ip_count port.addresses) (length net.router_ports) are
-            (pairs_bring net name (λ p. record p { kind = own }) port apart (only_port port found) (λ p. refl) (λ p. refl) (still port none) (total ip_count port.addresses)
-            (subst (λ k. cond (is_router_kind k) (net_count (peer_router_port net port)) (total ip_count port.addresses) ≤ total ip_count port.addresses) (sym is) (le_self (total ip_count port.addresses))))
+        given : (port : Port) (b : Bool) → same_kind port.kind own ≡ b → port_named net name ≡ Some port → IsCeiling 262144 (amount (set_port net name (λ p. record p { kind = own })) kind.Neighbour) (cond b most (other_kind net port own most))
+        given port true is found = left_alone limitless apart name (λ p. record p { kind = own }) port found (ap (λ k. let p : Port = record port { kind = k } in p) (alike port.kind own is))
+        given port false is found = other port own refl is found
 
-        of_option : (port : Port) → port_named net name ≡ Some port → (option : Option (List ℕ)) → port.router_port ≡ option → IsCeiling 262144 (amount after kind.Neighbour) (other_kind net port option own most)
-        of_option port found None is = unnamed port found is own refl
-        of_option port found (Some named) is = tt
-
-        given : (port : Port) (b : Bool) → same_kind port.kind own ≡ b → port_named net name ≡ Some port → IsCeiling 262144 (amount after kind.Neighbour) (cond b most (other_kind net port port.router_port own most))
-        given port true is found = left_alone (λ p. record p { kind = own }) port found (ap (λ k. let p : Port = record port { kind = k } in p) (alike port.kind own is))
-        given port false is found = of_option port found port.router_port refl
-
-        by : (found : Option Port) → port_named net name ≡ found → IsCeiling 262144 (amount after kind.Neighbour) (with_kind net found own most)
-        by None is = none_there (λ p. record p { kind = own }) is
+        by : (found : Option Port) → port_named net name ≡ found → IsCeiling 262144 (amount (set_port net name (λ p. record p { kind = own })) kind.Neighbour) (with_kind net found own most)
+        by None is = none_there limitless apart name (λ p. record p { kind = own }) is
         by (Some port) is = given port (same_kind port.kind own) refl is
 
-    -- where a port has this option
-    pub one_option : (option : Option (List ℕ)) → IsCeiling 262144 (amount (set_port net name (λ p. record p { router_port = option })) kind.Neighbour) (with_option (port_named net name) option most)
+    pub one_option : (option : Option (List ℕ)) → IsCeiling 262144 (amount (set_port net name (λ p. record p { router_port = option })) kind.Neighbour) (with_option net (port_named net name) option most)
     one_option option = by (port_named net name) refl
       where
-        after : Network
-        after = set_port net name (λ p. record p { router_port = option })
+        set : Port → Port
+        set p = record p { router_port = option }
 
         alike : (a b : Option (List ℕ)) → same_option a b ≡ true → b ≡ a
         alike None None is = refl
@@ -226,14 +305,21 @@ module _ (net : Network) (most : Option ℕ) (are : IsCeiling 262144 (amount net
         hosts : (b : Bool) → b ≡ false → (n : List ℕ) (o p : Option (List ℕ)) → (b && is_name o n) ≡ (b && is_name p n)
         hosts b is n o p = ap (λ c. c && is_name o n) is ∙ sym (ap (λ c. c && is_name p n) is)
 
-        given : (port : Port) (a b : Bool) → is_to_router port ≡ a → same_option port.router_port option ≡ b → port_named net name ≡ Some port → IsCeiling 262144 (amount after kind.Neighbour) (cond (not a || b) most None)
-        given port false b is e found =
-            same after (pairs_stay net name (λ p. record p { router_port = option }) port apart (only_port port found) (λ p. refl) (λ p. refl) (λ n. hosts (is_to_router port) is n option port.router_port) refl (le_self (pair_count net port)))
-        given port true true is e found = left_alone (λ p. record p { router_port = option }) port found (ap (λ o. let p : Port = record port { router_port = o } in p) (alike port.router_port option e))
-        given port true false is e found = tt
+        other : (port : Port) (b : Bool) → has_follower net port ≡ b → is_to_router port ≡ true → port_named net name ≡ Some port → IsCeiling 262144 (amount (set_port net name set) kind.Neighbour) (with_name net port option (cond b None most))
+        other port true e router found = subst (IsCeiling 262144 (amount (set_port net name set) kind.Neighbour)) (sym (none_named net port option)) tt
+        other port false e router found =
+            peered_then limitless apart name set port found (λ p. refl) (λ p. refl) (λ p. refl) (λ n passes fails. none_follows net port e n passes) router option refl
 
-        by : (found : Option Port) → port_named net name ≡ found → IsCeiling 262144 (amount after kind.Neighbour) (with_option found option most)
-        by None is = none_there (λ p. record p { router_port = option }) is
+        given : (port : Port) (a b : Bool) → is_to_router port ≡ a → same_option port.router_port option ≡ b → port_named net name ≡ Some port
+            → IsCeiling 262144 (amount (set_port net name set) kind.Neighbour) (cond (not a || b) most (with_name net port option (without net port most)))
+        given port false b is e found =
+            same (set_port net name set)
+            (pairs_stay net name set port apart (only_port limitless apart name port found) (λ p. refl) (λ p. refl) (λ n. hosts (is_to_router port) is n option port.router_port) refl (le_self (pair_count net port)))
+        given port true true is e found = left_alone limitless apart name set port found (ap (λ o. let p : Port = record port { router_port = o } in p) (alike port.router_port option e))
+        given port true false is e found = other port (has_follower net port) refl is found
+
+        by : (found : Option Port) → port_named net name ≡ found → IsCeiling 262144 (amount (set_port net name set) kind.Neighbour) (with_option net found option most)
+        by None is = none_there limitless apart name set is
         by (Some port) is = given port (is_to_router port) (same_option port.router_port option) refl refl is
 
   -- where a port has other addresses

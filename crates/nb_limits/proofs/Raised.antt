@@ -27,6 +27,7 @@ use Rattle.nb_limits.specs.inner.Within.{up_to, raised, raised_by}
 use Rattle.nb_limits.specs.declared.acl_limits.Measure.TheVariants.{Count}
 use Rattle.nb_limits.proofs.AclSums.{of_acl, no_switch, groups_rise}
 use Rattle.nb_limits.proofs.Counted.{found_list, of_number}
+use Rattle.nb_limits.proofs.FewSwitches.{few_of_group}
 use Rattle.nb_limits.proofs.Sums.{told}
 
 -- the total of one more
@@ -95,7 +96,7 @@ module _ (net : Network) (limitless : IsSoundButLimits net) where
   abbrev owned : Acl → ℕ
   owned acl = found_count (record_of (λ (s : Switch). s.id) acl.owner net.switches)
 
-  -- an ACL applies to no more switches than its owner reaches
+  -- an ACL applies to no more switches than its owner may reach
   pub reached : (acl : Acl) → length (switches_of_acl net acl) ≤ reach net acl.owner
   reached acl =
       subst (λ n. n ≤ reach net acl.owner) (sym (of_acl net limitless Count acl ∙ ap (λ (l : List Group). owned acl + total (switch_count net) l) (of_number (λ (g : Group). g.id) acl.owner net.groups (groups_rise net limitless))))
@@ -105,15 +106,15 @@ module _ (net : Network) (limitless : IsSoundButLimits net) where
       one None = omega arith
       one (Some s) = omega arith
 
-      alone : (n m k : ℕ) → n ≡ 0 → k ≡ m + 0 → n + k ≤ m
-      alone n m k none is = omega arith
+      alone : (n m k most : ℕ) → n ≡ 0 → k ≡ m + 0 → m ≤ most → n + k ≤ most
+      alone n m k most none is low = omega arith
 
       by : (o : Option Group) → record_of (λ (g : Group). g.id) acl.owner net.groups ≡ o → owned acl + total (switch_count net) (found_list (λ (g : Group). g.id) acl.owner o) ≤ owner_reach net o
       by None is = one (record_of (λ (s : Switch). s.id) acl.owner net.switches)
       by (Some group) is =
-          alone (owned acl) (switch_count net group) (total (switch_count net) (group ∷ []))
+          alone (owned acl) (switch_count net group) (total (switch_count net) (group ∷ [])) (owner_reach net (Some group))
           (ap found_count (none_there acl.owner (group_ids net) net.switches (group_there acl.owner net.groups group is) (no_switch net limitless)))
-          (total_cons (switch_count net) group [])
+          (total_cons (switch_count net) group []) (few_of_group net limitless group)
 
 -- what is known of an amount that is raised by at most so much
 pub raised_ceiling : (bound before after : ℕ) (most : Option ℕ) (more some times : ℕ) → IsCeiling bound before most → after ≤ before + more * some → some ≤ times → IsCeiling bound after (raised bound most more times)

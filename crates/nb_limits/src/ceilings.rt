@@ -245,7 +245,7 @@ impl Ceilings {
         let Some(owner) = owner else {
             return Ok(self);
         };
-        let switches = reach(alloc, records, owner)?;
+        let switches = reach(records, owner);
         let mut text = Vec::new(alloc);
         put_tree(&mut text, matching)?;
         let length = text.len() as u64;
@@ -322,14 +322,14 @@ fn owned(
     )
 }
 
-// To how many switches an ACL of this owner applies: a group, or a switch.
-fn reach(alloc: Global, records: &Records, owner: ObjId) -> Result<u64, OutOfMemory>
-    requires limitless { IsSoundButLimits records.now }
-    ensures { IfOk result (λ count. count ≡ reach records.now owner) }
+// To how many switches an ACL of this owner may apply. Those of a group's ports are not counted: there are no more than ports, and
+// than switches.
+fn reach(records: &Records, owner: ObjId) -> u64
+    ensures { result ≡ reach records.now owner }
 {
     match records.groups().get(owner) {
-        Some(group) => switch_count(alloc, records, group),
-        None => Ok(1),
+        Some(group) => (group.ports.len() as u64).min(records.switches().count()),
+        None => 1,
     }
 }
 

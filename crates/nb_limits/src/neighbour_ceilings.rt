@@ -1,20 +1,21 @@
-//! What is known of how many neighbours router ports know, after edits of ports (not from OVN). Where nothing is known then, they are
-//! counted once, by a walk over the ports of all switches: where peers change.
-ghost use Rattle.std.specs.Prelude.{◌≡◌, Some, length};
+//! What is known of how many neighbours router ports know, after edits of ports (not from OVN). A port that becomes a peer raises it by
+//! what is on its switch. Only where two ports name one router port, as by a slip, may the second take the place of the first, and
+//! nothing is known once the first is gone: then neighbours are counted once, by a walk over the ports of all switches.
+ghost use Rattle.std.specs.Prelude.{◌≡◌, Some, length, is_some};
 ghost use Rattle.std.specs.Option.{option_copied};
-ghost use Rattle.nb_limits.specs.inner.NeighboursAfter.{neighbours_after, peer_named, with_peer, with_router_port, named_after, unless_named, without_named, without_kind, without_port, has_router_kind, without_switch, with_addresses, with_enabled, same_kind, unnamed_kind, other_kind, with_kind, same_option, with_option};
-ghost use Rattle.nb_limits.specs.inner.Within.{raised_by};
+ghost use Rattle.nb_limits.specs.inner.NeighboursAfter.{neighbours_after, peer_named, with_peer, with_router_port, with_own, with_name, named_after, is_followed, has_follower, without, without_port, has_followers, without_switch, with_addresses, with_enabled, same_kind, other_kind, with_kind, same_option, with_option};
+ghost use Rattle.nb_limits.specs.inner.Within.{raised, raised_by};
 ghost use Rattle.nb_limits.specs.Limitless.{IsSoundButLimits};
 ghost use Rattle.nb_model.specs.Amounts.{bound};
 ghost use Rattle.nb_model.specs.Belongs.{is_to_router};
-ghost use Rattle.nb_model.specs.Network.{port_named, switch_id};
+ghost use Rattle.nb_model.specs.Network.{port_named, router_port_named, switch_id};
 ghost use Rattle.nb_records.specs.declared.refusal.Kind.TheVariants as kind;
 ghost use Rattle.nv_table.specs.Table.{NumbersRise, record_of};
 
 use crate::bounds::bound;
 use crate::neighbour_limits::{ip_counts, neighbours_beside, pair_count};
 use crate::within::{raised, raised_by};
-use nb_records::{Addr, Edit, Kind, Names, Port, PortKind};
+use nb_records::{Addr, Edit, Kind, Names, Port, PortKind, RouterPort};
 use nb_store::Records;
 use nv_base::{Name, ObjId};
 
@@ -50,63 +51,104 @@ fn with_router_port(records: &Records, name: &Name, nets: u64, known: Option<u64
     ensures { result ≡ with_router_port records.now (peer_named records.now name.now) nets known }
 {
     match records.peer_named(name) {
-        Some(peer) => with_peer(records, peer, nets, known),
+        Some(peer) => with_new_peer(records, peer, nets, known),
         None => known,
     }
 }
 
-// Where a port names it: it knows what is across that port, and all router ports no more than its networks besides.
+// Where a port names it: it may know its own networks too.
+fn with_new_peer(records: &Records, peer: &Port, nets: u64, known: Option<u64>) -> Option<u64>
+    requires limitless { IsSoundButLimits records.now }
+    ensures { result ≡ raised (bound kind.Neighbour) (with_peer records.now peer.now nets known) nets 1 }
+{
+    raised(
+        with_peer(records, peer, nets, known),
+        nets,
+        1,
+        Kind::Neighbour,
+    )
+}
+
+// Once a port is the peer of a router port of so many networks: that one knows what is across it, and each no more than these networks
+// besides.
 fn with_peer(records: &Records, peer: &Port, nets: u64, known: Option<u64>) -> Option<u64>
     requires limitless { IsSoundButLimits records.now }
     ensures { result ≡ with_peer records.now peer.now nets known }
 {
     let across = neighbours_beside(records, peer, u64::from(bound(Kind::Neighbour)));
     let own = raised_by(known, across, 1, Kind::Neighbour);
-    let others = raised(own, nets, records.router_ports().count(), Kind::Neighbour);
-    raised(others, nets, 1, Kind::Neighbour)
+    raised(own, nets, records.router_ports().count(), Kind::Neighbour)
 }
 
-// Without the port of this name, if it is there: where it is a host's, there are no more, and none where no port above it names what
-// it names. Where one does, that port may become a peer in its place.
+// Once a port of kind Router has this option.
+fn with_name(records: &Records, port: &Port, name: Option<&Name>, known: Option<u64>) -> Option<u64>
+    requires limitless { IsSoundButLimits records.now }
+    ensures { result ≡ with_name records.now port.now (option_copied name.entry) known }
+{
+    match name {
+        Some(name) => with_own(records, port, records.router_port_named(name), known),
+        None => known,
+    }
+}
+
+// Once it names this router port, if it is there.
+fn with_own(
+    records: &Records,
+    port: &Port,
+    own: Option<&RouterPort>,
+    known: Option<u64>,
+) -> Option<u64>
+    requires limitless { IsSoundButLimits records.now }
+    ensures { result ≡ with_own records.now port.now (option_copied own.entry) known }
+{
+    match own {
+        Some(own) => with_peer(records, port, own.nets.as_slice().len() as u64, known),
+        None => known,
+    }
+}
+
+// Without the port of this name, if it is there.
 fn without_port(records: &Records, name: &Name, known: Option<u64>) -> Option<u64>
     ensures { result ≡ without_port records.now (port_named records.now name.now) known }
 {
     match records.port_named(name) {
-        Some(port) => without_kind(records, port, known),
+        Some(port) => without(records, port, known),
         None => known,
     }
 }
 
-fn without_kind(records: &Records, port: &Port, known: Option<u64>) -> Option<u64>
-    ensures { result ≡ without_kind records.now port.now port.now.kind known }
+// Once a port is no peer: there are no more, but where another one may be a peer in its place.
+fn without(records: &Records, port: &Port, known: Option<u64>) -> Option<u64>
+    ensures { result ≡ without records.now port.now known }
 {
-    match port.kind {
-        PortKind::Router => without_named(records, port.id, port.router_port.as_ref(), known),
-        PortKind::Host => known,
+    if has_follower(records, port) {
+        None
+    } else {
+        known
     }
 }
 
-fn without_named(
-    records: &Records,
-    number: ObjId,
-    name: Option<&Name>,
-    known: Option<u64>,
-) -> Option<u64>
-    ensures { result ≡ without_named records.now number (option_copied name.entry) known }
+// Whether another port may be a peer in the place of this one.
+fn has_follower(records: &Records, port: &Port) -> bool
+    ensures { result ≡ has_follower records.now port.now }
+{
+    is_to_router(port) && is_followed(records, port.id, port.router_port.as_ref())
+}
+
+// Whether a port above a number names what the option names.
+fn is_followed(records: &Records, number: ObjId, name: Option<&Name>) -> bool
+    ensures { result ≡ is_followed records.now number (option_copied name.entry) }
 {
     match name {
-        Some(name) => unless_named(named_after(records, number, name), known),
-        None => known,
+        Some(name) => is_there(named_after(records, number, name)),
+        None => false,
     }
 }
 
-fn unless_named(port: Option<&Port>, known: Option<u64>) -> Option<u64>
-    ensures { result ≡ unless_named (option_copied port.entry) known }
+fn is_there(port: Option<&Port>) -> bool
+    ensures { result ≡ is_some (option_copied port.entry) }
 {
-    match port {
-        Some(_) => None,
-        None => known,
-    }
+    port.is_some()
 }
 
 // The first port above a number that is of kind Router and names this router port.
@@ -116,8 +158,7 @@ fn named_after<'a>(records: &'a Records, number: ObjId, name: &Name) -> Option<&
     records.ports().tagged(&Names(name), Some(number))
 }
 
-// Without the switch of this name, if it is there: where its ports are hosts' alone, there are no more. Where one is a peer, another
-// port may become one in its place.
+// Without the switch of this name, if it is there, and its ports.
 fn without_switch(records: &Records, name: &Name, known: Option<u64>) -> Option<u64>
     requires limitless { IsSoundButLimits records.now }
     ensures { result ≡ without_switch records.now (switch_id records.now name.now) known }
@@ -132,21 +173,21 @@ fn without_ports(records: &Records, switch: ObjId, known: Option<u64>) -> Option
     requires limitless { IsSoundButLimits records.now }
     ensures { result ≡ without_switch records.now (Some switch) known }
 {
-    if has_router_kind(records, switch) {
+    if has_followers(records, switch) {
         None
     } else {
         known
     }
 }
 
-// Whether a port of the switch is of kind Router.
-fn has_router_kind(records: &Records, switch: ObjId) -> bool
+// Whether another port may be a peer in the place of one of the switch.
+fn has_followers(records: &Records, switch: ObjId) -> bool
     requires limitless { IsSoundButLimits records.now }
-    ensures { result ≡ has_router_kind records.now switch }
+    ensures { result ≡ has_followers records.now switch }
 {
     let mut after = None;
     while let Some(port) = records.port_on(switch, after) {
-        if is_to_router(port) {
+        if has_follower(records, port) {
             return true;
         }
         after = Some(port.id);
@@ -201,8 +242,9 @@ fn with_port_enabled(records: &Records, port: &Port, known: Option<u64>) -> Opti
     each_knows(records, more, known)
 }
 
-// Once the port of this name, if it is there, has this kind. Where it names a router port and had the other kind, peers may change.
+// Once the port of this name, if it is there, has this kind.
 fn with_kind(records: &Records, name: &Name, kind: PortKind, known: Option<u64>) -> Option<u64>
+    requires limitless { IsSoundButLimits records.now }
     ensures { result ≡ with_kind records.now (port_named records.now name.now) kind known }
 {
     match records.port_named(name) {
@@ -212,14 +254,28 @@ fn with_kind(records: &Records, name: &Name, kind: PortKind, known: Option<u64>)
 }
 
 fn with_port_kind(records: &Records, port: &Port, kind: PortKind, known: Option<u64>) -> Option<u64>
+    requires limitless { IsSoundButLimits records.now }
     ensures { result ≡ with_kind records.now (Some port.now) kind known }
 {
     if same_kind(port.kind, kind) {
-        return known;
+        known
+    } else {
+        other_kind(records, port, kind, known)
     }
-    match port.router_port {
-        Some(_) => None,
-        None => unnamed_kind(records, port, kind, known),
+}
+
+// Where it had the other kind: it names what its option says, or is no peer and its addresses come.
+fn other_kind(records: &Records, port: &Port, kind: PortKind, known: Option<u64>) -> Option<u64>
+    requires limitless { IsSoundButLimits records.now }
+    ensures { result ≡ other_kind records.now port.now kind known }
+{
+    match kind {
+        PortKind::Router => with_name(records, port, port.router_port.as_ref(), known),
+        PortKind::Host => with_addresses(
+            records,
+            port.addresses.as_slice(),
+            without(records, port, known),
+        ),
     }
 }
 
@@ -232,37 +288,36 @@ fn same_kind(a: PortKind, b: PortKind) -> bool
     }
 }
 
-fn unnamed_kind(records: &Records, port: &Port, kind: PortKind, known: Option<u64>) -> Option<u64>
-    ensures { result ≡ unnamed_kind records.now port.now kind known }
-{
-    match kind {
-        PortKind::Router => known,
-        PortKind::Host => with_addresses(records, port.addresses.as_slice(), known),
-    }
-}
-
-// Once the port of this name, if it is there, has this option. Where it is of kind Router and had another one, peers may change.
+// Once the port of this name, if it is there, has this option. Where it is of kind Router and had another one, it may be another
+// router port's peer.
 fn with_option(
     records: &Records,
     name: &Name,
     router_port: Option<&Name>,
     known: Option<u64>,
 ) -> Option<u64>
-    ensures { result ≡ with_option (port_named records.now name.now) (option_copied router_port.entry) known }
+    requires limitless { IsSoundButLimits records.now }
+    ensures { result ≡ with_option records.now (port_named records.now name.now) (option_copied router_port.entry) known }
 {
     match records.port_named(name) {
-        Some(port) => with_port_option(port, router_port, known),
+        Some(port) => with_port_option(records, port, router_port, known),
         None => known,
     }
 }
 
-fn with_port_option(port: &Port, router_port: Option<&Name>, known: Option<u64>) -> Option<u64>
-    ensures { result ≡ with_option (Some port.now) (option_copied router_port.entry) known }
+fn with_port_option(
+    records: &Records,
+    port: &Port,
+    router_port: Option<&Name>,
+    known: Option<u64>,
+) -> Option<u64>
+    requires limitless { IsSoundButLimits records.now }
+    ensures { result ≡ with_option records.now (Some port.now) (option_copied router_port.entry) known }
 {
     if !is_to_router(port) || same_option(port.router_port.as_ref(), router_port) {
         known
     } else {
-        None
+        with_name(records, port, router_port, without(records, port, known))
     }
 }
 

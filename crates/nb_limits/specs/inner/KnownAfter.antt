@@ -21,10 +21,10 @@ use Rattle.nb_limits.specs.inner.NeighboursAfter.{neighbours_after}
 use Rattle.nb_limits.specs.inner.Weights.{of_owner}
 use Rattle.nb_limits.specs.inner.Within.{up_to, raised, raised_by}
 
--- to how many switches an ACL of an owner applies: a group, or a switch
+-- to how many switches an ACL of an owner may apply: of a group to no more than it has ports, and than there are; of a switch to one
 abbrev pub owner_reach : Network → Option Group → ℕ
 owner_reach net None = 1
-owner_reach net (Some group) = switch_count net group
+owner_reach net (Some group) = min (length group.ports) (length net.switches)
 
 -- the same of the number of an owner
 abbrev pub reach : Network → ObjId → ℕ

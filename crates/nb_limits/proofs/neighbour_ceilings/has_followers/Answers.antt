@@ -2,12 +2,12 @@ use Rattle.std.proofs.Common.{◌≡◌, Bool, true, false, cond, ◌&&◌, ◌|
 use Rattle.std.specs.Prelude.{filter}
 use Rattle.std.specs.List.{list_any}
 use Rattle.nb_records.specs.declared.switch.Port.{Port}
-use Rattle.nb_model.specs.Belongs.{is_to_router}
 use Rattle.nb_model.specs.Network.{same}
+use Rattle.nb_limits.specs.inner.NeighboursAfter.{has_follower}
 use Rattle.nb_limits.proofs.Neighbours.{ports_rise}
 use Rattle.nb_limits.proofs.Rest.{next_rest, no_rest, rest}
 use Rattle.nb_limits.proofs.Sums.{fewer}
-use Rattle.nb_limits.proofs.neighbour_ceilings.has_router_kind.Goals as goal
+use Rattle.nb_limits.proofs.neighbour_ceilings.has_followers.Goals as goal
 
 -- one of those that are kept
 any_kept : {X : Type 0} (a b : X → Bool) (xs : List X) → list_any b (filter a xs) ≡ list_any (λ x. a x && b x) xs
@@ -25,23 +25,23 @@ pub loop-port-smaller : goal.loop-port-smaller
 loop-port-smaller c = fewer _ _ c.in-Some.port.now (next_rest (λ (port : Port). port.id) (λ port. same c.args.switch port.switch) c.loop-port.after c.in-Some.port.now c.args.records.now.ports (ports_rise c.args.records.now c.requires.limitless) (sym c.in-Some.ensures))
 
 pub loop-port-init : goal.loop-port-init
-loop-port-init c = any_kept (λ (port : Port). same c.args.switch port.switch) is_to_router c.args.records.now.ports
+loop-port-init c = any_kept (λ (port : Port). same c.args.switch port.switch) (has_follower c.args.records.now) c.args.records.now.ports
 
 pub loop-port-preserved : goal.loop-port-preserved
 loop-port-preserved c =
-    ap (λ b. b || list_any is_to_router (rest (λ (port : Port). port.id) (λ port. same c.args.switch port.switch) (Some c.in-Some.port.now.id) c.args.records.now.ports)) (sym c.if-is_to_router.false)
-    ∙ next_one is_to_router _ (rest (λ (port : Port). port.id) (λ port. same c.args.switch port.switch) (Some c.in-Some.port.now.id) c.args.records.now.ports) c.in-Some.port.now _ _
+    ap (λ b. b || list_any (has_follower c.args.records.now) (rest (λ (port : Port). port.id) (λ port. same c.args.switch port.switch) (Some c.in-Some.port.now.id) c.args.records.now.ports)) (sym c.if-has_follower.false)
+    ∙ next_one (has_follower c.args.records.now) _ (rest (λ (port : Port). port.id) (λ port. same c.args.switch port.switch) (Some c.in-Some.port.now.id) c.args.records.now.ports) c.in-Some.port.now _ _
     (next_rest (λ (port : Port). port.id) (λ port. same c.args.switch port.switch) c.loop-port.after c.in-Some.port.now c.args.records.now.ports (ports_rise c.args.records.now c.requires.limitless) (sym c.in-Some.ensures))
-    c.is_to_router.ensures c.loop-port.invariant
+    c.has_follower.ensures c.loop-port.invariant
 
-pub returns-then-is_to_router : goal.returns-then-is_to_router
-returns-then-is_to_router c =
-    ap (λ b. b || list_any is_to_router (rest (λ (port : Port). port.id) (λ port. same c.args.switch port.switch) (Some c.in-Some.port.now.id) c.args.records.now.ports)) (sym c.if-is_to_router.true)
-    ∙ next_one is_to_router _ (rest (λ (port : Port). port.id) (λ port. same c.args.switch port.switch) (Some c.in-Some.port.now.id) c.args.records.now.ports) c.in-Some.port.now _ _
+pub returns-then-has_follower : goal.returns-then-has_follower
+returns-then-has_follower c =
+    ap (λ b. b || list_any (has_follower c.args.records.now) (rest (λ (port : Port). port.id) (λ port. same c.args.switch port.switch) (Some c.in-Some.port.now.id) c.args.records.now.ports)) (sym c.if-has_follower.true)
+    ∙ next_one (has_follower c.args.records.now) _ (rest (λ (port : Port). port.id) (λ port. same c.args.switch port.switch) (Some c.in-Some.port.now.id) c.args.records.now.ports) c.in-Some.port.now _ _
     (next_rest (λ (port : Port). port.id) (λ port. same c.args.switch port.switch) c.loop-port.after c.in-Some.port.now c.args.records.now.ports (ports_rise c.args.records.now c.requires.limitless) (sym c.in-Some.ensures))
-    c.is_to_router.ensures c.loop-port.invariant
+    c.has_follower.ensures c.loop-port.invariant
 
 pub returns : goal.returns
 returns c =
-    sym (ap (list_any is_to_router) (no_rest (λ (port : Port). port.id) (λ port. same c.args.switch port.switch) c.loop-port.after c.args.records.now.ports (sym c.in_default.ensures)))
+    sym (ap (list_any (has_follower c.args.records.now)) (no_rest (λ (port : Port). port.id) (λ port. same c.args.switch port.switch) c.loop-port.after c.args.records.now.ports (sym c.in_default.ensures)))
     ∙ c.loop-port.invariant

@@ -19,7 +19,8 @@ use Rattle.nb_model.specs.Network.{Network, next_number, same, switch_id, router
 use Rattle.nb_model.specs.Readable.{are_apart}
 use Rattle.nb_model.specs.Sound.{AreNamed}
 use Rattle.nb_model.proofs.Alike.{names_sym}
-use Rattle.nb_model.proofs.RecordLists.{all_as, all_keys, all_append, none_found, apart_push, apart_between, apart_filter_first, apart_filter_rest, keys_map, keys_where}
+use Rattle.nb_model.proofs.Lists.{map_changed, map_changed_where}
+use Rattle.nb_model.proofs.RecordLists.{all_as, all_keys, all_append, none_found, apart_push, apart_between, apart_filter_first, apart_filter_rest}
 
 -- No name is that one.
 abbrev IsNew : List ℕ → List (List ℕ) → Type 0
@@ -48,19 +49,19 @@ push_second name_of others xs x apart free new =
 -- names that a change keeps stay apart
 map_first : {X : Type 0} (name_of : X → List ℕ) (change : X → X) (xs : List X) (others : List (List ℕ)) → ((x : X) → name_of (change x) ≡ name_of x)
     → IsTrue (are_apart bytes_eq (map name_of xs ++ others)) → IsTrue (are_apart bytes_eq (map name_of (map change xs) ++ others))
-map_first name_of change xs others keeps apart = subst (λ names. IsTrue (are_apart bytes_eq (names ++ others))) (sym (keys_map name_of change xs keeps)) apart
+map_first name_of change xs others keeps apart = subst (λ names. IsTrue (are_apart bytes_eq (names ++ others))) (sym (map_changed name_of change xs keeps)) apart
 
 map_second : {X : Type 0} (name_of : X → List ℕ) (others : List (List ℕ)) (change : X → X) (xs : List X) → ((x : X) → name_of (change x) ≡ name_of x)
     → IsTrue (are_apart bytes_eq (others ++ map name_of xs)) → IsTrue (are_apart bytes_eq (others ++ map name_of (map change xs)))
-map_second name_of others change xs keeps apart = subst (λ names. IsTrue (are_apart bytes_eq (others ++ names))) (sym (keys_map name_of change xs keeps)) apart
+map_second name_of others change xs keeps apart = subst (λ names. IsTrue (are_apart bytes_eq (others ++ names))) (sym (map_changed name_of change xs keeps)) apart
 
 where_first : {X : Type 0} (name_of : X → List ℕ) (holds : X → Bool) (change : X → X) (xs : List X) (others : List (List ℕ)) → ((x : X) → name_of (change x) ≡ name_of x)
     → IsTrue (are_apart bytes_eq (map name_of xs ++ others)) → IsTrue (are_apart bytes_eq (map name_of (each_where holds change xs) ++ others))
-where_first name_of holds change xs others keeps apart = subst (λ names. IsTrue (are_apart bytes_eq (names ++ others))) (sym (keys_where name_of holds change xs keeps)) apart
+where_first name_of holds change xs others keeps apart = subst (λ names. IsTrue (are_apart bytes_eq (names ++ others))) (sym (map_changed_where name_of holds change xs keeps)) apart
 
 where_second : {X : Type 0} (name_of : X → List ℕ) (others : List (List ℕ)) (holds : X → Bool) (change : X → X) (xs : List X) → ((x : X) → name_of (change x) ≡ name_of x)
     → IsTrue (are_apart bytes_eq (others ++ map name_of xs)) → IsTrue (are_apart bytes_eq (others ++ map name_of (each_where holds change xs)))
-where_second name_of others holds change xs keeps apart = subst (λ names. IsTrue (are_apart bytes_eq (others ++ names))) (sym (keys_where name_of holds change xs keeps)) apart
+where_second name_of others holds change xs keeps apart = subst (λ names. IsTrue (are_apart bytes_eq (others ++ names))) (sym (map_changed_where name_of holds change xs keeps)) apart
 
 -- the names of each kind
 abbrev of_switch : Switch → List ℕ

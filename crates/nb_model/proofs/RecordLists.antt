@@ -7,6 +7,7 @@ use Rattle.std.proofs.lemmas.Bool.{and_parts, and_from, cases_Bool, not-true, tr
 use Rattle.nb_model.specs.Effect.{each_where, where_there}
 use Rattle.nb_model.specs.Network.{Network}
 use Rattle.nb_model.specs.Readable.{are_apart}
+use Rattle.nb_model.proofs.Lists.{all_changed, all_changed_where}
 
 -- Each of a list passes.
 
@@ -42,18 +43,11 @@ all_append p (x ∷ xs) ys all more =
 
 -- and each after a change by which it still passes
 pub all_map : {X : Type 0} (p : X → Bool) (change : X → X) (xs : List X) → ((x : X) → IsTrue (p x) → IsTrue (p (change x))) → IsTrue (list_all p xs) → IsTrue (list_all p (map change xs))
-all_map p change [] keeps all = refl
-all_map p change (x ∷ xs) keeps all =
-    let parts = and_parts (p x) (list_all p xs) all in
-    and_from (p (change x)) (list_all p (map change xs)) (keeps x parts.0) (all_map p change xs keeps parts.1)
+all_map p change xs keeps all = all_changed p p change xs keeps all
 
 -- and where only some are changed
 pub all_where : {X : Type 0} (p holds : X → Bool) (change : X → X) (xs : List X) → ((x : X) → IsTrue (p x) → IsTrue (p (change x))) → IsTrue (list_all p xs) → IsTrue (list_all p (each_where holds change xs))
-all_where {X} p holds change xs keeps all = all_map p (λ x. if holds x then change x else x) xs (λ x. each x (holds x)) all
-  where
-    each : (x : X) (it : Bool) → IsTrue (p x) → IsTrue (p (if it then change x else x))
-    each x true passes = keeps x passes
-    each x false passes = passes
+all_where p holds change xs keeps all = all_changed_where p p holds change xs (λ x is. is) keeps all
 
 -- each passes a weaker test
 pub all_as : {X : Type 0} (p q : X → Bool) (xs : List X) → ((x : X) → IsTrue (p x) → IsTrue (q x)) → IsTrue (list_all p xs) → IsTrue (list_all q xs)
@@ -157,18 +151,6 @@ apart_filter_rest same key q (x ∷ xs) ys apart =
     let parts = and_parts (list_all (λ k. not (same x k)) (xs ++ map key ys)) (are_apart same (xs ++ map key ys)) apart in
     and_from (list_all (λ k. not (same x k)) (xs ++ map key (filter q ys))) (are_apart same (xs ++ map key (filter q ys)))
     (all_keys_rest (λ k. not (same x k)) key q xs ys parts.0) (apart_filter_rest same key q xs ys parts.1)
-
--- A change that keeps a key keeps the list of keys.
-pub keys_map : {X K : Type 0} (key : X → K) (change : X → X) (xs : List X) → ((x : X) → key (change x) ≡ key x) → map key (map change xs) ≡ map key xs
-keys_map key change [] keeps = refl
-keys_map key change (x ∷ xs) keeps = λ i. keeps x i ∷ keys_map key change xs keeps i
-
-pub keys_where : {X K : Type 0} (key : X → K) (holds : X → Bool) (change : X → X) (xs : List X) → ((x : X) → key (change x) ≡ key x) → map key (each_where holds change xs) ≡ map key xs
-keys_where {X} {K} key holds change xs keeps = keys_map key (λ x. if holds x then change x else x) xs (λ x. each x (holds x))
-  where
-    each : (x : X) (it : Bool) → key (if it then change x else x) ≡ key x
-    each x true = keeps x
-    each x false = refl
 
 -- Something of a network, whether a change is made or not.
 

@@ -21,8 +21,9 @@ use Rattle.nb_model.specs.Network.{Network, next_number, same}
 use Rattle.nb_model.specs.Sound.{AreNumbered, Refer, switch_ids, port_ids, group_ids}
 use Rattle.nb_model.proofs.AnyOf.{any_push, none_passes, all_true}
 use Rattle.nb_model.proofs.Kept.{is_used}
-use Rattle.nb_model.proofs.Lists.{all_append, same_is}
+use Rattle.nb_model.proofs.Lists.{same_is}
 use Rattle.nb_model.proofs.Numbered.{are_used}
+use Rattle.nb_model.proofs.RecordLists.{all_append}
 use Rattle.nb_model.proofs.Rises.{Falls}
 use Rattle.nb_model.proofs.RisesApplies.{has_port, applies, applies_where, applies_of}
 use Rattle.nb_model.proofs.RisesKinds.{FallsOf, switches_fall, ports_fall, routers_fall, groups_fall}

@@ -6,16 +6,10 @@ use Rattle.std.specs.List.{list_all, list_any}
 use Rattle.std.specs.Str.{bytes_eq}
 use Rattle.std.proofs.lemmas.Bool.{and_from}
 use Rattle.nv_base.specs.declared.object.ObjId.{ObjId}
-use Rattle.nb_records.specs.declared.balancer.Lb.{Lb}
 use Rattle.nb_records.specs.declared.balancer.Vip.{Vip}
-use Rattle.nb_records.specs.declared.router.Router.{Router}
-use Rattle.nb_records.specs.declared.router.RouterPort.{RouterPort}
-use Rattle.nb_records.specs.declared.sets.Group.{Group}
-use Rattle.nb_records.specs.declared.switch.Port.{Port}
-use Rattle.nb_records.specs.declared.switch.Switch.{Switch}
 use Rattle.nb_model.specs.Belongs.{is_number, is_among, once, same_frontend, same_route, same_nat, same_acl, same_binding}
 use Rattle.nb_model.specs.Effect.{without_ports, without_router_ports, without_lb, delete_switch, delete_router, delete_group, with_number, set_switch_lbs, set_router_lbs}
-use Rattle.nb_model.specs.Network.{Network, same, switch_id, router_id, group_id}
+use Rattle.nb_model.specs.Network.{Network, same, switch_id, router_id, group_id, Lb, Router, RouterPort, Group, Port, Switch}
 use Rattle.nb_model.specs.Readable.{are_apart}
 use Rattle.nb_model.specs.Sound.{AreApart}
 use Rattle.nb_model.proofs.Alike.{same_sym}

@@ -6,20 +6,15 @@ use Rattle.std.specs.List.{filter_map, AllByRecursion}
 use Rattle.std.specs.Str.{bytes_eq}
 use Rattle.std.proofs.lemmas.Bool.{cond_both}
 use Rattle.expr_core.specs.Text.{typed_text}
-use Rattle.nb_records.specs.declared.acl.Acl.{Acl}
 use Rattle.nb_records.specs.declared.balancer.Frontend.{Frontend}
-use Rattle.nb_records.specs.declared.balancer.Lb.{Lb}
 use Rattle.nb_records.specs.declared.balancer.Proto.{Proto}
 use Rattle.nb_records.specs.declared.balancer.Proto.TheVariants.{Tcp}
 use Rattle.nb_records.specs.declared.balancer.Vip.{Vip}
 use Rattle.nb_records.specs.declared.edit.Edit.{Edit}
 use Rattle.nb_records.specs.declared.edit.Edit.TheVariants as edit
-use Rattle.nb_records.specs.declared.router.Binding.{Binding}
-use Rattle.nb_records.specs.declared.router.Nat.{Nat}
-use Rattle.nb_records.specs.declared.router.Route.{Route}
 use Rattle.nb_model.specs.Belongs.{is_number, owner_id, same_block, same_frontend, same_policy, same_way, is_snat, same_route, same_nat, same_acl, same_binding}
 use Rattle.nb_model.specs.Effect.{effect, without, add_port, add_router_port, new_vip, add_vip, delete_vip, is_last_vip, with_number, is_detached, acl_like, add_acl, is_route, is_nat, is_acl, is_rule, is_binding, policy_or, named_port_ids}
-use Rattle.nb_model.specs.Network.{Network, next_number, same, switch_named, router_named, port_named, router_port_named, lb_named, router_id, router_port_id, port_id, lb_id}
+use Rattle.nb_model.specs.Network.{Network, next_number, same, switch_named, router_named, port_named, router_port_named, lb_named, router_id, router_port_id, port_id, lb_id, Acl, Lb, Binding, Nat, Route}
 use Rattle.nb_model.specs.Readable.{are_apart}
 use Rattle.nb_model.specs.Sound.{AreNamed, AreApart}
 use Rattle.nb_model.specs.Tests.{first_refusal, tests, wants_router, wants_router_port, may_name_router_port, wants_protocol, duplicate, duplicate_if, has_vip}

@@ -3,17 +3,8 @@ use Rattle.std.proofs.Common.{◌≡◌, Bool, List, ◌++◌, map}
 use Rattle.std.specs.Prelude.{IsTrue}
 use Rattle.std.specs.List.{list_all}
 use Rattle.nv_base.specs.declared.object.ObjId.{ObjId}
-use Rattle.nb_records.specs.declared.acl.Acl.{Acl}
-use Rattle.nb_records.specs.declared.router.Binding.{Binding}
-use Rattle.nb_records.specs.declared.router.Nat.{Nat}
-use Rattle.nb_records.specs.declared.router.Route.{Route}
-use Rattle.nb_records.specs.declared.router.Router.{Router}
-use Rattle.nb_records.specs.declared.router.RouterPort.{RouterPort}
-use Rattle.nb_records.specs.declared.sets.Group.{Group}
-use Rattle.nb_records.specs.declared.switch.Port.{Port}
-use Rattle.nb_records.specs.declared.switch.Switch.{Switch}
 use Rattle.nb_model.specs.Effect.{each_where}
-use Rattle.nb_model.specs.Network.{Network}
+use Rattle.nb_model.specs.Network.{Network, Acl, Binding, Nat, Route, Router, RouterPort, Group, Port, Switch}
 use Rattle.nb_model.specs.Sound.{Refer, switch_ids, port_ids, router_ids, router_port_ids, lb_ids, group_ids}
 use Rattle.nb_model.proofs.Lists.{map_changed, map_changed_where}
 use Rattle.nb_model.proofs.References.{Covers, refers, all_refer, refers_covered, all_refer_covered, covers_same, among_both}

@@ -7,17 +7,14 @@ use Rattle.std.proofs.lemmas.Bool.{cond_both}
 use Rattle.nv_base.specs.Object.{number_limit}
 use Rattle.nv_base.specs.declared.object.ObjId.{ObjId}
 use Rattle.nb_records.specs.declared.balancer.Frontend.{Frontend}
-use Rattle.nb_records.specs.declared.balancer.Lb.{Lb}
 use Rattle.nb_records.specs.declared.balancer.Proto.{Proto}
 use Rattle.nb_records.specs.declared.balancer.Proto.TheVariants.{Tcp}
 use Rattle.nb_records.specs.declared.balancer.Vip.{Vip}
 use Rattle.nb_records.specs.declared.edit.Edit.{Edit}
 use Rattle.nb_records.specs.declared.edit.Edit.TheVariants as edit
-use Rattle.nb_records.specs.declared.router.RouterPort.{RouterPort}
-use Rattle.nb_records.specs.declared.switch.Port.{Port}
 use Rattle.nb_model.specs.Belongs.{is_number, same_frontend, owner_id}
 use Rattle.nb_model.specs.Effect.{effect, without, where_there, without_ports, without_router_ports, without_lb, add_switch, add_port, add_router, add_router_port, add_vip, delete_vip, is_last_vip, acl_like, named_port_ids, new_vip, with_number, is_detached, is_route, is_nat, is_acl, is_binding}
-use Rattle.nb_model.specs.Network.{Network, next_number, same, switch_named, router_named, port_named, router_port_named, lb_named, switch_id, router_id, router_port_id, lb_id, group_id}
+use Rattle.nb_model.specs.Network.{Network, next_number, same, switch_named, router_named, port_named, router_port_named, lb_named, switch_id, router_id, router_port_id, lb_id, group_id, Lb, RouterPort, Port}
 use Rattle.nb_model.specs.Sound.{AreNumbered}
 use Rattle.nb_model.proofs.Cases.{where_found}
 use Rattle.nb_model.proofs.RecordKinds

@@ -5,9 +5,7 @@ use Rattle.std.specs.List.{list_all}
 use Rattle.std.specs.Str.{bytes_eq}
 use Rattle.std.proofs.lemmas.Bool.{cond_both}
 use Rattle.nv_base.specs.declared.object.ObjId.{ObjId}
-use Rattle.nb_records.specs.declared.acl.Acl.{Acl}
 use Rattle.nb_records.specs.declared.balancer.Frontend.{Frontend}
-use Rattle.nb_records.specs.declared.balancer.Lb.{Lb}
 use Rattle.nb_records.specs.declared.balancer.Proto.{Proto}
 use Rattle.nb_records.specs.declared.balancer.Proto.TheVariants.{Tcp}
 use Rattle.nb_records.specs.declared.balancer.Vip.{Vip}
@@ -15,17 +13,9 @@ use Rattle.nb_records.specs.declared.edit.Edit.{Edit}
 use Rattle.nb_records.specs.declared.edit.Edit.TheVariants as edit
 use Rattle.nb_records.specs.declared.edit.OwnerKind.{OwnerKind}
 use Rattle.nb_records.specs.declared.edit.OwnerKind.TheVariants as owner
-use Rattle.nb_records.specs.declared.router.Binding.{Binding}
-use Rattle.nb_records.specs.declared.router.Nat.{Nat}
-use Rattle.nb_records.specs.declared.router.Route.{Route}
-use Rattle.nb_records.specs.declared.router.Router.{Router}
-use Rattle.nb_records.specs.declared.router.RouterPort.{RouterPort}
-use Rattle.nb_records.specs.declared.sets.Group.{Group}
-use Rattle.nb_records.specs.declared.switch.Port.{Port}
-use Rattle.nb_records.specs.declared.switch.Switch.{Switch}
 use Rattle.nb_model.specs.Belongs.{is_among, same_frontend, owner_id, either}
 use Rattle.nb_model.specs.Effect.{effect, each_where, without, where_there, add_switch, add_port, set_port, add_router, add_router_port, add_vip, delete_vip, is_last_vip, set_switch_lbs, set_router_lbs, acl_like, add_acl, named_port_ids, new_vip, with_number, is_detached, is_route, is_nat, is_acl, is_binding}
-use Rattle.nb_model.specs.Network.{Network, next_number, same, switch_named, router_named, port_named, router_port_named, lb_named, switch_id, router_id, router_port_id, port_id, lb_id, group_id}
+use Rattle.nb_model.specs.Network.{Network, next_number, same, switch_named, router_named, port_named, router_port_named, lb_named, switch_id, router_id, router_port_id, port_id, lb_id, group_id, Acl, Lb, Binding, Nat, Route, Router, RouterPort, Group, Port, Switch}
 use Rattle.nb_model.specs.Sound.{Refer, switch_ids, port_ids, router_ids, router_port_ids, lb_ids, group_ids}
 use Rattle.nb_model.proofs.Cases.{where_found}
 use Rattle.nb_model.proofs.Covering.{refer_to, covers_where}

@@ -6,16 +6,9 @@ use Rattle.std.specs.List.{list_all, list_any}
 use Rattle.std.specs.Str.{bytes_eq}
 use Rattle.std.proofs.lemmas.List.{map-append}
 use Rattle.nv_base.specs.declared.object.ObjId.{ObjId}
-use Rattle.nb_records.specs.declared.balancer.Lb.{Lb}
-use Rattle.nb_records.specs.declared.router.Router.{Router}
-use Rattle.nb_records.specs.declared.router.RouterPort.{RouterPort}
-use Rattle.nb_records.specs.declared.sets.AddrSet.{AddrSet}
-use Rattle.nb_records.specs.declared.sets.Group.{Group}
-use Rattle.nb_records.specs.declared.switch.Port.{Port}
-use Rattle.nb_records.specs.declared.switch.Switch.{Switch}
 use Rattle.nb_model.specs.Effect.{each_where, without, without_ports, without_router_ports, without_lb, add_switch, delete_switch, set_port, add_router, delete_router, set_switch_lbs, set_router_lbs, delete_group}
 use Rattle.nb_model.specs.Belongs.{is_number}
-use Rattle.nb_model.specs.Network.{Network, next_number, same, switch_id, router_id, group_id, switch_named, router_named, port_named, router_port_named, lb_named, set_named, group_named}
+use Rattle.nb_model.specs.Network.{Network, next_number, same, switch_id, router_id, group_id, switch_named, router_named, port_named, router_port_named, lb_named, set_named, group_named, Lb, Router, RouterPort, AddrSet, Group, Port, Switch}
 use Rattle.nb_model.specs.Readable.{are_apart}
 use Rattle.nb_model.specs.Sound.{AreNamed}
 use Rattle.nb_model.proofs.Alike.{names_sym}

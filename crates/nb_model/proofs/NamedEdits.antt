@@ -4,7 +4,6 @@ use Rattle.std.specs.Prelude.{unwrap_or, ⊤}
 use Rattle.std.specs.Str.{bytes_eq}
 use Rattle.std.proofs.lemmas.Bool.{cond_both}
 use Rattle.nb_records.specs.declared.balancer.Frontend.{Frontend}
-use Rattle.nb_records.specs.declared.balancer.Lb.{Lb}
 use Rattle.nb_records.specs.declared.balancer.Proto.{Proto}
 use Rattle.nb_records.specs.declared.balancer.Proto.TheVariants.{Tcp}
 use Rattle.nb_records.specs.declared.balancer.Vip.{Vip}
@@ -13,7 +12,7 @@ use Rattle.nb_records.specs.declared.edit.Edit.TheVariants as edit
 use Rattle.nb_records.specs.declared.switch.PortKind.TheVariants as port_kind
 use Rattle.nb_model.specs.Belongs.{is_number, owner_id, same_frontend}
 use Rattle.nb_model.specs.Effect.{effect, without, add_port, add_router_port, new_vip, add_vip, delete_vip, is_last_vip, with_number, is_detached, acl_like, named_port_ids}
-use Rattle.nb_model.specs.Network.{Network, next_number, same, switch_named, router_named, port_named, router_port_named, lb_named, set_named, group_named, switch_id, router_id, router_port_id, lb_id}
+use Rattle.nb_model.specs.Network.{Network, next_number, same, switch_named, router_named, port_named, router_port_named, lb_named, set_named, group_named, switch_id, router_id, router_port_id, lb_id, Lb}
 use Rattle.nb_model.specs.Sound.{AreNamed}
 use Rattle.nb_model.specs.Tests.{first_refusal, tests, wants_switch, wants_router, wants_port}
 use Rattle.nb_model.proofs.Named

@@ -6,12 +6,9 @@ use Rattle.std.specs.List.{AllByRecursion}
 use Rattle.nb_records.specs.declared.edit.Edit.{Edit}
 use Rattle.nb_records.specs.declared.edit.Edit.TheVariants as edit
 use Rattle.nb_records.specs.declared.refusal.Refusal.{Refusal}
-use Rattle.nb_records.specs.declared.router.Nat.{Nat}
-use Rattle.nb_records.specs.declared.router.Router.{Router}
-use Rattle.nb_records.specs.declared.switch.Switch.{Switch}
 use Rattle.nb_model.specs.Belongs.{is_number, owner_id}
 use Rattle.nb_model.specs.Effect.{where_there, add_switch, add_port, delete_switch, add_router, add_router_port, delete_router, acl_like, effect}
-use Rattle.nb_model.specs.Network.{Network, empty_network, next_number, switch_named, port_named, switch_id, router_named, router_port_named, router_id, router_port_id}
+use Rattle.nb_model.specs.Network.{Network, empty_network, next_number, switch_named, port_named, switch_id, router_named, router_port_named, router_id, router_port_id, Nat, Router, Switch}
 use Rattle.nb_model.specs.Tests.{refusal}
 use Rattle.nb_model.specs.Transactions.{unless, applied, edited}
 use Rattle.nb_model.proofs.Cases.{where_found}

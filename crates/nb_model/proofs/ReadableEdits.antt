@@ -9,7 +9,6 @@ use Rattle.std.proofs.lemmas.Bool.Decides.{nat_tests}
 use Rattle.nv_base.specs.Name.{is_object_name}
 use Rattle.nv_base.specs.declared.object.ObjId.{ObjId}
 use Rattle.nb_records.specs.declared.balancer.Frontend.{Frontend}
-use Rattle.nb_records.specs.declared.balancer.Lb.{Lb}
 use Rattle.nb_records.specs.declared.balancer.Proto.{Proto}
 use Rattle.nb_records.specs.declared.balancer.Proto.TheVariants.{Tcp}
 use Rattle.nb_records.specs.declared.balancer.Vip.{Vip}
@@ -19,7 +18,7 @@ use Rattle.nb_records.specs.declared.switch.PortKind.TheVariants as port_kind
 use Rattle.nb_read.specs.Readings.{is_set_name}
 use Rattle.nb_model.specs.Belongs.{owner_id, same_frontend}
 use Rattle.nb_model.specs.Effect.{effect, without, add_port, add_router_port, new_vip, add_vip, delete_vip, is_last_vip, with_number, is_detached, acl_like, is_route, is_nat, is_acl, is_binding, policy_or, named_port_ids}
-use Rattle.nb_model.specs.Network.{Network, next_number, same, switch_named, router_named, port_named, router_port_named, lb_named, router_id, router_port_id, lb_id}
+use Rattle.nb_model.specs.Network.{Network, next_number, same, switch_named, router_named, port_named, router_port_named, lb_named, router_id, router_port_id, lb_id, Lb}
 use Rattle.nb_model.specs.Readable.{IsReadable, are_apart, is_mac, is_ip4, may_name, are_addresses, are_guards, are_networks, is_cleared, is_nexthop, is_logical, is_vip, is_member}
 use Rattle.nb_model.specs.Sound.{AreNumbered, AreReadable, is_rising}
 use Rattle.nb_model.proofs.Alike.{same_sym}

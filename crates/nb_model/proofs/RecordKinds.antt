@@ -1,18 +1,7 @@
 -- A kind of records told once: its list in a network, the numbers of its records, and the network with another list.
 use Rattle.std.proofs.Common.{◌≡◌, ℕ, zero, suc, List, [], ◌∷◌, ◌++◌, map, get_or, refl}
 use Rattle.nv_base.specs.declared.object.ObjId.{ObjId}
-use Rattle.nb_records.specs.declared.acl.Acl.{Acl}
-use Rattle.nb_records.specs.declared.balancer.Lb.{Lb}
-use Rattle.nb_records.specs.declared.router.Binding.{Binding}
-use Rattle.nb_records.specs.declared.router.Nat.{Nat}
-use Rattle.nb_records.specs.declared.router.Route.{Route}
-use Rattle.nb_records.specs.declared.router.Router.{Router}
-use Rattle.nb_records.specs.declared.router.RouterPort.{RouterPort}
-use Rattle.nb_records.specs.declared.sets.AddrSet.{AddrSet}
-use Rattle.nb_records.specs.declared.sets.Group.{Group}
-use Rattle.nb_records.specs.declared.switch.Port.{Port}
-use Rattle.nb_records.specs.declared.switch.Switch.{Switch}
-use Rattle.nb_model.specs.Network.{Network}
+use Rattle.nb_model.specs.Network.{Network, Acl, Lb, Binding, Nat, Route, Router, RouterPort, AddrSet, Group, Port, Switch}
 use Rattle.nb_model.specs.Sound.{switch_ids, port_ids, router_ids, router_port_ids, route_ids, nat_ids, lb_ids, acl_ids, set_ids, group_ids, binding_ids}
 
 -- the numbers of each kind, in the order in which `all_ids` has them

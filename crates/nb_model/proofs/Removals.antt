@@ -3,19 +3,9 @@ use Rattle.std.proofs.Common.{ℕ, Bool, not, ◌&&◌, Option, List, ◌++◌, 
 use Rattle.std.specs.Prelude.{IsTrue}
 use Rattle.std.specs.List.{list_all, list_any}
 use Rattle.nv_base.specs.declared.object.ObjId.{ObjId}
-use Rattle.nb_records.specs.declared.acl.Acl.{Acl}
-use Rattle.nb_records.specs.declared.balancer.Lb.{Lb}
-use Rattle.nb_records.specs.declared.router.Binding.{Binding}
-use Rattle.nb_records.specs.declared.router.Nat.{Nat}
-use Rattle.nb_records.specs.declared.router.Route.{Route}
-use Rattle.nb_records.specs.declared.router.Router.{Router}
-use Rattle.nb_records.specs.declared.router.RouterPort.{RouterPort}
-use Rattle.nb_records.specs.declared.sets.Group.{Group}
-use Rattle.nb_records.specs.declared.switch.Port.{Port}
-use Rattle.nb_records.specs.declared.switch.Switch.{Switch}
 use Rattle.nb_model.specs.Belongs.{is_number, is_among}
 use Rattle.nb_model.specs.Effect.{without, without_ports, without_router_ports, without_lb, delete_switch, delete_router, delete_group}
-use Rattle.nb_model.specs.Network.{Network, same, switch_id, router_id, group_id}
+use Rattle.nb_model.specs.Network.{Network, same, switch_id, router_id, group_id, Acl, Lb, Binding, Nat, Route, Router, RouterPort, Group, Port, Switch}
 use Rattle.nb_model.specs.Sound.{Refer, switch_ids, port_ids, router_ids, router_port_ids, lb_ids, group_ids}
 use Rattle.nb_model.proofs.Lists.{all_kept_weaker, all_changed}
 use Rattle.nb_model.proofs.References.{refers, all_refer, among_both, among_others, among_kept}

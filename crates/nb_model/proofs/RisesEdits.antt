@@ -4,7 +4,6 @@ use Rattle.std.specs.Prelude.{IsTrue, is_some, unwrap_or, length, filter}
 use Rattle.std.specs.Str.{bytes_eq}
 use Rattle.std.proofs.lemmas.Bool.{cond_both, true≢false, false≢true}
 use Rattle.nv_base.specs.declared.object.ObjId.{ObjId}
-use Rattle.nb_records.specs.declared.balancer.Lb.{Lb}
 use Rattle.nb_records.specs.declared.balancer.Proto.{Proto}
 use Rattle.nb_records.specs.declared.balancer.Proto.TheVariants.{Tcp}
 use Rattle.nb_records.specs.declared.balancer.Vip.{Vip}
@@ -12,17 +11,11 @@ use Rattle.nb_records.specs.declared.edit.Edit.{Edit}
 use Rattle.nb_records.specs.declared.edit.Edit.TheVariants as edit
 use Rattle.nb_records.specs.declared.refusal.Kind.{Kind}
 use Rattle.nb_records.specs.declared.refusal.Kind.TheVariants as kind
-use Rattle.nb_records.specs.declared.router.Router.{Router}
-use Rattle.nb_records.specs.declared.router.RouterPort.{RouterPort}
-use Rattle.nb_records.specs.declared.sets.AddrSet.{AddrSet}
-use Rattle.nb_records.specs.declared.sets.Group.{Group}
-use Rattle.nb_records.specs.declared.switch.Port.{Port}
-use Rattle.nb_records.specs.declared.switch.Switch.{Switch}
 use Rattle.nb_records.specs.Tags.{address_count}
 use Rattle.nb_model.specs.Amounts.{amount, total, kinds, first_over, over_limit, vips_of}
 use Rattle.nb_model.specs.Belongs.{is_number, owner_id, is_to_router}
 use Rattle.nb_model.specs.Effect.{effect, each_where, without, where_there, add_switch, add_port, set_port, add_router, add_router_port, add_vip, new_vip, delete_vip, set_switch_lbs, set_router_lbs, with_number, is_detached, is_route, is_nat, is_acl, is_binding, acl_like, named_port_ids}
-use Rattle.nb_model.specs.Network.{Network, next_number, switch_named, router_named, port_named, router_port_named, lb_named, router_id, router_port_id, lb_id}
+use Rattle.nb_model.specs.Network.{Network, next_number, switch_named, router_named, port_named, router_port_named, lb_named, router_id, router_port_id, lb_id, Lb, Router, RouterPort, AddrSet, Group, Port, Switch}
 use Rattle.nb_model.specs.Rises.{may_rise}
 use Rattle.nb_model.specs.Sound.{IsSound}
 use Rattle.nb_model.proofs.Cases.{where_found}

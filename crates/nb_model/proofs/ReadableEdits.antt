@@ -31,25 +31,16 @@ without_first : (a b : Bool) → IsTrue (a && b) → IsTrue b
 without_first a b all = (and_parts a b all).1
 
 without_first_of_three : (a b c : Bool) → IsTrue (a && b && c) → IsTrue (b && c)
-without_first_of_three true b c all = all
-without_first_of_three false b c all = absurd (cc)
+without_first_of_three a b c all = grind arith
 
 without_first_of_four : (a b c d : Bool) → IsTrue (a && b && c && d) → IsTrue (b && c && d)
-without_first_of_four true b c d all = all
-without_first_of_four false b c d all = absurd (cc)
+without_first_of_four a b c d all = grind arith
 
 with_second : (a b other c d : Bool) → IsTrue (a && b && c && d) → IsTrue other → IsTrue (a && other && c && d)
-with_second true true true c d all is = all
-with_second true false other c d all is = absurd (cc)
-with_second false b other c d all is = absurd (cc)
-with_second true true false c d all is = absurd (cc)
+with_second a b other c d all is = grind arith
 
 with_third : (a b c other d : Bool) → IsTrue (a && b && c && d) → IsTrue other → IsTrue (a && b && other && d)
-with_third true true true true d all is = all
-with_third true true false other d all is = absurd (cc)
-with_third true false c other d all is = absurd (cc)
-with_third false b c other d all is = absurd (cc)
-with_third true true true false d all is = absurd (cc)
+with_third a b c other d all is = grind arith
 
 with_last : (a b other : Bool) → IsTrue (a && b) → IsTrue other → IsTrue (a && other)
 with_last a b other all is = and_from a other (and_parts a b all).0 is

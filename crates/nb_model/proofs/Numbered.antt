@@ -18,12 +18,12 @@ use Rattle.nb_model.proofs.RecordLists.{all_append}
 -- ---- lists of numbers, one of which is another
 
 -- each list has what all of them have, one after the other; and all have what each has
-each_part : (p : ObjId → Bool) (xss : List (List ObjId)) → IsTrue (list_all p (joined xss)) → AllByRecursion (λ xs. IsTrue (list_all p xs)) xss
+pub each_part : (p : ObjId → Bool) (xss : List (List ObjId)) → IsTrue (list_all p (joined xss)) → AllByRecursion (λ xs. IsTrue (list_all p xs)) xss
 each_part p [] all = tt
 each_part p (xs ∷ []) all = (all, tt)
 each_part p (xs ∷ ys ∷ more) all = let parts = all_parts p xs (joined (ys ∷ more)) all in (parts.0, each_part p (ys ∷ more) parts.1)
 
-all_joined : (p : ObjId → Bool) (xss : List (List ObjId)) → AllByRecursion (λ xs. IsTrue (list_all p xs)) xss → IsTrue (list_all p (joined xss))
+pub all_joined : (p : ObjId → Bool) (xss : List (List ObjId)) → AllByRecursion (λ xs. IsTrue (list_all p xs)) xss → IsTrue (list_all p (joined xss))
 all_joined p [] each = refl
 all_joined p (xs ∷ []) each = each.0
 all_joined p (xs ∷ ys ∷ more) each = all_append p xs (joined (ys ∷ more)) each.0 (all_joined p (ys ∷ more) each.1)
@@ -33,11 +33,11 @@ copies_joined n xs [] = omega arith
 copies_joined n xs (ys ∷ more) = copies_append n xs (joined (ys ∷ more))
 
 -- what each list has, as something weaker, and after the change
-each_as : (P Q : List ObjId → Type 0) (xss : List (List ObjId)) → ((xs : List ObjId) → P xs → Q xs) → AllByRecursion P xss → AllByRecursion Q xss
+pub each_as : (P Q : List ObjId → Type 0) (xss : List (List ObjId)) → ((xs : List ObjId) → P xs → Q xs) → AllByRecursion P xss → AllByRecursion Q xss
 each_as P Q [] weaker each = tt
 each_as P Q (xs ∷ xss) weaker each = (weaker xs each.0, each_as P Q xss weaker each.1)
 
-each_put : (P Q : List ObjId → Type 0) (k : ℕ) (ids : List ObjId) (xss : List (List ObjId)) → ((xs : List ObjId) → P xs → Q xs) → (P (get_or xss k []) → Q ids)
+pub each_put : (P Q : List ObjId → Type 0) (k : ℕ) (ids : List ObjId) (xss : List (List ObjId)) → ((xs : List ObjId) → P xs → Q xs) → (P (get_or xss k []) → Q ids)
     → AllByRecursion P xss → AllByRecursion Q (put_in k ids xss)
 each_put P Q k ids [] left changed each = tt
 each_put P Q zero ids (xs ∷ xss) left changed each = (changed each.0, each_as P Q xss left each.1)
@@ -94,13 +94,14 @@ are_used net all = let each = each_part (is_used net.next) (kinds net) all in as
 -- ---- one kind of a network changes
 
 -- numbers that rise, from 1 on and below the next one
-abbrev AreDrawn : ℕ → List ObjId → Type 0
+abbrev pub AreDrawn : ℕ → List ObjId → Type 0
 AreDrawn next ids = IsTrue (is_rising ids) × IsTrue (list_all (is_used next) ids)
 
-each_drawn : (net : Network) → AreNumbered net → AllByRecursion (AreDrawn net.next) (kinds net)
+-- A network is numbered where each kind's numbers are drawn, and all are apart.
+pub each_drawn : (net : Network) → AreNumbered net → AllByRecursion (AreDrawn net.next) (kinds net)
 each_drawn net numbered = let used = are_used net numbered.below in assumption (numbered.order, used)
 
-numbered_as : (net : Network) → AllByRecursion (AreDrawn net.next) (kinds net) → IsTrue (are_apart same (all_ids net)) → net.next < number_limit → 0 < net.next → AreNumbered net
+pub numbered_as : (net : Network) → AllByRecursion (AreDrawn net.next) (kinds net) → IsTrue (are_apart same (all_ids net)) → net.next < number_limit → 0 < net.next → AreNumbered net
 numbered_as net each apart room from_one = record {
   order = assumption each;
   apart = apart;

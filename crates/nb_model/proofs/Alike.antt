@@ -8,17 +8,13 @@ use Rattle.std.proofs.lemmas.Slice.Eq.{bytes_eq-Decides}
 use Rattle.expr_core.specs.Text.{typed_text}
 use Rattle.nv_base.specs.Block.{Block}
 use Rattle.nv_base.specs.declared.object.ObjId.{ObjId}
-use Rattle.nb_records.specs.declared.acl.Acl.{Acl}
 use Rattle.nb_records.specs.declared.acl.Way.{Way}
 use Rattle.nb_records.specs.declared.acl.Way.TheVariants.{From, To}
 use Rattle.nb_records.specs.declared.balancer.Frontend.{Frontend}
-use Rattle.nb_records.specs.declared.router.Binding.{Binding}
-use Rattle.nb_records.specs.declared.router.Nat.{Nat}
-use Rattle.nb_records.specs.declared.router.Route.{Route}
 use Rattle.nb_records.specs.declared.router.RouteBy.{RouteBy}
 use Rattle.nb_records.specs.declared.router.RouteBy.TheVariants.{Dst, Src}
 use Rattle.nb_model.specs.Belongs.{same_block, same_port, same_frontend, same_policy, is_snat, same_way, same_route, same_nat, same_acl, same_binding}
-use Rattle.nb_model.specs.Network.{same}
+use Rattle.nb_model.specs.Network.{same, Acl, Binding, Nat, Route}
 
 -- two tests that imply each other are one
 one_test : (x y : Bool) → (x ≡ true → y ≡ true) → (y ≡ true → x ≡ true) → x ≡ y

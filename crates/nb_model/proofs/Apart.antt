@@ -1,29 +1,19 @@
 -- No two records say the same: what each operation keeps.
-use Rattle.std.proofs.Common.{◌≡◌, ℕ, ◌+◌, Bool, true, false, not, ◌&&◌, Option, List, [], ◌∷◌, ◌++◌, refl, subst}
+use Rattle.std.proofs.Common.{◌≡◌, ℕ, Bool, true, false, not, ◌&&◌, Option, List, [], ◌∷◌, ◌++◌, refl, subst}
 use Rattle.std.specs.Prelude.{filter, if◌then◌else◌}
 use Rattle.std.specs.Bool.{IsTrue}
-use Rattle.std.specs.List.{list_all, list_any, filter_map}
+use Rattle.std.specs.List.{list_all, list_any}
 use Rattle.std.specs.Str.{bytes_eq}
 use Rattle.std.proofs.lemmas.Bool.{and_from}
 use Rattle.nv_base.specs.declared.object.ObjId.{ObjId}
-use Rattle.nb_records.specs.declared.acl.Acl.{Acl}
-use Rattle.nb_records.specs.declared.balancer.Lb.{Lb}
 use Rattle.nb_records.specs.declared.balancer.Vip.{Vip}
-use Rattle.nb_records.specs.declared.router.Binding.{Binding}
-use Rattle.nb_records.specs.declared.router.Nat.{Nat}
-use Rattle.nb_records.specs.declared.router.Route.{Route}
-use Rattle.nb_records.specs.declared.router.Router.{Router}
-use Rattle.nb_records.specs.declared.router.RouterPort.{RouterPort}
-use Rattle.nb_records.specs.declared.sets.Group.{Group}
-use Rattle.nb_records.specs.declared.switch.Port.{Port}
-use Rattle.nb_records.specs.declared.switch.Switch.{Switch}
 use Rattle.nb_model.specs.Belongs.{is_number, is_among, once, same_frontend, same_route, same_nat, same_acl, same_binding}
-use Rattle.nb_model.specs.Effect.{each_where, without, without_ports, without_router_ports, without_lb, named_port_ids, add_switch, add_router, delete_switch, delete_router, delete_group, with_number, set_switch_lbs, set_router_lbs}
-use Rattle.nb_model.specs.Network.{Network, next_number, same, switch_id, router_id, group_id, port_id}
+use Rattle.nb_model.specs.Effect.{without_ports, without_router_ports, without_lb, delete_switch, delete_router, delete_group, with_number, set_switch_lbs, set_router_lbs}
+use Rattle.nb_model.specs.Network.{Network, same, switch_id, router_id, group_id, Lb, Router, RouterPort, Group, Port, Switch}
 use Rattle.nb_model.specs.Readable.{are_apart}
 use Rattle.nb_model.specs.Sound.{AreApart}
 use Rattle.nb_model.proofs.Alike.{same_sym}
-use Rattle.nb_model.proofs.RecordLists.{all_as, all_filter, all_push, all_map, all_where, all_kept, none_any, apart_filter, apart_push}
+use Rattle.nb_model.proofs.RecordLists.{all_as, all_filter, all_map, all_where, all_kept, none_any, apart_filter, apart_push}
 
 -- each number once
 pub once_apart : (numbers : List ObjId) → IsTrue (are_apart same (once numbers))
@@ -113,18 +103,6 @@ module _ (net : Network) (before : AreApart net) where
     apart_filter same_acl (λ acl. not (is_number (group_id net name) acl.owner)) net.acls before.acls,
   )
 
-  pub delete_routes_apart : (gone : Route → Bool) → AreApart (record net { routes = without gone net.routes })
-  delete_routes_apart gone = assumption (apart_filter same_route (λ route. not (gone route)) net.routes before.routes)
-
-  pub delete_nats_apart : (gone : Nat → Bool) → AreApart (record net { nats = without gone net.nats })
-  delete_nats_apart gone = assumption (apart_filter same_nat (λ nat. not (gone nat)) net.nats before.nats)
-
-  pub delete_acls_apart : (gone : Acl → Bool) → AreApart (record net { acls = without gone net.acls })
-  delete_acls_apart gone = assumption (apart_filter same_acl (λ acl. not (gone acl)) net.acls before.acls)
-
-  pub delete_bindings_apart : (gone : Binding → Bool) → AreApart (record net { bindings = without gone net.bindings })
-  delete_bindings_apart gone = assumption (apart_filter same_binding (λ binding. not (gone binding)) net.bindings before.bindings)
-
   -- Some change.
 
   pub set_switch_lbs_apart : (name : List ℕ) (change : List ObjId → List ObjId) → ((numbers : List ObjId) → IsTrue (are_apart same numbers) → IsTrue (are_apart same (change numbers)))
@@ -136,36 +114,3 @@ module _ (net : Network) (before : AreApart net) where
       → AreApart (set_router_lbs net name change)
   set_router_lbs_apart name change keeps =
       assumption (all_where of_router (λ router. bytes_eq router.name name) (λ router. record router { lbs = change router.lbs }) net.routers (λ router. keeps router.lbs) before.of_routers)
-
-  pub set_ports_apart : (holds : Group → Bool) (names : List (List ℕ)) → AreApart (record net { groups = each_where holds (λ group. record group { ports = named_port_ids net names }) net.groups })
-  set_ports_apart holds names =
-      assumption (all_where of_group holds (λ group. record group { ports = named_port_ids net names }) net.groups (λ group is. once_apart (filter_map (port_id net) names)) before.of_groups)
-
-  pub set_vips_apart : (lbs : List Lb) → IsTrue (list_all of_lb lbs) → AreApart (record net { lbs = lbs })
-  set_vips_apart lbs all = assumption
-
-  -- One more.
-
-  pub add_switch_apart : (name : List ℕ) → AreApart (add_switch net name)
-  add_switch_apart name = assumption (all_push of_switch net.switches (record { id = next_number net; name = name; lbs = [] }) before.of_switches refl)
-
-  pub add_router_apart : (name : List ℕ) → AreApart (add_router net name)
-  add_router_apart name = assumption (all_push of_router net.routers (record { id = next_number net; name = name; lbs = [] }) before.of_routers refl)
-
-  pub add_lb_apart : (lb : Lb) → IsTrue (of_lb lb) → AreApart (record net { lbs = net.lbs ++ lb ∷ []; next = net.next + 1 })
-  add_lb_apart lb apart = assumption (all_push of_lb net.lbs lb before.vips apart)
-
-  pub add_group_apart : (group : Group) → IsTrue (of_group group) → AreApart (record net { groups = net.groups ++ group ∷ []; next = net.next + 1 })
-  add_group_apart group apart = assumption (all_push of_group net.groups group before.of_groups apart)
-
-  pub add_route_apart : (route : Route) → IsTrue (are_apart same_route (net.routes ++ route ∷ [])) → AreApart (record net { routes = net.routes ++ route ∷ []; next = net.next + 1 })
-  add_route_apart route apart = assumption
-
-  pub add_nat_apart : (nat : Nat) → IsTrue (are_apart same_nat (net.nats ++ nat ∷ [])) → AreApart (record net { nats = net.nats ++ nat ∷ []; next = net.next + 1 })
-  add_nat_apart nat apart = assumption
-
-  pub add_acl_apart : (acl : Acl) → IsTrue (are_apart same_acl (net.acls ++ acl ∷ [])) → AreApart (record net { acls = net.acls ++ acl ∷ []; next = net.next + 1 })
-  add_acl_apart acl apart = assumption
-
-  pub add_binding_apart : (binding : Binding) → IsTrue (are_apart same_binding (net.bindings ++ binding ∷ [])) → AreApart (record net { bindings = net.bindings ++ binding ∷ []; next = net.next + 1 })
-  add_binding_apart binding apart = assumption

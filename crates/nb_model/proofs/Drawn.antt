@@ -1,5 +1,5 @@
 -- An edit draws the next number, or none.
-use Rattle.std.proofs.Common.{◌≡◌, ℕ, ◌+◌, ◌⊎◌, inl, inr, Bool, cond, Some, None, refl}
+use Rattle.std.proofs.Common.{◌≡◌, ℕ, ◌+◌, ◌⊎◌, inl, inr, Bool, cond, Some, refl}
 use Rattle.std.specs.Prelude.{is_some}
 use Rattle.std.proofs.lemmas.Bool.{cond_both}
 use Rattle.nb_records.specs.declared.edit.Edit.{Edit}
@@ -20,42 +20,22 @@ where_new there net old changed none one = cond_both there old changed (Drawn ne
 pub edit_draws : (net : Network) (edit : Edit) → ((effect net edit).next ≡ net.next) ⊎ ((effect net edit).next ≡ net.next + 1)
 edit_draws net (edit.LsAdd name may) = where_new (is_some (switch_named net name)) net net (add_switch net name) (inl refl) (inr refl)
 edit_draws net (edit.LrAdd name may) = where_new (is_some (router_named net name)) net net (add_router net name) (inl refl) (inr refl)
-edit_draws net (edit.LsDel name may) = inl refl
-edit_draws net (edit.LrDel name may) = inl refl
 edit_draws net (edit.LspAdd switch port may) =
     where_new (is_some (port_named net port)) net net (where_there (switch_named net switch) (add_port net port) net) (inl refl)
     (where_found (Drawn net.next) (switch_named net switch) (add_port net port) net (inl refl) (λ s found. inr refl))
-edit_draws net (edit.LspDel port may) = inl refl
-edit_draws net (edit.LspSetAddresses port list) = inl refl
-edit_draws net (edit.LspSetPortSecurity port list) = inl refl
-edit_draws net (edit.LspSetType port kind) = inl refl
-edit_draws net (edit.LspSetOptions port name) = inl refl
-edit_draws net (edit.LspSetEnabled port enabled) = inl refl
-edit_draws net (edit.LrpSetEnabled port enabled) = inl refl
 edit_draws net (edit.LrpAdd router port mac nets may) =
     where_new (is_some (router_port_named net port)) net net (where_there (router_named net router) (add_router_port net port mac nets) net) (inl refl)
     (where_found (Drawn net.next) (router_named net router) (add_router_port net port mac nets) net (inl refl) (λ r found. inr refl))
-edit_draws net (edit.LrpDel port may) = inl refl
 edit_draws net (edit.LrRouteAdd router prefix nexthop port by) = where_found (Drawn net.next) (router_id net router) _ net (inl refl) (λ r found. inr refl)
-edit_draws net (edit.LrRouteDel router prefix may by) = inl refl
 edit_draws net (edit.LrNatAdd router kind external logical) = where_found (Drawn net.next) (router_id net router) _ net (inl refl) (λ r found. inr refl)
-edit_draws net (edit.LrNatDel router kind at may) = inl refl
 edit_draws net (edit.LbAdd name at backends proto) = where_new (is_some (lb_named net name)) net _ _ (inl refl) (inr refl)
-edit_draws net (edit.LbDel name None may) = inl refl
 edit_draws net (edit.LbDel name (Some at) may) =
     where_found (Drawn net.next) (lb_named net name) (delete_vip net at) net (inl refl) (λ lb found. where_new (is_last_vip at lb) net _ _ (inl refl) (inl refl))
 edit_draws net (edit.LsLbAdd switch name may) = where_found (Drawn net.next) (lb_id net name) _ net (inl refl) (λ number found. inl refl)
 edit_draws net (edit.LrLbAdd router name may) = where_found (Drawn net.next) (lb_id net name) _ net (inl refl) (λ number found. inl refl)
-edit_draws net (edit.LsLbDel switch name may) = inl refl
-edit_draws net (edit.LrLbDel router name may) = inl refl
 edit_draws net (edit.AclAdd name way priority matching verdict may of) =
     where_found (Drawn net.next) (owner_id net of name) _ net (inl refl) (λ owner found. where_new _ net net _ (inl refl) (inr refl))
-edit_draws net (edit.AclDel name way rule of) = inl refl
 edit_draws net (edit.PgAdd name ports) = inr refl
-edit_draws net (edit.PgSetPorts name ports) = inl refl
-edit_draws net (edit.PgDel name may) = inl refl
 edit_draws net (edit.AsAdd name members) = inr refl
-edit_draws net (edit.AsSet name members) = inl refl
-edit_draws net (edit.AsDel name may) = inl refl
 edit_draws net (edit.SmbAdd port addr mac) = where_found (Drawn net.next) (router_port_id net port) _ net (inl refl) (λ p found. inr refl)
-edit_draws net (edit.SmbDel port addr may) = inl refl
+edit_draws net _ = inl refl

@@ -1,5 +1,5 @@
 -- The numbers of one kind before and after an edit: some gone, or the next one more.
-use Rattle.std.proofs.Common.{◌≡◌, ℕ, ◌+◌, ◌<◌, ◌≤◌, Bool, true, false, not, ◌&&◌, cond, eqb, List, [], ◌∷◌, ◌++◌, map, refl, sym, ap, ◌∙◌, subst, arith}
+use Rattle.std.proofs.Common.{◌≡◌, ℕ, ◌+◌, ◌<◌, ◌≤◌, Bool, not, ◌&&◌, cond, eqb, List, [], ◌∷◌, ◌++◌, map, refl, sym, ap, ◌∙◌, subst, arith}
 use Rattle.std.specs.Prelude.{IsTrue, nat_lt, filter}
 use Rattle.std.specs.List.{list_all}
 use Rattle.std.proofs.lemmas.List.{map-append}
@@ -9,7 +9,7 @@ use Rattle.nv_base.specs.declared.object.ObjId.{ObjId}
 use Rattle.nb_model.specs.Effect.{without}
 use Rattle.nb_model.specs.Sound.{is_rising}
 use Rattle.nb_model.proofs.Copies.{copies, copies_append, copies_kept}
-use Rattle.nb_model.proofs.Lists.{all_append, all_parts, all_kept, all_weaker}
+use Rattle.nb_model.proofs.RecordLists.{all_as, all_filter, all_push}
 
 -- a number from 1 on and below the next one
 abbrev pub is_used : ℕ → ObjId → Bool
@@ -32,14 +32,14 @@ used_later next after later x used =
 pub untouched : (next after : ℕ) (ids : List ObjId) → next ≤ after → Kept next after 0 ids ids
 untouched next after ids later = record {
   rising = λ rising below. rising;
-  below = λ below. all_weaker (is_used next) (is_used after) ids (used_later next after later) below;
+  below = λ below. all_as (is_used next) (is_used after) ids (used_later next after later) below;
   once = λ n. omega arith;
 }
 
 -- of the numbers of those that are kept
 pub all_map_kept : {X : Type 0} (p : ObjId → Bool) (id : X → ObjId) (keep : X → Bool) (xs : List X) → IsTrue (list_all p (map id xs)) → IsTrue (list_all p (map id (filter keep xs)))
 all_map_kept p id keep xs all =
-    list_all-map p id (filter keep xs) ∙ all_kept (λ x. p (id x)) keep xs (sym (list_all-map p id xs) ∙ all)
+    list_all-map p id (filter keep xs) ∙ all_filter (λ x. p (id x)) keep xs (sym (list_all-map p id xs) ∙ all)
 
 -- numbers that rise still do with some gone
 pub rising_kept : {X : Type 0} (id : X → ObjId) (keep : X → Bool) (xs : List X) → IsTrue (is_rising (map id xs)) → IsTrue (is_rising (map id (filter keep xs)))
@@ -75,15 +75,15 @@ rising_more next (x ∷ xs) rising below =
     let low = and_parts (nat_lt 0 x.0) (nat_lt x.0 next) used.0 in
     let new : List ObjId = record { 0 = next } ∷ [] in
     and_from (list_all above (xs ++ new)) (is_rising (xs ++ new))
-    (all_append above xs new parts.0 (and_from (nat_lt x.0 next) true low.1 refl)) (rising_more next xs parts.1 used.1)
+    (all_push above xs (record { 0 = next }) parts.0 low.1) (rising_more next xs parts.1 used.1)
 
 -- the next number more
 one_more : (next : ℕ) (ids : List ObjId) → 0 < next → Kept next (next + 1) 1 ids (ids ++ record { 0 = next } ∷ [])
 one_more next ids from_one = record {
   rising = rising_more next ids;
   below = λ below.
-      all_append (is_used (next + 1)) ids (record { 0 = next } ∷ []) (all_weaker (is_used next) (is_used (next + 1)) ids (used_later next (next + 1) (omega arith)) below)
-      (and_from (is_used (next + 1) (record { 0 = next })) true (and_from (nat_lt 0 next) (nat_lt next (next + 1)) (lt-ltb 0 next from_one) (lt-ltb next (next + 1) (omega arith))) refl);
+      all_push (is_used (next + 1)) ids (record { 0 = next }) (all_as (is_used next) (is_used (next + 1)) ids (used_later next (next + 1) (omega arith)) below)
+      (and_from (nat_lt 0 next) (nat_lt next (next + 1)) (lt-ltb 0 next from_one) (lt-ltb next (next + 1) (omega arith)));
   once = λ n. let split = copies_append n ids (record { 0 = next } ∷ []) in omega (arith, split);
 }
 
@@ -92,23 +92,3 @@ pub one_new : {X : Type 0} (id : X → ObjId) (xs : List X) (x : X) (next : ℕ)
 one_new id xs x next from_one is =
     subst (λ (given : List ObjId). Kept next (next + 1) 1 (map id xs) given)
     (sym (map-append id xs (x ∷ []) ∙ ap (λ (number : ObjId). map id xs ++ number ∷ []) is)) (one_more next (map id xs) from_one)
-
--- numbers of two kinds, one after the other
-pub record Counted (next after more : ℕ) (ids ids' : List ObjId) : Type 0 where
-  pub below : IsTrue (list_all (is_used next) ids) → IsTrue (list_all (is_used after) ids')
-  pub once : (n : ℕ) → copies n ids' ≤ copies n ids + cond (eqb n next) more 0
-
-pub counted : (next after more : ℕ) (ids ids' : List ObjId) → Kept next after more ids ids' → Counted next after more ids ids'
-counted next after more ids ids' kept = record { below = kept.below; once = kept.once }
-
-pub both_counted : (next after m n : ℕ) (xs xs' ys ys' : List ObjId) → Kept next after m xs xs' → Counted next after n ys ys' → Counted next after (m + n) (xs ++ ys) (xs' ++ ys')
-both_counted next after m n xs xs' ys ys' a b = record {
-  below = λ below. let parts = all_parts (is_used next) xs ys below in all_append (is_used after) xs' ys' (a.below parts.0) (b.below parts.1);
-  once = λ k. sums k (eqb k next) (copies_append k xs ys) (copies_append k xs' ys') (a.once k) (b.once k);
-}
-  where
-    sums : (k : ℕ) (at : Bool) → copies k (xs ++ ys) ≡ copies k xs + copies k ys → copies k (xs' ++ ys') ≡ copies k xs' + copies k ys'
-        → copies k xs' ≤ copies k xs + cond at m 0 → copies k ys' ≤ copies k ys + cond at n 0
-        → copies k (xs' ++ ys') ≤ copies k (xs ++ ys) + cond at (m + n) 0
-    sums k true old new a b = omega arith
-    sums k false old new a b = omega arith

@@ -10,7 +10,6 @@ pub mod Drawn
 pub mod EditsNumbered
 pub mod EditsRefer
 pub mod Kept
-pub mod KindsNumbered
 pub mod ListReadings
 pub mod Lists
 pub mod MatchReadings
@@ -21,9 +20,9 @@ pub mod Passed
 pub mod Readable
 pub mod ReadableEdits
 pub mod Reading
+pub mod RecordKinds
 pub mod RecordLists
 pub mod References
-pub mod Referring
 pub mod Removals
 pub mod Rises
 pub mod RisesApplies

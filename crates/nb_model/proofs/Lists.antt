@@ -16,27 +16,9 @@ same_self a = eq-eqb a.0 a.0 refl
 pub same_is : (a b : ObjId) → IsTrue (same a b) → a ≡ b
 same_is a b is = ap (λ (n : ℕ). record { 0 = n }) (eqb-true a.0 b.0 is)
 
--- what holds of each element of two lists
-pub all_append : {X : Type 0} (p : X → Bool) (xs ys : List X) → IsTrue (list_all p xs) → IsTrue (list_all p ys) → IsTrue (list_all p (xs ++ ys))
-all_append p xs ys a b = list_all-append p xs ys ∙ and_from (list_all p xs) (list_all p ys) a b
-
+-- what holds of each element of two lists holds of those of each
 pub all_parts : {X : Type 0} (p : X → Bool) (xs ys : List X) → IsTrue (list_all p (xs ++ ys)) → IsTrue (list_all p xs) × IsTrue (list_all p ys)
 all_parts p xs ys all = and_parts (list_all p xs) (list_all p ys) (sym (list_all-append p xs ys) ∙ all)
-
--- of the elements that are kept
-pub all_kept : {X : Type 0} (p q : X → Bool) (xs : List X) → IsTrue (list_all p xs) → IsTrue (list_all p (filter q xs))
-all_kept p q [] all = refl
-all_kept p q (x ∷ xs) all =
-    let parts = and_parts (p x) (list_all p xs) all in
-    let more = all_kept p q xs parts.1 in
-    cond_both (q x) (x ∷ filter q xs) (filter q xs) (λ ys. IsTrue (list_all p ys)) (λ is. and_from (p x) (list_all p (filter q xs)) parts.0 more) (λ is. more)
-
--- of each element something weaker
-pub all_weaker : {X : Type 0} (p q : X → Bool) (xs : List X) → ((x : X) → IsTrue (p x) → IsTrue (q x)) → IsTrue (list_all p xs) → IsTrue (list_all q xs)
-all_weaker p q [] weaker all = refl
-all_weaker p q (x ∷ xs) weaker all =
-    let parts = and_parts (p x) (list_all p xs) all in
-    and_from (q x) (list_all q xs) (weaker x parts.0) (all_weaker p q xs weaker parts.1)
 
 -- of the elements that are kept something weaker, where they are kept
 pub all_kept_weaker : {X : Type 0} (p q keep : X → Bool) (xs : List X) → ((x : X) → IsTrue (keep x) → IsTrue (p x) → IsTrue (q x))

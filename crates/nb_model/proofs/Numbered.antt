@@ -1,27 +1,53 @@
 -- The numbers of a network of which one kind of records changes.
-use Rattle.std.proofs.Common.{◌≡◌, ℕ, ◌+◌, ◌<◌, ◌≤◌, Bool, true, false, cond, eqb, List, [], ◌∷◌, ◌++◌, map, refl, sym, subst, arith}
+use Rattle.std.proofs.Common.{◌≡◌, ℕ, ◌+◌, ◌<◌, ◌≤◌, Bool, true, false, zero, suc, cond, eqb, List, [], ◌∷◌, ◌++◌, map, get_or, refl, sym, subst, arith}
 use Rattle.std.specs.Prelude.{IsTrue, nat_lt}
-use Rattle.std.specs.List.{list_all}
+use Rattle.std.specs.List.{list_all, AllByRecursion}
 use Rattle.std.proofs.lemmas.Bool.{and_parts, eqb-true, ltb-true}
-use Rattle.nv_base.specs.declared.object.ObjId.{ObjId}
-use Rattle.nb_records.specs.declared.acl.Acl.{Acl}
-use Rattle.nb_records.specs.declared.balancer.Lb.{Lb}
-use Rattle.nb_records.specs.declared.router.Binding.{Binding}
-use Rattle.nb_records.specs.declared.router.Nat.{Nat}
-use Rattle.nb_records.specs.declared.router.Route.{Route}
-use Rattle.nb_records.specs.declared.router.Router.{Router}
-use Rattle.nb_records.specs.declared.router.RouterPort.{RouterPort}
-use Rattle.nb_records.specs.declared.sets.AddrSet.{AddrSet}
-use Rattle.nb_records.specs.declared.sets.Group.{Group}
-use Rattle.nb_records.specs.declared.switch.Port.{Port}
-use Rattle.nb_records.specs.declared.switch.Switch.{Switch}
-use Rattle.nb_model.specs.Network.{Network, same}
-use Rattle.nb_model.specs.Readable.{are_apart}
-use Rattle.nb_model.specs.Sound.{AreNumbered, all_ids, switch_ids, port_ids, router_ids, router_port_ids, route_ids, nat_ids, lb_ids, acl_ids, set_ids, group_ids, binding_ids}
-use Rattle.nb_model.proofs.Copies.{copies, copies_apart, apart_copies}
-use Rattle.nb_model.proofs.Kept.{Kept, Counted, is_used, counted, both_counted, untouched}
-use Rattle.nb_model.proofs.Lists.{all_parts}
 use Rattle.nv_base.specs.Object.{number_limit}
+use Rattle.nv_base.specs.declared.object.ObjId.{ObjId}
+use Rattle.nb_model.specs.Effect.{each_where, without}
+use Rattle.nb_model.specs.Network.{Network, next_number, same}
+use Rattle.nb_model.specs.Readable.{are_apart}
+use Rattle.nb_model.specs.Sound.{AreNumbered, is_rising, all_ids, switch_ids, port_ids, router_ids, router_port_ids, route_ids, nat_ids, lb_ids, acl_ids, set_ids, group_ids, binding_ids}
+use Rattle.nb_model.proofs.Copies.{copies, copies_append, copies_apart, apart_copies}
+use Rattle.nb_model.proofs.Kept.{Kept, is_used, untouched, some_gone, same_numbers, one_new}
+use Rattle.nb_model.proofs.RecordKinds.{KindOf, kinds, joined, put_in}
+use Rattle.nb_model.proofs.Lists.{all_parts, map_changed, map_changed_where}
+use Rattle.nb_model.proofs.RecordLists.{all_append}
+
+-- ---- lists of numbers, one of which is another
+
+-- each list has what all of them have, one after the other; and all have what each has
+pub each_part : (p : ObjId → Bool) (xss : List (List ObjId)) → IsTrue (list_all p (joined xss)) → AllByRecursion (λ xs. IsTrue (list_all p xs)) xss
+each_part p [] all = tt
+each_part p (xs ∷ []) all = (all, tt)
+each_part p (xs ∷ ys ∷ more) all = let parts = all_parts p xs (joined (ys ∷ more)) all in (parts.0, each_part p (ys ∷ more) parts.1)
+
+pub all_joined : (p : ObjId → Bool) (xss : List (List ObjId)) → AllByRecursion (λ xs. IsTrue (list_all p xs)) xss → IsTrue (list_all p (joined xss))
+all_joined p [] each = refl
+all_joined p (xs ∷ []) each = each.0
+all_joined p (xs ∷ ys ∷ more) each = all_append p xs (joined (ys ∷ more)) each.0 (all_joined p (ys ∷ more) each.1)
+
+copies_joined : (n : ℕ) (xs : List ObjId) (xss : List (List ObjId)) → copies n (joined (xs ∷ xss)) ≡ copies n xs + copies n (joined xss)
+copies_joined n xs [] = omega arith
+copies_joined n xs (ys ∷ more) = copies_append n xs (joined (ys ∷ more))
+
+-- what each list has, as something weaker, and after the change
+pub each_as : (P Q : List ObjId → Type 0) (xss : List (List ObjId)) → ((xs : List ObjId) → P xs → Q xs) → AllByRecursion P xss → AllByRecursion Q xss
+each_as P Q [] weaker each = tt
+each_as P Q (xs ∷ xss) weaker each = (weaker xs each.0, each_as P Q xss weaker each.1)
+
+pub each_put : (P Q : List ObjId → Type 0) (k : ℕ) (ids : List ObjId) (xss : List (List ObjId)) → ((xs : List ObjId) → P xs → Q xs) → (P (get_or xss k []) → Q ids)
+    → AllByRecursion P xss → AllByRecursion Q (put_in k ids xss)
+each_put P Q k ids [] left changed each = tt
+each_put P Q zero ids (xs ∷ xss) left changed each = (changed each.0, each_as P Q xss left each.1)
+each_put P Q (suc k) ids (xs ∷ xss) left changed each = (left xs each.0, each_put P Q k ids xss left changed each.1)
+
+-- how often a number stands in them then
+copies_put : (n k : ℕ) (ids : List ObjId) (xss : List (List ObjId)) → copies n (joined (put_in k ids xss)) + copies n (get_or xss k []) ≤ copies n (joined xss) + copies n ids
+copies_put n k ids [] = omega arith
+copies_put n zero ids (xs ∷ xss) = omega (arith, copies_joined n xs xss, copies_joined n ids xss)
+copies_put n (suc k) ids (xs ∷ xss) = omega (arith, copies_joined n xs xss, copies_joined n xs (put_in k ids xss), copies_put n k ids xss)
 
 -- the next number is none of those below it
 next_is_new : (next : ℕ) (ids : List ObjId) → IsTrue (list_all (is_used next) ids) → copies next ids ≡ 0
@@ -36,10 +62,10 @@ next_is_new next (x ∷ xs) below =
     by false is low none = omega arith
 
 -- numbers stay apart where at most the next one is new
-apart_after : (next after more : ℕ) (ids ids' : List ObjId) → more ≤ 1 → Counted next after more ids ids' → IsTrue (list_all (is_used next) ids)
+apart_after : (next more : ℕ) (ids ids' : List ObjId) → more ≤ 1 → ((n : ℕ) → copies n ids' ≤ copies n ids + cond (eqb n next) more 0) → IsTrue (list_all (is_used next) ids)
     → IsTrue (are_apart same ids) → IsTrue (are_apart same ids')
-apart_after next after more ids ids' one counted below apart =
-    apart_copies ids' (λ n. by n (eqb n next) refl (copies_apart ids apart n) (counted.once n))
+apart_after next more ids ids' one once below apart =
+    apart_copies ids' (λ n. by n (eqb n next) refl (copies_apart ids apart n) (once n))
   where
     by : (n : ℕ) (b : Bool) → eqb n next ≡ b → copies n ids ≤ 1 → copies n ids' ≤ copies n ids + cond b more 0 → copies n ids' ≤ 1
     by n true is once few =
@@ -62,177 +88,65 @@ pub record AreUsed (net : Network) : Type 0 where
   pub groups : IsTrue (list_all (is_used net.next) (group_ids net))
   pub bindings : IsTrue (list_all (is_used net.next) (binding_ids net))
 
--- the numbers of all kinds, from one kind on
 pub are_used : (net : Network) → IsTrue (list_all (is_used net.next) (all_ids net)) → AreUsed net
-are_used net all =
-    let from_switches = all_parts (is_used net.next) (switch_ids net) (port_ids net ++ (router_ids net ++ (router_port_ids net ++ (route_ids net ++ (nat_ids net ++ (lb_ids net ++ (acl_ids net ++ (set_ids net ++ (group_ids net ++ (binding_ids net)))))))))) all in
-    let from_ports = all_parts (is_used net.next) (port_ids net) (router_ids net ++ (router_port_ids net ++ (route_ids net ++ (nat_ids net ++ (lb_ids net ++ (acl_ids net ++ (set_ids net ++ (group_ids net ++ (binding_ids net))))))))) from_switches.1 in
-    let from_routers = all_parts (is_used net.next) (router_ids net) (router_port_ids net ++ (route_ids net ++ (nat_ids net ++ (lb_ids net ++ (acl_ids net ++ (set_ids net ++ (group_ids net ++ (binding_ids net)))))))) from_ports.1 in
-    let from_router_ports = all_parts (is_used net.next) (router_port_ids net) (route_ids net ++ (nat_ids net ++ (lb_ids net ++ (acl_ids net ++ (set_ids net ++ (group_ids net ++ (binding_ids net))))))) from_routers.1 in
-    let from_routes = all_parts (is_used net.next) (route_ids net) (nat_ids net ++ (lb_ids net ++ (acl_ids net ++ (set_ids net ++ (group_ids net ++ (binding_ids net)))))) from_router_ports.1 in
-    let from_nats = all_parts (is_used net.next) (nat_ids net) (lb_ids net ++ (acl_ids net ++ (set_ids net ++ (group_ids net ++ (binding_ids net))))) from_routes.1 in
-    let from_lbs = all_parts (is_used net.next) (lb_ids net) (acl_ids net ++ (set_ids net ++ (group_ids net ++ (binding_ids net)))) from_nats.1 in
-    let from_acls = all_parts (is_used net.next) (acl_ids net) (set_ids net ++ (group_ids net ++ (binding_ids net))) from_lbs.1 in
-    let from_sets = all_parts (is_used net.next) (set_ids net) (group_ids net ++ (binding_ids net)) from_acls.1 in
-    let from_groups = all_parts (is_used net.next) (group_ids net) (binding_ids net) from_sets.1 in
-    record {
-      switches = from_switches.0;
-      ports = from_ports.0;
-      routers = from_routers.0;
-      router_ports = from_router_ports.0;
-      routes = from_routes.0;
-      nats = from_nats.0;
-      lbs = from_lbs.0;
-      acls = from_acls.0;
-      sets = from_sets.0;
-      groups = from_groups.0;
-      bindings = from_groups.1;
-    }
+are_used net all = let each = each_part (is_used net.next) (kinds net) all in assumption each
 
--- A network is numbered after each kind's numbers are kept, where at most one is new.
-pub numbered_after : {a b c d e f g h i j k : ℕ} (net net' : Network) → AreNumbered net → net'.next < number_limit → 0 < net'.next
-    → a + (b + (c + (d + (e + (f + (g + (h + (i + (j + k))))))))) ≤ 1
-    → Kept net.next net'.next a (switch_ids net) (switch_ids net')
-    → Kept net.next net'.next b (port_ids net) (port_ids net')
-    → Kept net.next net'.next c (router_ids net) (router_ids net')
-    → Kept net.next net'.next d (router_port_ids net) (router_port_ids net')
-    → Kept net.next net'.next e (route_ids net) (route_ids net')
-    → Kept net.next net'.next f (nat_ids net) (nat_ids net')
-    → Kept net.next net'.next g (lb_ids net) (lb_ids net')
-    → Kept net.next net'.next h (acl_ids net) (acl_ids net')
-    → Kept net.next net'.next i (set_ids net) (set_ids net')
-    → Kept net.next net'.next j (group_ids net) (group_ids net')
-    → Kept net.next net'.next k (binding_ids net) (binding_ids net')
-    → AreNumbered net'
-numbered_after {a = a} {b = b} {c = c} {d = d} {e = e} {f = f} {g = g} {h = h} {i = i} {j = j} {k = k} net net' numbered room from_one one of_switches of_ports of_routers of_router_ports of_routes of_nats of_lbs of_acls of_sets of_groups of_bindings =
-    let used = are_used net numbered.below in
-    let from_bindings = counted net.next net'.next k (binding_ids net) (binding_ids net') of_bindings in
-    let from_groups = both_counted net.next net'.next j (k) (group_ids net) (group_ids net') (binding_ids net) (binding_ids net') of_groups from_bindings in
-    let from_sets = both_counted net.next net'.next i (j + k) (set_ids net) (set_ids net') (group_ids net ++ (binding_ids net)) (group_ids net' ++ (binding_ids net')) of_sets from_groups in
-    let from_acls = both_counted net.next net'.next h (i + (j + k)) (acl_ids net) (acl_ids net') (set_ids net ++ (group_ids net ++ (binding_ids net))) (set_ids net' ++ (group_ids net' ++ (binding_ids net'))) of_acls from_sets in
-    let from_lbs = both_counted net.next net'.next g (h + (i + (j + k))) (lb_ids net) (lb_ids net') (acl_ids net ++ (set_ids net ++ (group_ids net ++ (binding_ids net)))) (acl_ids net' ++ (set_ids net' ++ (group_ids net' ++ (binding_ids net')))) of_lbs from_acls in
-    let from_nats = both_counted net.next net'.next f (g + (h + (i + (j + k)))) (nat_ids net) (nat_ids net') (lb_ids net ++ (acl_ids net ++ (set_ids net ++ (group_ids net ++ (binding_ids net))))) (lb_ids net' ++ (acl_ids net' ++ (set_ids net' ++ (group_ids net' ++ (binding_ids net'))))) of_nats from_lbs in
-    let from_routes = both_counted net.next net'.next e (f + (g + (h + (i + (j + k))))) (route_ids net) (route_ids net') (nat_ids net ++ (lb_ids net ++ (acl_ids net ++ (set_ids net ++ (group_ids net ++ (binding_ids net)))))) (nat_ids net' ++ (lb_ids net' ++ (acl_ids net' ++ (set_ids net' ++ (group_ids net' ++ (binding_ids net')))))) of_routes from_nats in
-    let from_router_ports = both_counted net.next net'.next d (e + (f + (g + (h + (i + (j + k)))))) (router_port_ids net) (router_port_ids net') (route_ids net ++ (nat_ids net ++ (lb_ids net ++ (acl_ids net ++ (set_ids net ++ (group_ids net ++ (binding_ids net))))))) (route_ids net' ++ (nat_ids net' ++ (lb_ids net' ++ (acl_ids net' ++ (set_ids net' ++ (group_ids net' ++ (binding_ids net'))))))) of_router_ports from_routes in
-    let from_routers = both_counted net.next net'.next c (d + (e + (f + (g + (h + (i + (j + k))))))) (router_ids net) (router_ids net') (router_port_ids net ++ (route_ids net ++ (nat_ids net ++ (lb_ids net ++ (acl_ids net ++ (set_ids net ++ (group_ids net ++ (binding_ids net)))))))) (router_port_ids net' ++ (route_ids net' ++ (nat_ids net' ++ (lb_ids net' ++ (acl_ids net' ++ (set_ids net' ++ (group_ids net' ++ (binding_ids net')))))))) of_routers from_router_ports in
-    let from_ports = both_counted net.next net'.next b (c + (d + (e + (f + (g + (h + (i + (j + k)))))))) (port_ids net) (port_ids net') (router_ids net ++ (router_port_ids net ++ (route_ids net ++ (nat_ids net ++ (lb_ids net ++ (acl_ids net ++ (set_ids net ++ (group_ids net ++ (binding_ids net))))))))) (router_ids net' ++ (router_port_ids net' ++ (route_ids net' ++ (nat_ids net' ++ (lb_ids net' ++ (acl_ids net' ++ (set_ids net' ++ (group_ids net' ++ (binding_ids net'))))))))) of_ports from_routers in
-    let from_switches = both_counted net.next net'.next a (b + (c + (d + (e + (f + (g + (h + (i + (j + k))))))))) (switch_ids net) (switch_ids net') (port_ids net ++ (router_ids net ++ (router_port_ids net ++ (route_ids net ++ (nat_ids net ++ (lb_ids net ++ (acl_ids net ++ (set_ids net ++ (group_ids net ++ (binding_ids net)))))))))) (port_ids net' ++ (router_ids net' ++ (router_port_ids net' ++ (route_ids net' ++ (nat_ids net' ++ (lb_ids net' ++ (acl_ids net' ++ (set_ids net' ++ (group_ids net' ++ (binding_ids net')))))))))) of_switches from_ports in
-    record {
-      order = record {
-        switches = of_switches.rising numbered.order.switches used.switches;
-        ports = of_ports.rising numbered.order.ports used.ports;
-        routers = of_routers.rising numbered.order.routers used.routers;
-        router_ports = of_router_ports.rising numbered.order.router_ports used.router_ports;
-        routes = of_routes.rising numbered.order.routes used.routes;
-        nats = of_nats.rising numbered.order.nats used.nats;
-        lbs = of_lbs.rising numbered.order.lbs used.lbs;
-        acls = of_acls.rising numbered.order.acls used.acls;
-        sets = of_sets.rising numbered.order.sets used.sets;
-        groups = of_groups.rising numbered.order.groups used.groups;
-        bindings = of_bindings.rising numbered.order.bindings used.bindings;
-      };
-      apart = apart_after net.next net'.next (a + (b + (c + (d + (e + (f + (g + (h + (i + (j + k)))))))))) (all_ids net) (all_ids net') one from_switches numbered.below numbered.apart;
-      below = from_switches.below numbered.below;
-      room = room;
-      from_one = from_one;
-    }
+-- ---- one kind of a network changes
 
--- the next number after an edit, and how many numbers are new
-pub record Next (net : Network) (after more : ℕ) : Type 0 where
-  pub one : more ≤ 1
-  pub later : net.next ≤ after
-  pub room : after < number_limit
+-- numbers that rise, from 1 on and below the next one
+abbrev pub AreDrawn : ℕ → List ObjId → Type 0
+AreDrawn next ids = IsTrue (is_rising ids) × IsTrue (list_all (is_used next) ids)
 
-pub no_number : (net : Network) → AreNumbered net → Next net net.next 0
-no_number net numbered = record { one = omega arith; later = omega arith; room = numbered.room }
+-- A network is numbered where each kind's numbers are drawn, and all are apart.
+pub each_drawn : (net : Network) → AreNumbered net → AllByRecursion (AreDrawn net.next) (kinds net)
+each_drawn net numbered = let used = are_used net numbered.below in assumption (numbered.order, used)
 
-pub a_number : (net : Network) → net.next + 1 < number_limit → Next net (net.next + 1) 1
-a_number net room = record { one = omega arith; later = omega arith; room = room }
+pub numbered_as : (net : Network) → AllByRecursion (AreDrawn net.next) (kinds net) → IsTrue (are_apart same (all_ids net)) → net.next < number_limit → 0 < net.next → AreNumbered net
+numbered_as net each apart room from_one = record {
+  order = assumption each;
+  apart = apart;
+  below = all_joined (is_used net.next) (kinds net) (each_as (AreDrawn net.next) (λ ids. IsTrue (list_all (is_used net.next) ids)) (kinds net) (λ ids drawn. drawn.1) each);
+  room = room;
+  from_one = from_one;
+}
 
-pub with_switches : {more : ℕ} (net : Network) (after : ℕ) (xs : List Switch) → Next net after more → Kept net.next after more (switch_ids net) (map (λ x. x.id) xs)
-    → AreNumbered net → AreNumbered (record net { switches = xs; next = after })
-with_switches {more = more} net after xs next of numbered =
-    let left = λ (ids : List ObjId). untouched net.next after ids next.later in
-    let one : more + (0 + (0 + (0 + (0 + (0 + (0 + (0 + (0 + (0 + 0))))))))) ≤ 1 = omega (arith, next.one) in
-    numbered_after net (record net { switches = xs; next = after }) numbered next.room (omega (arith, numbered.from_one, next.later)) one
-    of (left (port_ids net)) (left (router_ids net)) (left (router_port_ids net)) (left (route_ids net)) (left (nat_ids net)) (left (lb_ids net)) (left (acl_ids net)) (left (set_ids net)) (left (group_ids net)) (left (binding_ids net))
+-- What a kind's numbers become keeps a network numbered, where at most the next number is new.
+kind_kept : {X : Type 0} (kind : KindOf X) (net : Network) (more after : ℕ) (xs : List X) → more ≤ 1 → net.next ≤ after → after < number_limit
+    → Kept net.next after more (map kind.number (kind.list net)) (map kind.number xs) → AreNumbered net → AreNumbered (kind.with_list xs after net)
+kind_kept kind net more after xs one later room kept is =
+    let ids : List ObjId = map kind.number xs in
+    let old : List ObjId = get_or (kinds net) kind.place [] in
+    let now : List (List ObjId) = put_in kind.place ids (kinds net) in
+    let changed : Network = kind.with_list xs after net in
+    let of : Kept net.next after more old ids = subst (λ given. Kept net.next after more given ids) (sym (kind.read net)) kept in
+    let each : AllByRecursion (AreDrawn after) now = each_put (AreDrawn net.next) (AreDrawn after) kind.place ids (kinds net)
+    (λ given drawn. (drawn.0, (untouched net.next after given later).below drawn.1)) (λ drawn. (of.rising drawn.0 drawn.1, of.below drawn.1)) (each_drawn net is) in
+    let apart : IsTrue (are_apart same (joined now)) = apart_after net.next more (all_ids net) (joined now) one
+    (λ n. omega (arith, copies_put n kind.place ids (kinds net), of.once n)) is.below is.apart in
+    numbered_as changed (subst (λ n. AllByRecursion (AreDrawn n) (kinds changed)) (sym (kind.draws xs after net)) (subst (λ given. AllByRecursion (AreDrawn after) given) (sym (kind.put xs after net)) each))
+    (subst (λ given. IsTrue (are_apart same (joined given))) (sym (kind.put xs after net)) apart)
+    (subst (λ n. n < number_limit) (sym (kind.draws xs after net)) room) (subst (λ n. 0 < n) (sym (kind.draws xs after net)) (omega (arith, is.from_one)))
 
-pub with_ports : {more : ℕ} (net : Network) (after : ℕ) (xs : List Port) → Next net after more → Kept net.next after more (port_ids net) (map (λ x. x.id) xs)
-    → AreNumbered net → AreNumbered (record net { ports = xs; next = after })
-with_ports {more = more} net after xs next of numbered =
-    let left = λ (ids : List ObjId). untouched net.next after ids next.later in
-    let one : 0 + (more + (0 + (0 + (0 + (0 + (0 + (0 + (0 + (0 + 0))))))))) ≤ 1 = omega (arith, next.one) in
-    numbered_after net (record net { ports = xs; next = after }) numbered next.room (omega (arith, numbered.from_one, next.later)) one
-    (left (switch_ids net)) of (left (router_ids net)) (left (router_port_ids net)) (left (route_ids net)) (left (nat_ids net)) (left (lb_ids net)) (left (acl_ids net)) (left (set_ids net)) (left (group_ids net)) (left (binding_ids net))
+-- some of a kind are gone
+pub fewer : {X : Type 0} {net : Network} (kind : KindOf X) (gone : X → Bool) → AreNumbered net → AreNumbered (kind.with_list (without gone (kind.list net)) net.next net)
+fewer {net = net} kind gone is =
+    kind_kept kind net 0 net.next (without gone (kind.list net)) (omega arith) (omega arith) is.room (some_gone kind.number gone (kind.list net) net.next) is
 
-pub with_routers : {more : ℕ} (net : Network) (after : ℕ) (xs : List Router) → Next net after more → Kept net.next after more (router_ids net) (map (λ x. x.id) xs)
-    → AreNumbered net → AreNumbered (record net { routers = xs; next = after })
-with_routers {more = more} net after xs next of numbered =
-    let left = λ (ids : List ObjId). untouched net.next after ids next.later in
-    let one : 0 + (0 + (more + (0 + (0 + (0 + (0 + (0 + (0 + (0 + 0))))))))) ≤ 1 = omega (arith, next.one) in
-    numbered_after net (record net { routers = xs; next = after }) numbered next.room (omega (arith, numbered.from_one, next.later)) one
-    (left (switch_ids net)) (left (port_ids net)) of (left (router_port_ids net)) (left (route_ids net)) (left (nat_ids net)) (left (lb_ids net)) (left (acl_ids net)) (left (set_ids net)) (left (group_ids net)) (left (binding_ids net))
+-- all are changed, or some, and keep their numbers
+pub mapped : {X : Type 0} {net : Network} (kind : KindOf X) (change : X → X) → ((x : X) → kind.number (change x) ≡ kind.number x) → AreNumbered net
+    → AreNumbered (kind.with_list (map change (kind.list net)) net.next net)
+mapped {net = net} kind change keeps is =
+    kind_kept kind net 0 net.next (map change (kind.list net)) (omega arith) (omega arith) is.room
+    (same_numbers net.next (map kind.number (kind.list net)) _ (map_changed kind.number change (kind.list net) keeps)) is
 
-pub with_router_ports : {more : ℕ} (net : Network) (after : ℕ) (xs : List RouterPort) → Next net after more → Kept net.next after more (router_port_ids net) (map (λ x. x.id) xs)
-    → AreNumbered net → AreNumbered (record net { router_ports = xs; next = after })
-with_router_ports {more = more} net after xs next of numbered =
-    let left = λ (ids : List ObjId). untouched net.next after ids next.later in
-    let one : 0 + (0 + (0 + (more + (0 + (0 + (0 + (0 + (0 + (0 + 0))))))))) ≤ 1 = omega (arith, next.one) in
-    numbered_after net (record net { router_ports = xs; next = after }) numbered next.room (omega (arith, numbered.from_one, next.later)) one
-    (left (switch_ids net)) (left (port_ids net)) (left (router_ids net)) of (left (route_ids net)) (left (nat_ids net)) (left (lb_ids net)) (left (acl_ids net)) (left (set_ids net)) (left (group_ids net)) (left (binding_ids net))
+pub changed : {X : Type 0} {net : Network} (kind : KindOf X) (holds : X → Bool) (change : X → X) → ((x : X) → kind.number (change x) ≡ kind.number x) → AreNumbered net
+    → AreNumbered (kind.with_list (each_where holds change (kind.list net)) net.next net)
+changed {net = net} kind holds change keeps is =
+    kind_kept kind net 0 net.next (each_where holds change (kind.list net)) (omega arith) (omega arith) is.room
+    (same_numbers net.next (map kind.number (kind.list net)) _ (map_changed_where kind.number holds change (kind.list net) keeps)) is
 
-pub with_routes : {more : ℕ} (net : Network) (after : ℕ) (xs : List Route) → Next net after more → Kept net.next after more (route_ids net) (map (λ x. x.id) xs)
-    → AreNumbered net → AreNumbered (record net { routes = xs; next = after })
-with_routes {more = more} net after xs next of numbered =
-    let left = λ (ids : List ObjId). untouched net.next after ids next.later in
-    let one : 0 + (0 + (0 + (0 + (more + (0 + (0 + (0 + (0 + (0 + 0))))))))) ≤ 1 = omega (arith, next.one) in
-    numbered_after net (record net { routes = xs; next = after }) numbered next.room (omega (arith, numbered.from_one, next.later)) one
-    (left (switch_ids net)) (left (port_ids net)) (left (router_ids net)) (left (router_port_ids net)) of (left (nat_ids net)) (left (lb_ids net)) (left (acl_ids net)) (left (set_ids net)) (left (group_ids net)) (left (binding_ids net))
-
-pub with_nats : {more : ℕ} (net : Network) (after : ℕ) (xs : List Nat) → Next net after more → Kept net.next after more (nat_ids net) (map (λ x. x.id) xs)
-    → AreNumbered net → AreNumbered (record net { nats = xs; next = after })
-with_nats {more = more} net after xs next of numbered =
-    let left = λ (ids : List ObjId). untouched net.next after ids next.later in
-    let one : 0 + (0 + (0 + (0 + (0 + (more + (0 + (0 + (0 + (0 + 0))))))))) ≤ 1 = omega (arith, next.one) in
-    numbered_after net (record net { nats = xs; next = after }) numbered next.room (omega (arith, numbered.from_one, next.later)) one
-    (left (switch_ids net)) (left (port_ids net)) (left (router_ids net)) (left (router_port_ids net)) (left (route_ids net)) of (left (lb_ids net)) (left (acl_ids net)) (left (set_ids net)) (left (group_ids net)) (left (binding_ids net))
-
-pub with_lbs : {more : ℕ} (net : Network) (after : ℕ) (xs : List Lb) → Next net after more → Kept net.next after more (lb_ids net) (map (λ x. x.id) xs)
-    → AreNumbered net → AreNumbered (record net { lbs = xs; next = after })
-with_lbs {more = more} net after xs next of numbered =
-    let left = λ (ids : List ObjId). untouched net.next after ids next.later in
-    let one : 0 + (0 + (0 + (0 + (0 + (0 + (more + (0 + (0 + (0 + 0))))))))) ≤ 1 = omega (arith, next.one) in
-    numbered_after net (record net { lbs = xs; next = after }) numbered next.room (omega (arith, numbered.from_one, next.later)) one
-    (left (switch_ids net)) (left (port_ids net)) (left (router_ids net)) (left (router_port_ids net)) (left (route_ids net)) (left (nat_ids net)) of (left (acl_ids net)) (left (set_ids net)) (left (group_ids net)) (left (binding_ids net))
-
-pub with_acls : {more : ℕ} (net : Network) (after : ℕ) (xs : List Acl) → Next net after more → Kept net.next after more (acl_ids net) (map (λ x. x.id) xs)
-    → AreNumbered net → AreNumbered (record net { acls = xs; next = after })
-with_acls {more = more} net after xs next of numbered =
-    let left = λ (ids : List ObjId). untouched net.next after ids next.later in
-    let one : 0 + (0 + (0 + (0 + (0 + (0 + (0 + (more + (0 + (0 + 0))))))))) ≤ 1 = omega (arith, next.one) in
-    numbered_after net (record net { acls = xs; next = after }) numbered next.room (omega (arith, numbered.from_one, next.later)) one
-    (left (switch_ids net)) (left (port_ids net)) (left (router_ids net)) (left (router_port_ids net)) (left (route_ids net)) (left (nat_ids net)) (left (lb_ids net)) of (left (set_ids net)) (left (group_ids net)) (left (binding_ids net))
-
-pub with_sets : {more : ℕ} (net : Network) (after : ℕ) (xs : List AddrSet) → Next net after more → Kept net.next after more (set_ids net) (map (λ x. x.id) xs)
-    → AreNumbered net → AreNumbered (record net { sets = xs; next = after })
-with_sets {more = more} net after xs next of numbered =
-    let left = λ (ids : List ObjId). untouched net.next after ids next.later in
-    let one : 0 + (0 + (0 + (0 + (0 + (0 + (0 + (0 + (more + (0 + 0))))))))) ≤ 1 = omega (arith, next.one) in
-    numbered_after net (record net { sets = xs; next = after }) numbered next.room (omega (arith, numbered.from_one, next.later)) one
-    (left (switch_ids net)) (left (port_ids net)) (left (router_ids net)) (left (router_port_ids net)) (left (route_ids net)) (left (nat_ids net)) (left (lb_ids net)) (left (acl_ids net)) of (left (group_ids net)) (left (binding_ids net))
-
-pub with_groups : {more : ℕ} (net : Network) (after : ℕ) (xs : List Group) → Next net after more → Kept net.next after more (group_ids net) (map (λ x. x.id) xs)
-    → AreNumbered net → AreNumbered (record net { groups = xs; next = after })
-with_groups {more = more} net after xs next of numbered =
-    let left = λ (ids : List ObjId). untouched net.next after ids next.later in
-    let one : 0 + (0 + (0 + (0 + (0 + (0 + (0 + (0 + (0 + (more + 0))))))))) ≤ 1 = omega (arith, next.one) in
-    numbered_after net (record net { groups = xs; next = after }) numbered next.room (omega (arith, numbered.from_one, next.later)) one
-    (left (switch_ids net)) (left (port_ids net)) (left (router_ids net)) (left (router_port_ids net)) (left (route_ids net)) (left (nat_ids net)) (left (lb_ids net)) (left (acl_ids net)) (left (set_ids net)) of (left (binding_ids net))
-
-pub with_bindings : {more : ℕ} (net : Network) (after : ℕ) (xs : List Binding) → Next net after more → Kept net.next after more (binding_ids net) (map (λ x. x.id) xs)
-    → AreNumbered net → AreNumbered (record net { bindings = xs; next = after })
-with_bindings {more = more} net after xs next of numbered =
-    let left = λ (ids : List ObjId). untouched net.next after ids next.later in
-    let one : 0 + (0 + (0 + (0 + (0 + (0 + (0 + (0 + (0 + (0 + more))))))))) ≤ 1 = omega (arith, next.one) in
-    numbered_after net (record net { bindings = xs; next = after }) numbered next.room (omega (arith, numbered.from_one, next.later)) one
-    (left (switch_ids net)) (left (port_ids net)) (left (router_ids net)) (left (router_port_ids net)) (left (route_ids net)) (left (nat_ids net)) (left (lb_ids net)) (left (acl_ids net)) (left (set_ids net)) (left (group_ids net)) of
+-- one of a kind is new
+pub one_more : {X : Type 0} {net : Network} (kind : KindOf X) (x : X) → kind.number x ≡ next_number net → net.next + 1 < number_limit → AreNumbered net
+    → AreNumbered (kind.with_list (kind.list net ++ x ∷ []) (net.next + 1) net)
+one_more {net = net} kind x new room is =
+    kind_kept kind net 1 (net.next + 1) (kind.list net ++ x ∷ []) (omega arith) (omega arith) room (one_new kind.number (kind.list net) x net.next is.from_one new) is

@@ -1,5 +1,5 @@
 -- Records stay such as readings give: what each operation keeps.
-use Rattle.std.proofs.Common.{ℕ, ◌+◌, Bool, not, ◌&&◌, Option, List, [], ◌∷◌, ◌++◌}
+use Rattle.std.proofs.Common.{ℕ, Bool, not, ◌&&◌, Option, List}
 use Rattle.std.specs.Prelude.{filter, length, nat_lt}
 use Rattle.std.specs.Bool.{IsTrue}
 use Rattle.std.specs.List.{list_all, list_any}
@@ -7,24 +7,13 @@ use Rattle.std.specs.Str.{bytes_eq}
 use Rattle.expr_check.specs.Printed.{IsPrintable}
 use Rattle.nv_base.specs.Name.{is_object_name}
 use Rattle.nv_base.specs.declared.object.ObjId.{ObjId}
-use Rattle.nb_records.specs.declared.acl.Acl.{Acl}
-use Rattle.nb_records.specs.declared.balancer.Lb.{Lb}
-use Rattle.nb_records.specs.declared.router.Binding.{Binding}
-use Rattle.nb_records.specs.declared.router.Nat.{Nat}
-use Rattle.nb_records.specs.declared.router.Route.{Route}
-use Rattle.nb_records.specs.declared.router.Router.{Router}
-use Rattle.nb_records.specs.declared.router.RouterPort.{RouterPort}
-use Rattle.nb_records.specs.declared.sets.AddrSet.{AddrSet}
-use Rattle.nb_records.specs.declared.sets.Group.{Group}
-use Rattle.nb_records.specs.declared.switch.Port.{Port}
-use Rattle.nb_records.specs.declared.switch.Switch.{Switch}
 use Rattle.nb_read.specs.Readings.{is_set_name, role_of}
 use Rattle.nb_model.specs.Belongs.{is_number}
-use Rattle.nb_model.specs.Effect.{each_where, without, without_ports, without_router_ports, without_lb, add_switch, add_router, delete_switch, delete_router, delete_group, set_port, set_switch_lbs, set_router_lbs}
-use Rattle.nb_model.specs.Network.{Network, next_number, same, switch_id, router_id, group_id}
+use Rattle.nb_model.specs.Effect.{without, without_ports, without_router_ports, without_lb, delete_switch, delete_router, delete_group, set_port}
+use Rattle.nb_model.specs.Network.{Network, same, switch_id, router_id, group_id, Acl, Lb, Binding, Nat, Route, Router, RouterPort, AddrSet, Group, Port, Switch}
 use Rattle.nb_model.specs.Readable.{is_mac, is_ip4, may_name, are_addresses, are_guards, are_networks, is_cleared, is_nexthop, is_logical, is_vip, is_member, is_priority}
 use Rattle.nb_model.specs.Sound.{AreReadable}
-use Rattle.nb_model.proofs.RecordLists.{all_filter, all_push, all_map, all_where, every_filter, every_push}
+use Rattle.nb_model.proofs.RecordLists.{all_filter, all_map, all_where, every_filter}
 
 -- what each record is to be
 abbrev pub of_switch : Switch → Bool
@@ -116,76 +105,7 @@ module _ (net : Network) (before : AreReadable net) where
       let acls = delete_acls_readable (λ acl. is_number (group_id net name) acl.owner) in
       assumption (acls, all_filter of_group (λ group. not (is_number (group_id net name) group.id)) net.groups before.groups)
 
-  pub delete_routes_readable : (gone : Route → Bool) → AreReadable (record net { routes = without gone net.routes })
-  delete_routes_readable gone = assumption (all_filter of_route (λ route. not (gone route)) net.routes before.routes)
-
-  pub delete_nats_readable : (gone : Nat → Bool) → AreReadable (record net { nats = without gone net.nats })
-  delete_nats_readable gone = assumption (all_filter of_nat (λ nat. not (gone nat)) net.nats before.nats)
-
-  pub delete_sets_readable : (gone : AddrSet → Bool) → AreReadable (record net { sets = without gone net.sets })
-  delete_sets_readable gone = assumption (all_filter of_set (λ set. not (gone set)) net.sets before.sets)
-
-  pub delete_bindings_readable : (gone : Binding → Bool) → AreReadable (record net { bindings = without gone net.bindings })
-  delete_bindings_readable gone = assumption (all_filter of_binding (λ binding. not (gone binding)) net.bindings before.bindings)
-
   -- Some change.
 
   pub set_port_readable : (name : List ℕ) (change : Port → Port) → ((port : Port) → IsTrue (of_port port) → IsTrue (of_port (change port))) → AreReadable (set_port net name change)
   set_port_readable name change keeps = assumption (all_where of_port (λ port. bytes_eq port.name name) change net.ports keeps before.ports)
-
-  pub set_router_port_readable : (holds : RouterPort → Bool) (change : RouterPort → RouterPort) → ((port : RouterPort) → IsTrue (of_router_port port) → IsTrue (of_router_port (change port)))
-      → AreReadable (record net { router_ports = each_where holds change net.router_ports })
-  set_router_port_readable holds change keeps = assumption (all_where of_router_port holds change net.router_ports keeps before.router_ports)
-
-  pub set_switch_lbs_readable : (name : List ℕ) (change : List ObjId → List ObjId) → AreReadable (set_switch_lbs net name change)
-  set_switch_lbs_readable name change =
-      assumption (all_where of_switch (λ switch. bytes_eq switch.name name) (λ switch. record switch { lbs = change switch.lbs }) net.switches (λ switch is. is) before.switches)
-
-  pub set_router_lbs_readable : (name : List ℕ) (change : List ObjId → List ObjId) → AreReadable (set_router_lbs net name change)
-  set_router_lbs_readable name change =
-      assumption (all_where of_router (λ router. bytes_eq router.name name) (λ router. record router { lbs = change router.lbs }) net.routers (λ router is. is) before.routers)
-
-  pub set_lbs_readable : (lbs : List Lb) → IsTrue (list_all of_lb lbs) → AreReadable (record net { lbs = lbs })
-  set_lbs_readable lbs all = assumption
-
-  pub set_group_readable : (holds : Group → Bool) (ports : List ObjId) → AreReadable (record net { groups = each_where holds (λ group. record group { ports = ports }) net.groups })
-  set_group_readable holds ports = assumption (all_where of_group holds (λ group. record group { ports = ports }) net.groups (λ group is. is) before.groups)
-
-  pub set_set_readable : (holds : AddrSet → Bool) (change : AddrSet → AddrSet) → ((set : AddrSet) → IsTrue (of_set set) → IsTrue (of_set (change set)))
-      → AreReadable (record net { sets = each_where holds change net.sets })
-  set_set_readable holds change keeps = assumption (all_where of_set holds change net.sets keeps before.sets)
-
-  -- One more.
-
-  pub add_switch_readable : (name : List ℕ) → IsTrue (is_object_name name) → AreReadable (add_switch net name)
-  add_switch_readable name is = assumption (all_push of_switch net.switches (record { id = next_number net; name = name; lbs = [] }) before.switches is)
-
-  pub add_router_readable : (name : List ℕ) → IsTrue (is_object_name name) → AreReadable (add_router net name)
-  add_router_readable name is = assumption (all_push of_router net.routers (record { id = next_number net; name = name; lbs = [] }) before.routers is)
-
-  pub add_port_readable : (port : Port) → IsTrue (of_port port) → AreReadable (record net { ports = net.ports ++ port ∷ []; next = net.next + 1 })
-  add_port_readable port is = assumption (all_push of_port net.ports port before.ports is)
-
-  pub add_router_port_readable : (port : RouterPort) → IsTrue (of_router_port port) → AreReadable (record net { router_ports = net.router_ports ++ port ∷ []; next = net.next + 1 })
-  add_router_port_readable port is = assumption (all_push of_router_port net.router_ports port before.router_ports is)
-
-  pub add_route_readable : (route : Route) → IsTrue (of_route route) → AreReadable (record net { routes = net.routes ++ route ∷ []; next = net.next + 1 })
-  add_route_readable route is = assumption (all_push of_route net.routes route before.routes is)
-
-  pub add_nat_readable : (nat : Nat) → IsTrue (of_nat nat) → AreReadable (record net { nats = net.nats ++ nat ∷ []; next = net.next + 1 })
-  add_nat_readable nat is = assumption (all_push of_nat net.nats nat before.nats is)
-
-  pub add_lb_readable : (lb : Lb) → IsTrue (of_lb lb) → AreReadable (record net { lbs = net.lbs ++ lb ∷ []; next = net.next + 1 })
-  add_lb_readable lb is = assumption (all_push of_lb net.lbs lb before.lbs is)
-
-  pub add_acl_readable : (acl : Acl) → IsTrue (of_acl acl) → OfAcl acl → AreReadable (record net { acls = net.acls ++ acl ∷ []; next = net.next + 1 })
-  add_acl_readable acl is prints = assumption (all_push of_acl net.acls acl before.priorities is, every_push OfAcl net.acls acl before.matches prints)
-
-  pub add_set_readable : (set : AddrSet) → IsTrue (of_set set) → AreReadable (record net { sets = net.sets ++ set ∷ []; next = net.next + 1 })
-  add_set_readable set is = assumption (all_push of_set net.sets set before.sets is)
-
-  pub add_group_readable : (group : Group) → IsTrue (of_group group) → AreReadable (record net { groups = net.groups ++ group ∷ []; next = net.next + 1 })
-  add_group_readable group is = assumption (all_push of_group net.groups group before.groups is)
-
-  pub add_binding_readable : (binding : Binding) → IsTrue (of_binding binding) → AreReadable (record net { bindings = net.bindings ++ binding ∷ []; next = net.next + 1 })
-  add_binding_readable binding is = assumption (all_push of_binding net.bindings binding before.bindings is)

@@ -3,28 +3,26 @@ use Rattle.std.proofs.Common.{◌≡◌, Bool, true, false, cond, not, ◌&&◌,
 use Rattle.std.specs.Prelude.{filter, find, is_some, length, nat_lt, if◌then◌else◌}
 use Rattle.std.specs.Bool.{IsTrue}
 use Rattle.std.specs.List.{list_all, list_any, AllByRecursion}
+use Rattle.std.proofs.lemmas.List.Folds.{list_all-append}
 use Rattle.std.proofs.lemmas.Bool.{and_parts, and_from, cases_Bool, not-true, true≢false, lt-ltb}
 use Rattle.nb_model.specs.Effect.{each_where, where_there}
 use Rattle.nb_model.specs.Network.{Network}
 use Rattle.nb_model.specs.Readable.{are_apart}
+use Rattle.nb_model.proofs.Lists.{all_kept_weaker, all_changed, all_changed_where}
 
 -- Each of a list passes.
 
 -- so do those that are kept
 pub all_filter : {X : Type 0} (p q : X → Bool) (xs : List X) → IsTrue (list_all p xs) → IsTrue (list_all p (filter q xs))
-all_filter p q [] all = refl
-all_filter {X} p q (x ∷ xs) all = let parts = and_parts (p x) (list_all p xs) all in by (q x) parts.0 (all_filter p q xs parts.1)
-  where
-    by : (kept : Bool) → IsTrue (p x) → IsTrue (list_all p (filter q xs)) → IsTrue (list_all p (cond kept (x ∷ filter q xs) (filter q xs)))
-    by true passes more = and_from (p x) (list_all p (filter q xs)) passes more
-    by false passes more = more
+all_filter p q xs all = all_kept_weaker p p q xs (λ x kept is. is) all
+
+-- and both of two lists
+pub all_append : {X : Type 0} (p : X → Bool) (xs ys : List X) → IsTrue (list_all p xs) → IsTrue (list_all p ys) → IsTrue (list_all p (xs ++ ys))
+all_append p xs ys all more = list_all-append p xs ys ∙ and_from (list_all p xs) (list_all p ys) all more
 
 -- and one more that passes
 pub all_push : {X : Type 0} (p : X → Bool) (xs : List X) (x : X) → IsTrue (list_all p xs) → IsTrue (p x) → IsTrue (list_all p (xs ++ x ∷ []))
-all_push p [] x all more = and_from (p x) true more refl
-all_push p (y ∷ ys) x all more =
-    let parts = and_parts (p y) (list_all p ys) all in
-    and_from (p y) (list_all p (ys ++ x ∷ [])) parts.0 (all_push p ys x parts.1 more)
+all_push p xs x all more = all_append p xs (x ∷ []) all (and_from (p x) true more refl)
 
 -- and one more between two lists
 pub all_between : {X : Type 0} (p : X → Bool) (xs ys : List X) (x : X) → IsTrue (list_all p (xs ++ ys)) → IsTrue (p x) → IsTrue (list_all p ((xs ++ x ∷ []) ++ ys))
@@ -33,27 +31,13 @@ all_between p (z ∷ xs) ys x all more =
     let parts = and_parts (p z) (list_all p (xs ++ ys)) all in
     and_from (p z) (list_all p ((xs ++ x ∷ []) ++ ys)) parts.0 (all_between p xs ys x parts.1 more)
 
--- and both of two lists
-pub all_append : {X : Type 0} (p : X → Bool) (xs ys : List X) → IsTrue (list_all p xs) → IsTrue (list_all p ys) → IsTrue (list_all p (xs ++ ys))
-all_append p [] ys all more = more
-all_append p (x ∷ xs) ys all more =
-    let parts = and_parts (p x) (list_all p xs) all in
-    and_from (p x) (list_all p (xs ++ ys)) parts.0 (all_append p xs ys parts.1 more)
-
 -- and each after a change by which it still passes
 pub all_map : {X : Type 0} (p : X → Bool) (change : X → X) (xs : List X) → ((x : X) → IsTrue (p x) → IsTrue (p (change x))) → IsTrue (list_all p xs) → IsTrue (list_all p (map change xs))
-all_map p change [] keeps all = refl
-all_map p change (x ∷ xs) keeps all =
-    let parts = and_parts (p x) (list_all p xs) all in
-    and_from (p (change x)) (list_all p (map change xs)) (keeps x parts.0) (all_map p change xs keeps parts.1)
+all_map p change xs keeps all = all_changed p p change xs keeps all
 
 -- and where only some are changed
 pub all_where : {X : Type 0} (p holds : X → Bool) (change : X → X) (xs : List X) → ((x : X) → IsTrue (p x) → IsTrue (p (change x))) → IsTrue (list_all p xs) → IsTrue (list_all p (each_where holds change xs))
-all_where {X} p holds change xs keeps all = all_map p (λ x. if holds x then change x else x) xs (λ x. each x (holds x)) all
-  where
-    each : (x : X) (it : Bool) → IsTrue (p x) → IsTrue (p (if it then change x else x))
-    each x true passes = keeps x passes
-    each x false passes = passes
+all_where p holds change xs keeps all = all_changed_where p p holds change xs (λ x is. is) keeps all
 
 -- each passes a weaker test
 pub all_as : {X : Type 0} (p q : X → Bool) (xs : List X) → ((x : X) → IsTrue (p x) → IsTrue (q x)) → IsTrue (list_all p xs) → IsTrue (list_all q xs)
@@ -157,18 +141,6 @@ apart_filter_rest same key q (x ∷ xs) ys apart =
     let parts = and_parts (list_all (λ k. not (same x k)) (xs ++ map key ys)) (are_apart same (xs ++ map key ys)) apart in
     and_from (list_all (λ k. not (same x k)) (xs ++ map key (filter q ys))) (are_apart same (xs ++ map key (filter q ys)))
     (all_keys_rest (λ k. not (same x k)) key q xs ys parts.0) (apart_filter_rest same key q xs ys parts.1)
-
--- A change that keeps a key keeps the list of keys.
-pub keys_map : {X K : Type 0} (key : X → K) (change : X → X) (xs : List X) → ((x : X) → key (change x) ≡ key x) → map key (map change xs) ≡ map key xs
-keys_map key change [] keeps = refl
-keys_map key change (x ∷ xs) keeps = λ i. keeps x i ∷ keys_map key change xs keeps i
-
-pub keys_where : {X K : Type 0} (key : X → K) (holds : X → Bool) (change : X → X) (xs : List X) → ((x : X) → key (change x) ≡ key x) → map key (each_where holds change xs) ≡ map key xs
-keys_where {X} {K} key holds change xs keeps = keys_map key (λ x. if holds x then change x else x) xs (λ x. each x (holds x))
-  where
-    each : (x : X) (it : Bool) → key (if it then change x else x) ≡ key x
-    each x true = keeps x
-    each x false = refl
 
 -- Something of a network, whether a change is made or not.
 

@@ -7,7 +7,8 @@ use Rattle.nv_base.specs.declared.object.ObjId.{ObjId}
 use Rattle.nb_model.specs.Network.{same}
 use Rattle.nb_model.specs.Belongs.{is_among, once}
 use Rattle.nb_model.specs.Effect.{without, with_number}
-use Rattle.nb_model.proofs.Lists.{same_self, same_is, all_append, all_kept, all_weaker, among_left, among_right, among_parts, among_found}
+use Rattle.nb_model.proofs.Lists.{same_self, same_is, among_left, among_right, among_parts, among_found}
+use Rattle.nb_model.proofs.RecordLists.{all_as, all_filter, all_push}
 
 -- each number among these is among those
 abbrev pub Covers : List ObjId → List ObjId → Type 0
@@ -21,11 +22,11 @@ abbrev pub all_refer : {X : Type 0} → (X → List ObjId) → List ObjId → X 
 all_refer held ids x = list_all (λ n. is_among n ids) (held x)
 
 pub refers_covered : {X : Type 0} (held : X → ObjId) (ids ids' : List ObjId) (xs : List X) → Covers ids ids' → IsTrue (list_all (refers held ids) xs) → IsTrue (list_all (refers held ids') xs)
-refers_covered held ids ids' xs covers all = all_weaker (refers held ids) (refers held ids') xs (λ x there. covers (held x) there) all
+refers_covered held ids ids' xs covers all = all_as (refers held ids) (refers held ids') xs (λ x there. covers (held x) there) all
 
 pub all_refer_covered : {X : Type 0} (held : X → List ObjId) (ids ids' : List ObjId) (xs : List X) → Covers ids ids' → IsTrue (list_all (all_refer held ids) xs) → IsTrue (list_all (all_refer held ids') xs)
 all_refer_covered held ids ids' xs covers all =
-    all_weaker (all_refer held ids) (all_refer held ids') xs (λ x there. all_weaker (λ n. is_among n ids) (λ n. is_among n ids') (held x) covers there) all
+    all_as (all_refer held ids) (all_refer held ids') xs (λ x there. all_as (λ n. is_among n ids) (λ n. is_among n ids') (held x) covers there) all
 
 -- the same numbers
 pub covers_same : (ids ids' : List ObjId) → ids' ≡ ids → Covers ids ids'
@@ -39,11 +40,9 @@ covers_more id (y ∷ ys) x n there =
     (λ later. or_right (same n (id y)) (is_among n (map id (ys ++ x ∷ []))) (covers_more id ys x n later)) (or_cases (same n (id y)) (is_among n (map id ys)) there)
 
 -- those of two kinds
-pub covers_first : (n : ObjId) (xs xs' ys : List ObjId) → (IsTrue (is_among n xs) → IsTrue (is_among n xs')) → IsTrue (is_among n (xs ++ ys)) → IsTrue (is_among n (xs' ++ ys))
-covers_first n xs xs' ys covers there = ⊎_elim (λ a. among_left n xs' ys (covers a)) (λ b. among_right n xs' ys b) (among_parts n xs ys there)
-
-pub covers_second : (n : ObjId) (xs ys ys' : List ObjId) → (IsTrue (is_among n ys) → IsTrue (is_among n ys')) → IsTrue (is_among n (xs ++ ys)) → IsTrue (is_among n (xs ++ ys'))
-covers_second n xs ys ys' covers there = ⊎_elim (λ a. among_left n xs ys' a) (λ b. among_right n xs ys' (covers b)) (among_parts n xs ys there)
+pub among_both : (n : ObjId) (xs xs' ys ys' : List ObjId) → (IsTrue (is_among n xs) → IsTrue (is_among n xs')) → (IsTrue (is_among n ys) → IsTrue (is_among n ys')) → IsTrue (is_among n (xs ++ ys))
+    → IsTrue (is_among n (xs' ++ ys'))
+among_both n xs xs' ys ys' first second there = ⊎_elim (λ a. among_left n xs' ys' (first a)) (λ b. among_right n xs' ys' (second b)) (among_parts n xs ys there)
 
 -- a number is still there where what has it is kept
 still_here : {X : Type 0} (id : X → ObjId) (keep : X → Bool) (x : X) (xs : List X) (n : ObjId) → IsTrue (same n (id x)) → IsTrue (keep x)
@@ -96,7 +95,7 @@ all_once p [] all = refl
 all_once p (n ∷ ns) all =
     let parts = and_parts (p n) (list_all p ns) all in
     let others : ObjId → Bool = λ other. not (same n other) in
-    and_from (p n) (list_all p (filter others (once ns))) parts.0 (all_kept p others (once ns) (all_once p ns parts.1))
+    and_from (p n) (list_all p (filter others (once ns))) parts.0 (all_filter p others (once ns) (all_once p ns parts.1))
 
 pub all_found : {X Y : Type 0} (p : Y → Bool) (look : X → Option Y) (xs : List X) → ((x : X) (y : Y) → look x ≡ Some y → IsTrue (p y)) → IsTrue (list_all p (filter_map look xs))
 all_found p look [] each = refl
@@ -109,4 +108,4 @@ all_found {X} {Y} p look (x ∷ xs) each = by (all_found p look xs each) (look x
 -- a number more, where it is not there
 pub all_with_number : (p : ObjId → Bool) (n : ObjId) (ns : List ObjId) → IsTrue (p n) → IsTrue (list_all p ns) → IsTrue (list_all p (with_number n ns))
 all_with_number p n ns of all =
-    cond_both (is_among n ns) ns (ns ++ n ∷ []) (λ given. IsTrue (list_all p given)) (λ there. all) (λ absent. all_append p ns (n ∷ []) all (and_from (p n) true of refl))
+    cond_both (is_among n ns) ns (ns ++ n ∷ []) (λ given. IsTrue (list_all p given)) (λ there. all) (λ absent. all_push p ns n all of)

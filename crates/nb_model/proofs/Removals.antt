@@ -3,24 +3,14 @@ use Rattle.std.proofs.Common.{ℕ, Bool, not, ◌&&◌, Option, List, ◌++◌, 
 use Rattle.std.specs.Prelude.{IsTrue}
 use Rattle.std.specs.List.{list_all, list_any}
 use Rattle.nv_base.specs.declared.object.ObjId.{ObjId}
-use Rattle.nb_records.specs.declared.acl.Acl.{Acl}
-use Rattle.nb_records.specs.declared.balancer.Lb.{Lb}
-use Rattle.nb_records.specs.declared.router.Binding.{Binding}
-use Rattle.nb_records.specs.declared.router.Nat.{Nat}
-use Rattle.nb_records.specs.declared.router.Route.{Route}
-use Rattle.nb_records.specs.declared.router.Router.{Router}
-use Rattle.nb_records.specs.declared.router.RouterPort.{RouterPort}
-use Rattle.nb_records.specs.declared.sets.Group.{Group}
-use Rattle.nb_records.specs.declared.switch.Port.{Port}
-use Rattle.nb_records.specs.declared.switch.Switch.{Switch}
 use Rattle.nb_model.specs.Belongs.{is_number, is_among}
 use Rattle.nb_model.specs.Effect.{without, without_ports, without_router_ports, without_lb, delete_switch, delete_router, delete_group}
-use Rattle.nb_model.specs.Network.{Network, same, switch_id, router_id, group_id}
+use Rattle.nb_model.specs.Network.{Network, same, switch_id, router_id, group_id, Acl, Lb, Binding, Nat, Route, Router, RouterPort, Group, Port, Switch}
 use Rattle.nb_model.specs.Sound.{Refer, switch_ids, port_ids, router_ids, router_port_ids, lb_ids, group_ids}
-use Rattle.nb_model.proofs.Lists.{all_kept, all_kept_weaker, all_changed, map_changed}
-use Rattle.nb_model.proofs.References.{refers, all_refer, covers_same, covers_first, covers_second, among_others, among_kept}
-use Rattle.nb_model.proofs.Referring.{refer_switches, refer_ports, refer_routers, refer_router_ports, refer_routes, refer_nats, refer_lbs, refer_acls, refer_groups, refer_bindings}
-use Rattle.nb_model.proofs.Covering.{cover_switches, cover_routers, cover_groups}
+use Rattle.nb_model.proofs.Lists.{all_kept_weaker, all_changed}
+use Rattle.nb_model.proofs.References.{refers, all_refer, among_both, among_others, among_kept}
+use Rattle.nb_model.proofs.RecordLists.{all_filter}
+use Rattle.nb_model.proofs.Covering.{refer_to, covers_map}
 
 -- records that held a number that is gone are gone too
 refers_others : {X Y : Type 0} (id : X → ObjId) (held : Y → ObjId) (gone : ObjId → Bool) (xs : List X) (ys : List Y) → IsTrue (list_all (refers held (map id xs)) ys)
@@ -43,52 +33,41 @@ ports_removed net gone is =
     let leave : Group → Group = λ group. record group { ports = without left group.ports } in
     let among : ObjId → Bool = λ n. is_among n (port_ids net) in
     let still : ObjId → Bool = λ n. is_among n (map (λ (port : Port). port.id) (without gone net.ports)) in
-    let keep : ObjId → Bool = λ n. not (left n) in
-    let kept : Port → Bool = λ port. not (gone port) in
-    let id : Port → ObjId = λ port. port.id in
-    let first = cover_groups net net.next (map leave net.groups)
-    (covers_same (group_ids net) (map (λ (group : Group). group.id) (map leave net.groups)) (map_changed (λ (group : Group). group.id) leave net.groups (λ group. refl))) is
-    (all_changed (λ (group : Group). list_all among group.ports) (λ (group : Group). list_all among group.ports) leave net.groups
-    (λ group all. all_kept among keep group.ports all) is.groups) in
-    refer_ports (record net { groups = map leave net.groups }) net.next (without gone net.ports) first
-    (all_kept (refers (λ (port : Port). port.switch) (switch_ids net)) kept net.ports is.ports)
-    (all_changed (λ (group : Group). list_all among group.ports) (λ (group : Group). list_all still group.ports) leave net.groups
-    (λ group all. all_kept_weaker among still keep group.ports (λ n stays there. among_kept id gone net.ports n stays there) all) is.groups)
+    let to = refer_to net (record net { groups = map leave net.groups }) (assumption (covers_map (λ (group : Group). group.id) leave net.groups (λ group. refl))) is in
+    assumption (
+      all_filter (refers (λ (port : Port). port.switch) (switch_ids net)) (λ port. not (gone port)) net.ports is.ports,
+      all_changed (λ (group : Group). list_all among group.ports) (λ (group : Group). list_all still group.ports) leave net.groups
+          (λ group all. all_kept_weaker among still (λ n. not (left n)) group.ports (λ n stays there. among_kept (λ (port : Port). port.id) gone net.ports n stays there) all) is.groups,
+      to,
+    )
 
 -- without some router ports and their bindings
 pub router_ports_removed : (net : Network) (gone : RouterPort → Bool) → Refer net → Refer (without_router_ports gone net)
 router_ports_removed net gone is =
     let left : Binding → Bool = λ binding. list_any (λ (port : RouterPort). same port.id binding.port && gone port) net.router_ports in
-    let keep : Binding → Bool = λ binding. not (left binding) in
-    let kept : RouterPort → Bool = λ port. not (gone port) in
     let id : RouterPort → ObjId = λ port. port.id in
     let held : Binding → ObjId = λ binding. binding.port in
-    let first = refer_bindings net net.next (without left net.bindings) is (all_kept (refers held (router_port_ids net)) keep net.bindings is.bindings) in
-    refer_router_ports (record net { bindings = without left net.bindings }) net.next (without gone net.router_ports) first
-    (all_kept (refers (λ (port : RouterPort). port.router) (router_ids net)) kept net.router_ports is.router_ports)
-    (all_kept_weaker (refers held (router_port_ids net)) (refers held (map id (without gone net.router_ports))) keep net.bindings
-    (λ binding stays there. among_kept id gone net.router_ports (held binding) stays there) is.bindings)
+    assumption (
+      all_filter (refers (λ (port : RouterPort). port.router) (router_ids net)) (λ port. not (gone port)) net.router_ports is.router_ports,
+      all_kept_weaker (refers held (router_port_ids net)) (refers held (map id (without gone net.router_ports))) (λ binding. not (left binding)) net.bindings
+          (λ binding stays there. among_kept id gone net.router_ports (held binding) stays there) is.bindings,
+    )
 
 -- without a load balancer
 pub lb_removed : (net : Network) (number : Option ObjId) → Refer net → Refer (without_lb number net)
 lb_removed net number is =
     let gone : ObjId → Bool = is_number number in
-    let keep : ObjId → Bool = λ n. not (gone n) in
-    let id : Lb → ObjId = λ lb. lb.id in
     let of_switch : Switch → Switch = λ switch. record switch { lbs = without gone switch.lbs } in
     let of_router : Router → Router = λ router. record router { lbs = without gone router.lbs } in
     let among : ObjId → Bool = λ n. is_among n (lb_ids net) in
-    let left : List Lb = without (λ (lb : Lb). gone lb.id) net.lbs in
-    let still : ObjId → Bool = λ n. is_among n (map id left) in
-    let switches = cover_switches net net.next (map of_switch net.switches)
-    (covers_same (switch_ids net) (map (λ (x : Switch). x.id) (map of_switch net.switches)) (map_changed (λ (x : Switch). x.id) of_switch net.switches (λ x. refl))) is
-    (all_changed (λ (x : Switch). list_all among x.lbs) (λ (x : Switch). list_all among x.lbs) of_switch net.switches (λ x all. all_kept among keep x.lbs all) is.switches) in
-    let routers = cover_routers (record net { switches = map of_switch net.switches }) net.next (map of_router net.routers)
-    (covers_same (router_ids net) (map (λ (x : Router). x.id) (map of_router net.routers)) (map_changed (λ (x : Router). x.id) of_router net.routers (λ x. refl))) switches
-    (all_changed (λ (x : Router). list_all among x.lbs) (λ (x : Router). list_all among x.lbs) of_router net.routers (λ x all. all_kept among keep x.lbs all) is.routers) in
-    refer_lbs (record net { switches = map of_switch net.switches; routers = map of_router net.routers }) net.next left routers
-    (all_changed (λ (x : Switch). list_all among x.lbs) (λ (x : Switch). list_all still x.lbs) of_switch net.switches (λ x all. all_refer_others id gone net.lbs x.lbs all) is.switches)
-    (all_changed (λ (x : Router). list_all among x.lbs) (λ (x : Router). list_all still x.lbs) of_router net.routers (λ x all. all_refer_others id gone net.lbs x.lbs all) is.routers)
+    let still : ObjId → Bool = λ n. is_among n (map (λ (lb : Lb). lb.id) (without (λ (lb : Lb). gone lb.id) net.lbs)) in
+    let to = refer_to net (record net { switches = map of_switch net.switches; routers = map of_router net.routers })
+    (assumption (covers_map (λ (x : Switch). x.id) of_switch net.switches (λ x. refl), covers_map (λ (x : Router). x.id) of_router net.routers (λ x. refl))) is in
+    assumption (
+      all_changed (λ (x : Switch). list_all among x.lbs) (λ (x : Switch). list_all still x.lbs) of_switch net.switches (λ x all. all_refer_others (λ (lb : Lb). lb.id) gone net.lbs x.lbs all) is.switches,
+      all_changed (λ (x : Router). list_all among x.lbs) (λ (x : Router). list_all still x.lbs) of_router net.routers (λ x all. all_refer_others (λ (lb : Lb). lb.id) gone net.lbs x.lbs all) is.routers,
+      to,
+    )
 
 -- without a switch, its ports and its ACLs
 pub switch_removed : (net : Network) (name : List ℕ) → Refer net → Refer (delete_switch net name)
@@ -96,38 +75,30 @@ switch_removed net name is =
     let gone : ObjId → Bool = is_number (switch_id net name) in
     let id : Switch → ObjId = λ switch. switch.id in
     let owner : Acl → ObjId = λ acl. acl.owner in
-    let keep : Acl → Bool = λ acl. not (gone acl.owner) in
-    let ids = switch_ids net ++ group_ids net in
     let left : List Switch = without (λ (switch : Switch). gone switch.id) net.switches in
-    let acls : List Acl = without (λ (acl : Acl). gone acl.owner) net.acls in
     let ports = ports_removed net (λ port. gone port.switch) is in
-    let after = without_ports (λ port. gone port.switch) net in
-    let no_acls = refer_acls after net.next acls ports (all_kept (refers owner (switch_ids after ++ group_ids after)) keep net.acls ports.acls) in
-    refer_switches (record after { acls = acls }) net.next left no_acls
-    (refers_others id (λ (port : Port). port.switch) gone net.switches net.ports is.ports)
-    (all_kept (all_refer (λ (switch : Switch). switch.lbs) (lb_ids net)) (λ switch. not (gone switch.id)) net.switches is.switches)
-    (all_kept_weaker (refers owner (switch_ids after ++ group_ids after)) (refers owner (map id left ++ group_ids after)) keep net.acls
-    (λ acl stays there. covers_first acl.owner (switch_ids net) (map id left) (group_ids after) (λ among. among_others id gone net.switches acl.owner stays among) there) ports.acls)
+    let groups : List ObjId = group_ids (without_ports (λ port. gone port.switch) net) in
+    assumption (
+      refers_others id (λ (port : Port). port.switch) gone net.switches net.ports is.ports,
+      all_filter (all_refer (λ (switch : Switch). switch.lbs) (lb_ids net)) (λ switch. not (gone switch.id)) net.switches is.switches,
+      all_kept_weaker (refers owner (switch_ids net ++ groups)) (refers owner (map id left ++ groups)) (λ acl. not (gone acl.owner)) net.acls
+          (λ acl stays there. among_both acl.owner (switch_ids net) (map id left) groups groups (λ among. among_others id gone net.switches acl.owner stays among) (λ among. among) there) ports.acls,
+      ports,
+    )
 
 -- without a router, its ports, routes and NAT rules
 pub router_removed : (net : Network) (name : List ℕ) → Refer net → Refer (delete_router net name)
 router_removed net name is =
     let gone : ObjId → Bool = is_number (router_id net name) in
     let id : Router → ObjId = λ router. router.id in
-    let of_route : Route → ObjId = λ route. route.router in
-    let of_nat : Nat → ObjId = λ nat. nat.router in
-    let left : List Router = without (λ (router : Router). gone router.id) net.routers in
-    let routes : List Route = without (λ (route : Route). gone route.router) net.routes in
-    let nats : List Nat = without (λ (nat : Nat). gone nat.router) net.nats in
     let ports = router_ports_removed net (λ port. gone port.router) is in
-    let after = without_router_ports (λ port. gone port.router) net in
-    let no_routes = refer_routes after net.next routes ports (all_kept (refers of_route (router_ids net)) (λ route. not (gone route.router)) net.routes is.routes) in
-    let no_nats = refer_nats (record after { routes = routes }) net.next nats no_routes (all_kept (refers of_nat (router_ids net)) (λ nat. not (gone nat.router)) net.nats is.nats) in
-    refer_routers (record after { routes = routes; nats = nats }) net.next left no_nats
-    (refers_others id (λ (port : RouterPort). port.router) gone net.routers net.router_ports is.router_ports)
-    (refers_others id of_route gone net.routers net.routes is.routes)
-    (refers_others id of_nat gone net.routers net.nats is.nats)
-    (all_kept (all_refer (λ (router : Router). router.lbs) (lb_ids net)) (λ router. not (gone router.id)) net.routers is.routers)
+    assumption (
+      refers_others id (λ (port : RouterPort). port.router) gone net.routers net.router_ports is.router_ports,
+      refers_others id (λ (route : Route). route.router) gone net.routers net.routes is.routes,
+      refers_others id (λ (nat : Nat). nat.router) gone net.routers net.nats is.nats,
+      all_filter (all_refer (λ (router : Router). router.lbs) (lb_ids net)) (λ router. not (gone router.id)) net.routers is.routers,
+      ports,
+    )
 
 -- without a group and its ACLs
 pub group_removed : (net : Network) (name : List ℕ) → Refer net → Refer (delete_group net name)
@@ -135,11 +106,10 @@ group_removed net name is =
     let gone : ObjId → Bool = is_number (group_id net name) in
     let id : Group → ObjId = λ group. group.id in
     let owner : Acl → ObjId = λ acl. acl.owner in
-    let keep : Acl → Bool = λ acl. not (gone acl.owner) in
+    let switches : List ObjId = switch_ids net in
     let left : List Group = without (λ (group : Group). gone group.id) net.groups in
-    let acls : List Acl = without (λ (acl : Acl). gone acl.owner) net.acls in
-    let no_acls = refer_acls net net.next acls is (all_kept (refers owner (switch_ids net ++ group_ids net)) keep net.acls is.acls) in
-    refer_groups (record net { acls = acls }) net.next left no_acls
-    (all_kept_weaker (refers owner (switch_ids net ++ group_ids net)) (refers owner (switch_ids net ++ map id left)) keep net.acls
-    (λ acl stays there. covers_second acl.owner (switch_ids net) (group_ids net) (map id left) (λ among. among_others id gone net.groups acl.owner stays among) there) is.acls)
-    (all_kept (all_refer (λ (group : Group). group.ports) (port_ids net)) (λ group. not (gone group.id)) net.groups is.groups)
+    assumption (
+      all_kept_weaker (refers owner (switches ++ group_ids net)) (refers owner (switches ++ map id left)) (λ acl. not (gone acl.owner)) net.acls
+          (λ acl stays there. among_both acl.owner switches switches (group_ids net) (map id left) (λ among. among) (λ among. among_others id gone net.groups acl.owner stays among) there) is.acls,
+      all_filter (all_refer (λ (group : Group). group.ports) (port_ids net)) (λ group. not (gone group.id)) net.groups is.groups,
+    )

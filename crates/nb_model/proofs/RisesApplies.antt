@@ -6,12 +6,9 @@ use Rattle.std.proofs.lemmas.Bool.{and_parts, and_from, or_cases, or_left, or_ri
 use Rattle.std.proofs.lemmas.Nat.{mul-le}
 use Rattle.expr_core.specs.Text.{typed_text}
 use Rattle.nv_base.specs.declared.object.ObjId.{ObjId}
-use Rattle.nb_records.specs.declared.acl.Acl.{Acl}
-use Rattle.nb_records.specs.declared.sets.Group.{Group}
-use Rattle.nb_records.specs.declared.switch.Port.{Port}
 use Rattle.nb_model.specs.Amounts.{total}
 use Rattle.nb_model.specs.Belongs.{is_among}
-use Rattle.nb_model.specs.Network.{same}
+use Rattle.nb_model.specs.Network.{same, Acl, Group, Port}
 use Rattle.nb_model.proofs.AnyOf.{any_kept, any_changed, any_as}
 use Rattle.nb_model.proofs.Totals.{total_le, le_self}
 

@@ -4,7 +4,6 @@ use Rattle.std.specs.Prelude.{IsTrue, is_some, unwrap_or, length, filter}
 use Rattle.std.specs.Str.{bytes_eq}
 use Rattle.std.proofs.lemmas.Bool.{cond_both, true≢false, false≢true}
 use Rattle.nv_base.specs.declared.object.ObjId.{ObjId}
-use Rattle.nb_records.specs.declared.balancer.Lb.{Lb}
 use Rattle.nb_records.specs.declared.balancer.Proto.{Proto}
 use Rattle.nb_records.specs.declared.balancer.Proto.TheVariants.{Tcp}
 use Rattle.nb_records.specs.declared.balancer.Vip.{Vip}
@@ -12,17 +11,11 @@ use Rattle.nb_records.specs.declared.edit.Edit.{Edit}
 use Rattle.nb_records.specs.declared.edit.Edit.TheVariants as edit
 use Rattle.nb_records.specs.declared.refusal.Kind.{Kind}
 use Rattle.nb_records.specs.declared.refusal.Kind.TheVariants as kind
-use Rattle.nb_records.specs.declared.router.Router.{Router}
-use Rattle.nb_records.specs.declared.router.RouterPort.{RouterPort}
-use Rattle.nb_records.specs.declared.sets.AddrSet.{AddrSet}
-use Rattle.nb_records.specs.declared.sets.Group.{Group}
-use Rattle.nb_records.specs.declared.switch.Port.{Port}
-use Rattle.nb_records.specs.declared.switch.Switch.{Switch}
 use Rattle.nb_records.specs.Tags.{address_count}
 use Rattle.nb_model.specs.Amounts.{amount, total, kinds, first_over, over_limit, vips_of}
 use Rattle.nb_model.specs.Belongs.{is_number, owner_id, is_to_router}
 use Rattle.nb_model.specs.Effect.{effect, each_where, without, where_there, add_switch, add_port, set_port, add_router, add_router_port, add_vip, new_vip, delete_vip, set_switch_lbs, set_router_lbs, with_number, is_detached, is_route, is_nat, is_acl, is_binding, acl_like, named_port_ids}
-use Rattle.nb_model.specs.Network.{Network, next_number, switch_named, router_named, port_named, router_port_named, lb_named, router_id, router_port_id, lb_id}
+use Rattle.nb_model.specs.Network.{Network, next_number, switch_named, router_named, port_named, router_port_named, lb_named, router_id, router_port_id, lb_id, Lb, Router, RouterPort, AddrSet, Group, Port, Switch}
 use Rattle.nb_model.specs.Rises.{may_rise}
 use Rattle.nb_model.specs.Sound.{IsSound}
 use Rattle.nb_model.proofs.Cases.{where_found}
@@ -144,89 +137,78 @@ set_set net change =
 
 pub edit_falls : (net : Network) (given : Edit) → IsSound net → Falls (rises given) net (effect net given)
 edit_falls net (edit.LsAdd name may_exist) sound =
-    let rising = rises (edit.LsAdd name may_exist) in
-    where_new rising (is_some (switch_named net name)) net (add_switch net name) (switch_added rising net name sound.numbered sound.refers may)
+    where_new _ (is_some (switch_named net name)) net (add_switch net name) (switch_added _ net name sound.numbered sound.refers may)
 edit_falls net (edit.LrAdd name may_exist) sound =
-    let rising = rises (edit.LrAdd name may_exist) in
-    where_new rising (is_some (router_named net name)) net (add_router net name) (router_added rising net name may)
-edit_falls net (edit.LsDel name given) sound = switch_less (rises (edit.LsDel name given)) net name may
+    where_new _ (is_some (router_named net name)) net (add_router net name) (router_added _ net name may)
+edit_falls net (edit.LsDel name given) sound = switch_less _ net name may
 edit_falls net (edit.LrDel name given) sound =
-    router_less (rises (edit.LrDel name given)) net name (λ free. router_ports_less_known net (λ port. is_number (router_id net name) port.router) (are_peers_apart net sound.numbered sound.named))
+    router_less _ net name (λ free. router_ports_less_known net (λ port. is_number (router_id net name) port.router) (are_peers_apart net sound.numbered sound.named))
 edit_falls net (edit.LspAdd switch port may_exist) sound =
-    let rising = rises (edit.LspAdd switch port may_exist) in
-    where_new rising (is_some (port_named net port)) net (where_there (switch_named net switch) (add_port net port) net)
-    (where_found (Falls rising net) (switch_named net switch) (add_port net port) net (stays rising net) (λ s found. port_added rising net port s sound.numbered sound.refers may))
-edit_falls net (edit.LspDel port given) sound = ports_less (rises (edit.LspDel port given)) net (λ p. bytes_eq p.name port) may
+    where_new _ (is_some (port_named net port)) net (where_there (switch_named net switch) (add_port net port) net)
+    (where_found (Falls _ net) (switch_named net switch) (add_port net port) net (stays _ net) (λ s found. port_added _ net port s sound.numbered sound.refers may))
+edit_falls net (edit.LspDel port given) sound = ports_less _ net (λ p. bytes_eq p.name port) may
 edit_falls net (edit.LspSetAddresses port list) sound =
     let change : Port → Port = λ p. record p { addresses = list } in
-    port_set (rises (edit.LspSetAddresses port list)) net port change (λ p. refl) (λ p. refl) may (λ free. same_guards net port change (λ p. le_self (guards p))) may
+    port_set _ net port change (λ p. refl) (λ p. refl) may (λ free. same_guards net port change (λ p. le_self (guards p))) may
 edit_falls net (edit.LspSetPortSecurity port list) sound =
     let change : Port → Port = λ p. record p { security = list } in
-    port_set (rises (edit.LspSetPortSecurity port list)) net port change (λ p. refl) (λ p. refl)
+    port_set _ net port change (λ p. refl) (λ p. refl)
     (λ free. same_addresses net port change (λ p. le_self (total address_count p.addresses))) may
     (λ free. known_less net port change (record { id = λ p. refl; switch = λ p. refl; to_router = λ p. refl; router_port = λ p. refl; addresses = λ p. refl; enabled = λ p on. on }))
 edit_falls net (edit.LspSetType port own) sound =
     let change : Port → Port = λ p. record p { kind = own } in
-    port_set (rises (edit.LspSetType port own)) net port change (λ p. refl) (λ p. refl)
+    port_set _ net port change (λ p. refl) (λ p. refl)
     (λ free. same_addresses net port change (λ p. le_self (total address_count p.addresses))) (λ free. same_guards net port change (λ p. le_self (guards p))) may
 edit_falls net (edit.LspSetOptions port name) sound =
     let change : Port → Port = λ p. record p { router_port = name } in
-    port_set (rises (edit.LspSetOptions port name)) net port change (λ p. refl) (λ p. refl)
+    port_set _ net port change (λ p. refl) (λ p. refl)
     (λ free. same_addresses net port change (λ p. le_self (total address_count p.addresses))) (λ free. same_guards net port change (λ p. le_self (guards p))) may
 edit_falls net (edit.LspSetEnabled port true) sound =
     let change : Port → Port = λ p. record p { enabled = true } in
-    port_set (rises (edit.LspSetEnabled port true)) net port change (λ p. refl) (λ p. refl)
+    port_set _ net port change (λ p. refl) (λ p. refl)
     (λ free. same_addresses net port change (λ p. le_self (total address_count p.addresses))) (λ free. same_guards net port change (λ p. le_self (guards p))) may
 edit_falls net (edit.LspSetEnabled port false) sound =
     let change : Port → Port = λ p. record p { enabled = false } in
-    port_set (rises (edit.LspSetEnabled port false)) net port change (λ p. refl) (λ p. refl)
+    port_set _ net port change (λ p. refl) (λ p. refl)
     (λ free. same_addresses net port change (λ p. le_self (total address_count p.addresses))) (λ free. same_guards net port change (λ p. le_self (guards p)))
     (λ free. known_less net port change (record { id = λ p. refl; switch = λ p. refl; to_router = λ p. refl; router_port = λ p. refl; addresses = λ p. refl; enabled = λ p on. absurd (false≢true on) }))
 edit_falls net (edit.LrpSetEnabled port enabled) sound =
-    router_port_set (rises (edit.LrpSetEnabled port enabled)) net port (λ p. record p { enabled = enabled }) (λ p. refl) (λ p. refl)
+    router_port_set _ net port (λ p. record p { enabled = enabled }) (λ p. refl) (λ p. refl)
 edit_falls net (edit.LrpAdd router port mac nets may_exist) sound =
-    let rising = rises (edit.LrpAdd router port mac nets may_exist) in
-    where_new rising (is_some (router_port_named net port)) net (where_there (router_named net router) (add_router_port net port mac nets) net)
-    (where_found (Falls rising net) (router_named net router) (add_router_port net port mac nets) net (stays rising net) (λ r found. router_ports_fall rising net _ (net.next + 1) may may may))
+    where_new _ (is_some (router_port_named net port)) net (where_there (router_named net router) (add_router_port net port mac nets) net)
+    (where_found (Falls _ net) (router_named net router) (add_router_port net port mac nets) net (stays _ net) (λ r found. router_ports_fall _ net _ (net.next + 1) may may may))
 edit_falls net (edit.LrpDel port given) sound =
-    router_ports_less (rises (edit.LrpDel port given)) net (λ p. bytes_eq p.name port) (λ free. router_ports_less_known net (λ p. bytes_eq p.name port) (are_peers_apart net sound.numbered sound.named))
+    router_ports_less _ net (λ p. bytes_eq p.name port) (λ free. router_ports_less_known net (λ p. bytes_eq p.name port) (are_peers_apart net sound.numbered sound.named))
 edit_falls net (edit.LrRouteAdd router prefix nexthop port by) sound =
-    let rising = rises (edit.LrRouteAdd router prefix nexthop port by) in
-    where_found (Falls rising net) (router_id net router) _ net (stays rising net) (λ r found. routes_fall rising net _ (net.next + 1) may)
-edit_falls net (edit.LrRouteDel router prefix given by) sound = routes_fewer (rises (edit.LrRouteDel router prefix given by)) net (is_route net router prefix by)
+    where_found (Falls _ net) (router_id net router) _ net (stays _ net) (λ r found. routes_fall _ net _ (net.next + 1) may)
+edit_falls net (edit.LrRouteDel router prefix given by) sound = routes_fewer _ net (is_route net router prefix by)
 edit_falls net (edit.LrNatAdd router own external logical) sound =
-    let rising = rises (edit.LrNatAdd router own external logical) in
-    where_found (Falls rising net) (router_id net router) _ net (stays rising net) (λ r found. nats_fall rising net _ (net.next + 1) may)
-edit_falls net (edit.LrNatDel router own at given) sound = nats_fewer (rises (edit.LrNatDel router own at given)) net (is_nat net router own at)
+    where_found (Falls _ net) (router_id net router) _ net (stays _ net) (λ r found. nats_fall _ net _ (net.next + 1) may)
+edit_falls net (edit.LrNatDel router own at given) sound = nats_fewer _ net (is_nat net router own at)
 edit_falls net (edit.LbAdd name at backends proto) sound = vip_added net name (new_vip at backends) proto
-edit_falls net (edit.LbDel name None given) sound = lb_less (rises (edit.LbDel name None given)) net (lb_id net name)
+edit_falls net (edit.LbDel name None given) sound = lb_less _ net (lb_id net name)
 edit_falls net (edit.LbDel name (Some at) given) sound =
-    let rising = rises (edit.LbDel name (Some at) given) in
-    where_found (Falls rising net) (lb_named net name) (delete_vip net at) net (stays rising net) (λ lb found. vip_less rising net at lb)
+    where_found (Falls _ net) (lb_named net name) (delete_vip net at) net (stays _ net) (λ lb found. vip_less _ net at lb)
 edit_falls net (edit.LsLbAdd switch name may_exist) sound =
-    let rising = rises (edit.LsLbAdd switch name may_exist) in
-    where_found (Falls rising net) (lb_id net name) _ net (stays rising net) (λ number found. switch_set rising net switch (with_number number) may)
+    where_found (Falls _ net) (lb_id net name) _ net (stays _ net) (λ number found. switch_set _ net switch (with_number number) may)
 edit_falls net (edit.LrLbAdd router name may_exist) sound =
-    let rising = rises (edit.LrLbAdd router name may_exist) in
-    where_found (Falls rising net) (lb_id net name) _ net (stays rising net) (λ number found. routers_changed rising net _ may)
-edit_falls net (edit.LsLbDel switch name given) sound = switch_less_set (rises (edit.LsLbDel switch name given)) net switch (is_detached net name)
-edit_falls net (edit.LrLbDel router name given) sound = router_less_set (rises (edit.LrLbDel router name given)) net router (is_detached net name)
+    where_found (Falls _ net) (lb_id net name) _ net (stays _ net) (λ number found. routers_changed _ net _ may)
+edit_falls net (edit.LsLbDel switch name given) sound = switch_less_set _ net switch (is_detached net name)
+edit_falls net (edit.LrLbDel router name given) sound = router_less_set _ net router (is_detached net name)
 edit_falls net (edit.AclAdd name way priority matching verdict may_exist of) sound =
-    let rising = rises (edit.AclAdd name way priority matching verdict may_exist of) in
-    where_found (Falls rising net) (owner_id net of name) _ net (stays rising net)
-    (λ owner found. where_new rising (is_some (acl_like net owner way (priority, matching))) net _ (acls_fall rising net _ (net.next + 1) may may may))
-edit_falls net (edit.AclDel name way rule of) sound = acls_fewer (rises (edit.AclDel name way rule of)) net (is_acl (owner_id net of name) way rule)
+    where_found (Falls _ net) (owner_id net of name) _ net (stays _ net)
+    (λ owner found. where_new _ (is_some (acl_like net owner way (priority, matching))) net _ (acls_fall _ net _ (net.next + 1) may may may))
+edit_falls net (edit.AclDel name way rule of) sound = acls_fewer _ net (is_acl (owner_id net of name) way rule)
 edit_falls net (edit.PgAdd name ports) sound =
-    group_added (rises (edit.PgAdd name ports)) net (record { id = next_number net; name = name; ports = named_port_ids net ports }) refl sound.numbered sound.refers may may
+    group_added _ net (record { id = next_number net; name = name; ports = named_port_ids net ports }) refl sound.numbered sound.refers may may
 edit_falls net (edit.PgSetPorts name ports) sound = group_set net _
-edit_falls net (edit.PgDel name given) sound = group_less (rises (edit.PgDel name given)) net name
-edit_falls net (edit.AsAdd name members) sound = sets_fall (rises (edit.AsAdd name members)) net _ (net.next + 1) may may
+edit_falls net (edit.PgDel name given) sound = group_less _ net name
+edit_falls net (edit.AsAdd name members) sound = sets_fall _ net _ (net.next + 1) may may
 edit_falls net (edit.AsSet name members) sound = set_set net _
-edit_falls net (edit.AsDel name given) sound = sets_fewer (rises (edit.AsDel name given)) net (λ set. bytes_eq set.name name)
+edit_falls net (edit.AsDel name given) sound = sets_fewer _ net (λ set. bytes_eq set.name name)
 edit_falls net (edit.SmbAdd port addr mac) sound =
-    let rising = rises (edit.SmbAdd port addr mac) in
-    where_found (Falls rising net) (router_port_id net port) _ net (stays rising net) (λ p found. bindings_fall rising net _ (net.next + 1) may)
-edit_falls net (edit.SmbDel port addr given) sound = bindings_fewer (rises (edit.SmbDel port addr given)) net (is_binding net port addr)
+    where_found (Falls _ net) (router_port_id net port) _ net (stays _ net) (λ p found. bindings_fall _ net _ (net.next + 1) may)
+edit_falls net (edit.SmbDel port addr given) sound = bindings_fewer _ net (is_binding net port addr)
 
 -- the kinds that may rise, in the order of all
 in_order : (given : Edit) → filter (rises given) kinds ≡ may_rise given

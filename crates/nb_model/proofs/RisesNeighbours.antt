@@ -3,11 +3,9 @@ use Rattle.std.proofs.Common.{◌≡◌, ℕ, ◌≤◌, Bool, true, false, not,
 use Rattle.std.specs.Prelude.{IsTrue, find, length, option_map, if◌then◌else◌}
 use Rattle.std.proofs.lemmas.Bool.{and_parts, and_from}
 use Rattle.nb_records.specs.declared.refusal.Kind.TheVariants as kind
-use Rattle.nb_records.specs.declared.router.RouterPort.{RouterPort}
-use Rattle.nb_records.specs.declared.switch.Port.{Port}
 use Rattle.nb_model.specs.Amounts.{amount, total, net_count, pair_count, neighbours_across, ip_count}
 use Rattle.nb_model.specs.Belongs.{is_to_router, is_name, is_port, peer_port, peer_router_port}
-use Rattle.nb_model.specs.Network.{Network, same}
+use Rattle.nb_model.specs.Network.{Network, same, RouterPort, Port}
 use Rattle.nb_model.proofs.AnyOf.{find_push, find_changed, all_true}
 use Rattle.nb_model.proofs.Totals.{total_le, total_changed, total_kept_push, total_fewer, total_fewer_changed, le_self, le_equal}
 

@@ -4,25 +4,21 @@ use Rattle.std.specs.Prelude.{IsTrue, length, nat_lt}
 use Rattle.std.specs.List.{list_all, list_any}
 use Rattle.std.proofs.lemmas.Bool.{and_parts, and_left, and_right, or_cases, or_from, ne_eqb, ltb-true, false≢true}
 use Rattle.nv_base.specs.declared.object.ObjId.{ObjId}
-use Rattle.nb_records.specs.declared.acl.Acl.{Acl}
 use Rattle.nb_records.specs.declared.refusal.Kind.{Kind}
 use Rattle.nb_records.specs.declared.refusal.Kind.TheVariants as kind
-use Rattle.nb_records.specs.declared.router.Router.{Router}
-use Rattle.nb_records.specs.declared.sets.Group.{Group}
-use Rattle.nb_records.specs.declared.switch.Port.{Port}
 use Rattle.nb_records.specs.declared.switch.PortKind.TheVariants as port_kind
-use Rattle.nb_records.specs.declared.switch.Switch.{Switch}
 use Rattle.nb_records.specs.Tags.{address_count}
 use Rattle.nb_model.specs.Amounts.{total, vips_of}
 use Rattle.nb_model.specs.Applies.{switches_of_acl}
 use Rattle.nb_model.specs.Belongs.{is_among}
 use Rattle.nb_model.specs.Effect.{add_switch, add_router, add_port}
-use Rattle.nb_model.specs.Network.{Network, next_number, same}
+use Rattle.nb_model.specs.Network.{Network, next_number, same, Acl, Router, Group, Port, Switch}
 use Rattle.nb_model.specs.Sound.{AreNumbered, Refer, switch_ids, port_ids, group_ids}
 use Rattle.nb_model.proofs.AnyOf.{any_push, none_passes, all_true}
 use Rattle.nb_model.proofs.Kept.{is_used}
-use Rattle.nb_model.proofs.Lists.{all_append, same_is}
+use Rattle.nb_model.proofs.Lists.{same_is}
 use Rattle.nb_model.proofs.Numbered.{are_used}
+use Rattle.nb_model.proofs.RecordLists.{all_append}
 use Rattle.nb_model.proofs.Rises.{Falls}
 use Rattle.nb_model.proofs.RisesApplies.{has_port, applies, applies_where, applies_of}
 use Rattle.nb_model.proofs.RisesKinds.{FallsOf, switches_fall, ports_fall, routers_fall, groups_fall}

@@ -7,12 +7,10 @@ use Rattle.std.proofs.lemmas.Bool.{and_parts, and_from, false≢true}
 use Rattle.std.proofs.lemmas.Slice.Eq.{bytes_eq-Decides}
 use Rattle.nv_base.specs.declared.object.ObjId.{ObjId}
 use Rattle.nb_records.specs.declared.refusal.Kind.TheVariants as kind
-use Rattle.nb_records.specs.declared.router.RouterPort.{RouterPort}
-use Rattle.nb_records.specs.declared.switch.Port.{Port}
 use Rattle.nb_model.specs.Amounts.{amount, total, net_count, pair_count, neighbours_across, ip_count}
 use Rattle.nb_model.specs.Belongs.{is_to_router, is_name, is_port, peer_port, peer_router_port}
 use Rattle.nb_model.specs.Effect.{without}
-use Rattle.nb_model.specs.Network.{Network, same}
+use Rattle.nb_model.specs.Network.{Network, same, RouterPort, Port}
 use Rattle.nb_model.specs.Readable.{are_apart}
 use Rattle.nb_model.specs.Sound.{AreNumbered, AreNamed, switch_ids, port_ids, router_ids, router_port_ids, route_ids, nat_ids, lb_ids, acl_ids, set_ids, group_ids, binding_ids}
 use Rattle.nb_model.proofs.Alike.{same_names, same_sym}

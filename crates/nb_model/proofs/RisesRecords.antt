@@ -5,25 +5,14 @@ use Rattle.std.specs.List.{list_all}
 use Rattle.std.proofs.lemmas.Bool.{and_parts, and_from}
 use Rattle.expr_core.specs.Text.{typed_text}
 use Rattle.nv_base.specs.declared.object.ObjId.{ObjId}
-use Rattle.nb_records.specs.declared.acl.Acl.{Acl}
-use Rattle.nb_records.specs.declared.balancer.Lb.{Lb}
 use Rattle.nb_records.specs.declared.refusal.Kind.{Kind}
 use Rattle.nb_records.specs.declared.refusal.Kind.TheVariants as kind
-use Rattle.nb_records.specs.declared.router.Binding.{Binding}
-use Rattle.nb_records.specs.declared.router.Nat.{Nat}
-use Rattle.nb_records.specs.declared.router.Route.{Route}
-use Rattle.nb_records.specs.declared.router.Router.{Router}
-use Rattle.nb_records.specs.declared.router.RouterPort.{RouterPort}
-use Rattle.nb_records.specs.declared.sets.AddrSet.{AddrSet}
-use Rattle.nb_records.specs.declared.sets.Group.{Group}
-use Rattle.nb_records.specs.declared.switch.Port.{Port}
-use Rattle.nb_records.specs.declared.switch.Switch.{Switch}
 use Rattle.nb_records.specs.Tags.{address_count}
 use Rattle.nb_model.specs.Amounts.{total, greatest, vips_of}
 use Rattle.nb_model.specs.Applies.{switches_of_acl}
 use Rattle.nb_model.specs.Belongs.{is_among}
 use Rattle.nb_model.specs.Effect.{without}
-use Rattle.nb_model.specs.Network.{Network, same}
+use Rattle.nb_model.specs.Network.{Network, same, Acl, Lb, Binding, Nat, Route, Router, RouterPort, AddrSet, Group, Port, Switch}
 use Rattle.nb_model.proofs.AnyOf.{any_kept, any_as, any_changed, all_true}
 use Rattle.nb_model.proofs.Rises.{Falls}
 use Rattle.nb_model.proofs.RisesApplies.{has_port, applies, texts, among_kept, applies_before, applies_where, applies_of}

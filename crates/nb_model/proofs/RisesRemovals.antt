@@ -5,18 +5,13 @@ use Rattle.std.specs.List.{list_any}
 use Rattle.std.proofs.lemmas.Bool.{cond_both}
 use Rattle.nv_base.specs.declared.object.ObjId.{ObjId}
 use Rattle.nb_records.specs.declared.balancer.Frontend.{Frontend}
-use Rattle.nb_records.specs.declared.balancer.Lb.{Lb}
 use Rattle.nb_records.specs.declared.balancer.Vip.{Vip}
 use Rattle.nb_records.specs.declared.refusal.Kind.{Kind}
 use Rattle.nb_records.specs.declared.refusal.Kind.TheVariants as kind
-use Rattle.nb_records.specs.declared.router.Router.{Router}
-use Rattle.nb_records.specs.declared.router.RouterPort.{RouterPort}
-use Rattle.nb_records.specs.declared.switch.Port.{Port}
-use Rattle.nb_records.specs.declared.switch.Switch.{Switch}
 use Rattle.nb_model.specs.Amounts.{total, vips_of}
 use Rattle.nb_model.specs.Belongs.{is_number, same_frontend}
 use Rattle.nb_model.specs.Effect.{each_where, without, without_ports, without_router_ports, without_lb, delete_switch, delete_router, delete_group, delete_vip, is_last_vip}
-use Rattle.nb_model.specs.Network.{Network, same, switch_id, router_id, group_id}
+use Rattle.nb_model.specs.Network.{Network, same, switch_id, router_id, group_id, Lb, Router, RouterPort, Port, Switch}
 use Rattle.nb_model.proofs.Rises.{Falls, falls_twice}
 use Rattle.nb_model.proofs.RisesKinds.{FallsOf}
 use Rattle.nb_model.proofs.RisesRecords.{switches_fewer, switches_changed, vips_fewer, ports_fewer, groups_fewer, groups_leave, routers_fewer, routers_changed, router_ports_fewer, routes_fewer, nats_fewer, bindings_fewer, acls_fewer, lbs_fewer, lbs_changed, most_backends}

@@ -6,12 +6,10 @@ use Rattle.nb_records.specs.declared.refusal.Kind.{Kind}
 use Rattle.nb_records.specs.declared.refusal.Kind.TheVariants as kind
 use Rattle.nb_records.specs.declared.refusal.Refusal.{Refusal}
 use Rattle.nb_records.specs.declared.refusal.Refusal.TheVariants.{Limit}
-use Rattle.nb_records.specs.declared.router.RouterPort.{RouterPort}
 use Rattle.nb_records.specs.declared.switch.Addr.{Addr}
 use Rattle.nb_records.specs.declared.switch.Addr.TheVariants as addr
-use Rattle.nb_records.specs.declared.switch.Port.{Port}
 use Rattle.nv_base.specs.declared.object.ObjId.{ObjId}
-use Rattle.nb_model.specs.Network.{Network, same}
+use Rattle.nb_model.specs.Network.{Network, same, RouterPort, Port}
 use Rattle.nb_model.specs.Applies.{switches_of_acl}
 use Rattle.nb_model.specs.Belongs.{is_to_router, is_among, peer_port, peer_router_port}
 use Rattle.nb_records.specs.Tags.{address_count, guard_count}

@@ -2,13 +2,11 @@
 use Rattle.std.specs.Prelude.{Bool, true, false, not, ◌&&◌, ◌||◌, List, [], ◌∷◌, filter}
 use Rattle.std.specs.List.{list_any}
 use Rattle.nv_base.specs.declared.object.ObjId.{ObjId}
-use Rattle.nb_records.specs.declared.acl.Acl.{Acl}
 use Rattle.nb_records.specs.declared.acl.Verdict.{Verdict}
 use Rattle.nb_records.specs.declared.acl.Verdict.TheVariants.{AllowRelated}
 use Rattle.nb_records.specs.declared.acl.Way.{Way}
-use Rattle.nb_records.specs.declared.switch.Switch.{Switch}
 use Rattle.nb_model.specs.Belongs.{is_among, same_way}
-use Rattle.nb_model.specs.Network.{Network, same}
+use Rattle.nb_model.specs.Network.{Network, same, Acl, Switch}
 
 -- a list of nothing
 abbrev pub is_empty : {X : Type 0} → List X → Bool

@@ -5,24 +5,18 @@ use Rattle.std.specs.Str.{bytes_eq}
 use Rattle.nv_base.specs.Block.{Block}
 use Rattle.nv_base.specs.declared.object.ObjId.{ObjId}
 use Rattle.expr_core.specs.Text.{typed_text}
-use Rattle.nb_records.specs.declared.acl.Acl.{Acl}
 use Rattle.nb_records.specs.declared.acl.Way.{Way}
 use Rattle.nb_records.specs.declared.acl.Way.TheVariants.{From, To}
 use Rattle.nb_records.specs.declared.balancer.Frontend.{Frontend}
 use Rattle.nb_records.specs.declared.edit.OwnerKind.{OwnerKind}
 use Rattle.nb_records.specs.declared.edit.OwnerKind.TheVariants as owner
-use Rattle.nb_records.specs.declared.router.Binding.{Binding}
-use Rattle.nb_records.specs.declared.router.Nat.{Nat}
 use Rattle.nb_records.specs.declared.router.NatKind.{NatKind}
 use Rattle.nb_records.specs.declared.router.NatKind.TheVariants.{Snat, Dnat, DnatAndSnat}
-use Rattle.nb_records.specs.declared.router.Route.{Route}
 use Rattle.nb_records.specs.declared.router.RouteBy.{RouteBy}
 use Rattle.nb_records.specs.declared.router.RouteBy.TheVariants.{Dst, Src}
-use Rattle.nb_records.specs.declared.router.RouterPort.{RouterPort}
-use Rattle.nb_records.specs.declared.switch.Port.{Port}
 use Rattle.nb_records.specs.declared.switch.PortKind.{PortKind}
 use Rattle.nb_records.specs.declared.switch.PortKind.TheVariants as port_kind
-use Rattle.nb_model.specs.Network.{Network, same, switch_id, group_id}
+use Rattle.nb_model.specs.Network.{Network, same, switch_id, group_id, Acl, Binding, Nat, Route, RouterPort, Port}
 
 -- the number is that of an object that is there
 abbrev pub is_number : Option ObjId → ObjId → Bool

@@ -4,14 +4,11 @@ use Rattle.std.specs.List.{starts_with, ends_with, find, flat_map, list_any}
 use Rattle.nv_base.specs.declared.object.ObjId.{ObjId}
 use Rattle.expr_core.specs.Lookup.{Lookup}
 use Rattle.nv_table.specs.Table.{record_of}
-use Rattle.nb_records.specs.declared.sets.AddrSet.{AddrSet}
-use Rattle.nb_records.specs.declared.sets.Group.{Group}
 use Rattle.nb_records.specs.declared.sets.Member.{Member}
 use Rattle.nb_records.specs.declared.sets.Member.TheVariants as member
-use Rattle.nb_records.specs.declared.switch.Port.{Port}
 use Rattle.nb_model.specs.Addresses.{size_of}
 use Rattle.nb_model.specs.Belongs.{either, is_among}
-use Rattle.nb_model.specs.Network.{Network, same, port_id, router_port_id, set_named, group_named}
+use Rattle.nb_model.specs.Network.{Network, same, port_id, router_port_id, set_named, group_named, AddrSet, Group, Port}
 use Rattle.nb_model.specs.Readable.{ips_of}
 
 -- the number of the port of this name, of a switch or of a router; a multicast group's name, which begins with `_MC_`, is no port's

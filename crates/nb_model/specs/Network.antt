@@ -4,17 +4,17 @@ use Rattle.std.specs.Prelude.{ℕ, Bool, ◌==◌, List, [], Option, option_map}
 use Rattle.std.specs.List.{find}
 use Rattle.std.specs.Str.{bytes_eq}
 use Rattle.nv_base.specs.declared.object.ObjId.{ObjId}
-use Rattle.nb_records.specs.declared.acl.Acl.{Acl}
-use Rattle.nb_records.specs.declared.balancer.Lb.{Lb}
-use Rattle.nb_records.specs.declared.router.Binding.{Binding}
-use Rattle.nb_records.specs.declared.router.Nat.{Nat}
-use Rattle.nb_records.specs.declared.router.Route.{Route}
-use Rattle.nb_records.specs.declared.router.Router.{Router}
-use Rattle.nb_records.specs.declared.router.RouterPort.{RouterPort}
-use Rattle.nb_records.specs.declared.sets.AddrSet.{AddrSet}
-use Rattle.nb_records.specs.declared.sets.Group.{Group}
-use Rattle.nb_records.specs.declared.switch.Port.{Port}
-use Rattle.nb_records.specs.declared.switch.Switch.{Switch}
+pub use Rattle.nb_records.specs.declared.acl.Acl.{Acl}
+pub use Rattle.nb_records.specs.declared.balancer.Lb.{Lb}
+pub use Rattle.nb_records.specs.declared.router.Binding.{Binding}
+pub use Rattle.nb_records.specs.declared.router.Nat.{Nat}
+pub use Rattle.nb_records.specs.declared.router.Route.{Route}
+pub use Rattle.nb_records.specs.declared.router.Router.{Router}
+pub use Rattle.nb_records.specs.declared.router.RouterPort.{RouterPort}
+pub use Rattle.nb_records.specs.declared.sets.AddrSet.{AddrSet}
+pub use Rattle.nb_records.specs.declared.sets.Group.{Group}
+pub use Rattle.nb_records.specs.declared.switch.Port.{Port}
+pub use Rattle.nb_records.specs.declared.switch.Switch.{Switch}
 
 pub record Network : Type 0 where
   pub switches : List Switch

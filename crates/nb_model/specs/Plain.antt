@@ -4,9 +4,7 @@ use Rattle.std.specs.Prelude.{◌≡◌, []}
 use Rattle.std.specs.List.{AllByRecursion}
 use Rattle.nb_records.specs.declared.edit.Edit.{Edit}
 use Rattle.nb_records.specs.declared.edit.Edit.TheVariants as edit
-use Rattle.nb_records.specs.declared.router.Router.{Router}
-use Rattle.nb_records.specs.declared.switch.Switch.{Switch}
-use Rattle.nb_model.specs.Network.{Network}
+use Rattle.nb_model.specs.Network.{Network, Router, Switch}
 
 -- no load balancer is attached to a switch or to a router, and there is no NAT rule
 pub record IsPlain (net : Network) : Type 0 where

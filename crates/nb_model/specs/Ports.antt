@@ -4,8 +4,7 @@ use Rattle.std.specs.List.{list_any}
 use Rattle.nv_base.specs.declared.object.ObjId.{ObjId}
 use Rattle.nb_records.specs.declared.switch.Addr.{Addr}
 use Rattle.nb_records.specs.declared.switch.Addr.TheVariants as addr
-use Rattle.nb_records.specs.declared.switch.Port.{Port}
-use Rattle.nb_model.specs.Network.{same}
+use Rattle.nb_model.specs.Network.{same, Port}
 
 abbrev pub is_router_word : Addr → Bool
 is_router_word addr.Router = true

@@ -7,7 +7,6 @@ use Rattle.expr_core.specs.declared.typed.TypedAtom.{TypedAtom}
 use Rattle.nv_base.specs.declared.ip4.Ip4.{Ip4}
 use Rattle.nv_base.specs.declared.object.ObjId.{ObjId}
 use Rattle.nb_records.specs.declared.balancer.Frontend.{Frontend}
-use Rattle.nb_records.specs.declared.balancer.Lb.{Lb}
 use Rattle.nb_records.specs.declared.balancer.Proto.{Proto}
 use Rattle.nb_records.specs.declared.balancer.Proto.TheVariants.{Tcp, Udp}
 use Rattle.nb_records.specs.declared.edit.Edit.{Edit}
@@ -22,7 +21,7 @@ use Rattle.nb_records.specs.declared.router.RouteBy.{RouteBy}
 use Rattle.nb_model.specs.Amounts.{over_limit}
 use Rattle.nb_model.specs.Belongs.{is_number, is_among, same_frontend, same_policy, same_block, is_snat, owner_id}
 use Rattle.nb_model.specs.Effect.{effect, acl_like, is_route, is_nat, is_binding, policy_or}
-use Rattle.nb_model.specs.Network.{Network, switch_named, router_named, port_named, router_port_named, lb_named, set_named, group_named, router_id, lb_id}
+use Rattle.nb_model.specs.Network.{Network, switch_named, router_named, port_named, router_port_named, lb_named, set_named, group_named, router_id, lb_id, Lb}
 
 -- the first test that fails
 abbrev pub first_refusal : List (Option Refusal) → Option Refusal

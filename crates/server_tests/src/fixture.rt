@@ -1,10 +1,8 @@
 // What the tests share.
 ghost use Rattle.std.specs.Prelude.{◌<◌, ◌^◌};
 
-use nv_base::{Field, Name, ObjId};
+use nv_base::{Field, ObjId};
 use pkt_core::Packet;
-use std::alloc::Global;
-use std::process::Abort;
 
 pub(crate) const SWITCH: ObjId = ObjId(1);
 
@@ -16,10 +14,6 @@ pub(crate) const ADDRESS: u64 = 0x0a00_0000_0002;
 
 // An address that no port has.
 pub(crate) const UNKNOWN: u64 = 0x0a00_0000_0007;
-
-pub(crate) fn name(text: &str, alloc: Global, rt: &impl Abort) -> Name {
-    Name::from_slice(alloc, text.as_bytes()).expect(rt, "memory")
-}
 
 // A packet between these addresses.
 pub(crate) fn packet(source: u64, destination: u64) -> Packet

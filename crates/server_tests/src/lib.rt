@@ -8,8 +8,6 @@ mod lines;
 #[cfg(test)]
 mod networks;
 #[cfg(test)]
-mod rows;
-#[cfg(test)]
 mod serve;
 #[cfg(test)]
 mod stages;

@@ -1,11 +1,13 @@
--- What a trace tells and leaves, by the parts of the session that it is run with.
-use Rattle.std.proofs.Common.{◌≡◌, ℕ, List, map, ap, ◌∙◌}
+-- What a trace tells and leaves, and that it is meant, by the parts of the session that it is run with.
+use Rattle.std.proofs.Common.{◌≡◌, ℕ, List, map, ap, sym, subst, ◌∙◌}
 use Rattle.nv_base.specs.declared.object.ObjId.{ObjId}
 use Rattle.pkt_core.specs.Packet.{Values}
 use Rattle.ct_core.specs.State.{State}
 use Rattle.nb_model.specs.Network.{Network}
+use Rattle.nb_model.specs.Plain.{IsPlain}
 use Rattle.tr_walk.specs.Events.{event_of}
 use Rattle.tr_walk.specs.Machine.{machine}
+use Rattle.tr_walk.specs.Refined.{IsMeant}
 use Rattle.tr_walk.specs.declared.event.Event.{Event}
 use Rattle.nv_reply.specs.Reply.{after_trace, traced}
 use Rattle.nv_reply.specs.Session.{Session, with_state}
@@ -25,3 +27,11 @@ module _ (session now : Session) (port : ObjId) (packet : Values) (net : Network
       ∙ ap (λ (n : Network). (machine n hops port packet session.state).state) net_is
       ∙ ap (λ (h : ℕ). (machine session.network h port packet session.state).state) hops_is)
       ∙ ap (λ (s : Session). after_trace s port packet) same
+
+  -- and what is told is meant
+  pub meant_from : (told : List Event) (left : State) → IsPlain now.network → (IsPlain net → IsMeant net hops port packet (record { before = session.state; told = told; after = left }))
+      → IsMeant now.network now.hops port packet (record { before = now.state; told = told; after = left })
+  meant_from told left plain meant =
+      subst (λ (s : Session). IsMeant s.network s.hops port packet (record { before = s.state; told = told; after = left })) same
+      (subst (λ (h : ℕ). IsMeant session.network h port packet (record { before = session.state; told = told; after = left })) hops_is
+      (subst (λ (n : Network). IsMeant n hops port packet (record { before = session.state; told = told; after = left })) net_is (meant (subst IsPlain (sym (net_is ∙ ap (λ s. s.network) same)) plain))))

@@ -5,7 +5,7 @@ ghost use Rattle.nb_model.specs.Readable.{IsReadable};
 ghost use Rattle.nb_model.specs.Sound.{IsSound};
 ghost use Rattle.nb_model.specs.Transactions.{edited};
 ghost use Rattle.nb_model.specs.Plain.{IsBuilt, IsPlain};
-ghost use Rattle.tr_walk.specs.Refined.{IsRefined};
+ghost use Rattle.tr_walk.specs.Refined.{IsMeant};
 ghost use Rattle.nv_reply.specs.Reply.{after_trace, flows, flushed, forgotten, traced};
 ghost use Rattle.nv_reply.specs.Session.{new_session};
 ghost use Rattle.nv_reply.specs.Struck.{struck};
@@ -122,7 +122,8 @@ impl Session {
     ) -> Result<Vec<Event>, OutOfMemory>
         ensures events { IfOk result (λ events. events.items ≡ traced self.old port packet.now) }
         ensures after { OnOk result (self.new ≡ after_trace self.old port packet.now) }
-        ensures refinement { OnOk result (IsRefined self.old.network) }
+        ensures refinement { IfOk result (λ events. IsMeant self.old.network self.old.hops port packet.now
+            (record { before = self.old.state; told = events.items; after = self.new.state })) }
         ensures same { OnErr result (self.new ≡ self.old) }
     {
         let rows = self.take_rows(alloc)?;

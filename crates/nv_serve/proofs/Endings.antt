@@ -1,9 +1,9 @@
--- What the end of a run says, clause by clause.
-use Rattle.std.proofs.Common.{◌≡◌, ℕ, ◌+◌, ◌<◌, ◌≤◌, ◌⊎◌, inl, inr, ◌∙◌, Bool, true, false, List, [], ◌++◌, Option, Some, None, Result, length, take, refl, sym, ap, subst, arith, IsSomeAnd}
+-- What the end of a run says.
+use Rattle.std.proofs.Common.{◌≡◌, ℕ, ◌+◌, ◌<◌, ◌≤◌, ◌⊎◌, inl, inr, ◌∙◌, Bool, true, false, List, [], ◌++◌, Option, Some, None, Result, length, min, take, refl, sym, ap, subst, arith, IsSomeAnd}
 use Rattle.std.specs.Prelude.{◌↔◌, if◌then◌else◌}
 use Rattle.std.specs.Io.KnownBytes.{Consumes, IsAtEnd}
 use Rattle.std.proofs.lemmas.Bool.{true≢false}
-use Rattle.std.proofs.lemmas.List.{length-append}
+use Rattle.std.proofs.lemmas.List.{length-append, length-take}
 use Rattle.clap.specs.Words.{Text}
 use Rattle.nv_options.specs.Options.{accepts, hops_in}
 use Rattle.nv_io.specs.Counts.{Rose, count_after}
@@ -22,7 +22,8 @@ use Rattle.nv_serve.specs.Run.{IsFinished}
 use Rattle.nv_input.specs.Ends.{InputEnds}
 use Rattle.nv_serve.specs.Traced.{TracesAreMeant}
 use Rattle.nv_io.specs.Writing.{Wrote, PutFailed}
-use Rattle.nv_serve.specs.inner.Endings.{Ends, Refuses}
+use Rattle.nv_serve.specs.Ends.{Ends}
+use Rattle.nv_serve.specs.inner.Refused.{Refuses}
 use Rattle.nv_io.proofs.Writing.{gave_nothing, took_nothing}
 use Rattle.nv_serve.proofs.Lengths.{lines_longer}
 use Rattle.nv_serve.proofs.Traced.{traces_meant}
@@ -47,15 +48,18 @@ given_within None still given gave within = absurd within
 given_within (Some input) None given gave within = absurd gave
 given_within (Some input) (Some rest) given gave within = omega (arith, within, ap length gave, length-append given rest)
 
+-- what is taken is no more
+taken : (limit : ℕ) (given : List ℕ) → length (take limit given) ≤ limit
+taken limit given = subst (λ n. n ≤ limit) (sym (length-take limit given)) (at_most (length given))
+  where
+    at_most : (n : ℕ) → min limit n ≤ limit
+    at_most n = omega arith
+
 -- each trace of an input that is no longer than it may be
 all_meant : (words : List Text) (given : List ℕ) → length given ≤ input_limit → TracesAreMeant words (lines_of given)
 all_meant words given within = traces_meant words (lines_of given) (omega (arith, within, lines_longer given))
 
 module _ {S K : Type 0} (takes : S → List ℕ → Result ℕ SourceFailed → S → Type 0) (source_state : S → SourceState) (puts : K → List ℕ → Result ℕ SinkFailed → K → Type 0) (sink_state : K → SinkState) (words : List Text) where
-  -- what was moved, with what is true of it
-  abbrev MovedTo : S → K → S → K → (List ℕ → List ℕ → Type 0) → Type 0
-  MovedTo s k t l P = Moved source_state sink_state (s, k) (t, l) P
-
   abbrev EndedAt : S → K → S → K → Status → Type 0
   EndedAt s k t l status =
       Moved source_state sink_state (s, k) (t, l) (λ given written.
@@ -134,95 +138,19 @@ module _ {S K : Type 0} (takes : S → List ℕ → Result ℕ SourceFailed → 
     pub answered : (hops : ℕ) (status : Status) → hops ≡ hops_in words → accepts words ≡ true → EndedFrom (new_session hops) status → EndedAt s k t l status
     answered hops status is few ends = opened_so status few (subst (λ h. EndedFrom (new_session h) status) is ends)
 
-    -- the input was read to its end
-    pub done : (status : Status) → EndedAt s k t l status → IsFinished status → MovedTo s k t l (λ given written. IsAtEnd (source_state t).left × (written ≡ output words given))
-    done Done (given, written, gave, took, ((few, ends), calls)) finished = (given, written, gave, took, (ends.at_end, ends.whole ∙ output_is words few given))
-    done SomeRefused (given, written, gave, took, ((few, ends), calls)) finished = (given, written, gave, took, (ends.at_end, ends.whole ∙ output_is words few given))
-    done Usage ends finished = absurd finished
-    done ReadFault ends finished = absurd finished
-    done WriteFault ends finished = absurd finished
-    done InputTooLong ends finished = absurd finished
-    done OutOfMemory ends finished = absurd finished
-
-    pub some_refused : (status : Status) → EndedAt s k t l status → IsFinished status → MovedTo s k t l (λ given written. IsAtEnd (source_state t).left × ((status ≡ SomeRefused) ↔ (is_refused words given ≡ true)))
-    some_refused Done (given, written, gave, took, ((few, ends), calls)) finished = (given, written, gave, took, (ends.at_end, (λ is. cc, λ is. let known = ends.refused_is in cc)))
-    some_refused SomeRefused (given, written, gave, took, ((few, ends), calls)) finished = (given, written, gave, took, (ends.at_end, (λ is. sym ends.refused_is, λ is. refl)))
-    some_refused Usage ends finished = absurd finished
-    some_refused ReadFault ends finished = absurd finished
-    some_refused WriteFault ends finished = absurd finished
-    some_refused InputTooLong ends finished = absurd finished
-    some_refused OutOfMemory ends finished = absurd finished
-
-    pub refinement : (status : Status) → EndedAt s k t l status → IsFinished status → MovedTo s k t l (λ given written. (written ≡ output words given) × TracesAreMeant words (lines_of given))
-    refinement Done (given, written, gave, took, ((few, ends), calls)) finished = (given, written, gave, took, (ends.whole ∙ output_is words few given, all_meant words given ends.within))
-    refinement SomeRefused (given, written, gave, took, ((few, ends), calls)) finished = (given, written, gave, took, (ends.whole ∙ output_is words few given, all_meant words given ends.within))
-    refinement Usage ends finished = absurd finished
-    refinement ReadFault ends finished = absurd finished
-    refinement WriteFault ends finished = absurd finished
-    refinement InputTooLong ends finished = absurd finished
-    refinement OutOfMemory ends finished = absurd finished
-
-    pub within_the_limit : (status : Status) → EndedAt s k t l status → IsFinished status ⊎ (status ≡ ReadFault) → MovedTo s k t l (λ given written. length given ≤ input_limit)
-    within_the_limit Done (given, written, gave, took, ((few, ends), calls)) finished = (given, written, gave, took, ends.within)
-    within_the_limit SomeRefused (given, written, gave, took, ((few, ends), calls)) finished = (given, written, gave, took, ends.within)
-    within_the_limit ReadFault (given, written, gave, took, ((few, ends), calls)) finished = (given, written, gave, took, ends.within)
-    within_the_limit Usage ends (inl finished) = absurd finished
-    within_the_limit Usage ends (inr fault) = cc
-    within_the_limit WriteFault ends (inl finished) = absurd finished
-    within_the_limit WriteFault ends (inr fault) = cc
-    within_the_limit InputTooLong ends (inl finished) = absurd finished
-    within_the_limit InputTooLong ends (inr fault) = cc
-    within_the_limit OutOfMemory ends (inl finished) = absurd finished
-    within_the_limit OutOfMemory ends (inr fault) = cc
-
-    -- at each other status
-    pub read_fault : (status : Status) → EndedAt s k t l status → status ≡ ReadFault → MovedTo s k t l (λ given written. written ≡ complete_output words given)
-    read_fault status ends is = by (subst (EndedAt s k t l) is ends)
-      where
-        by : EndedAt s k t l ReadFault → MovedTo s k t l (λ given written. written ≡ complete_output words given)
-        by (given, written, gave, took, ((few, ends), calls)) = (given, written, gave, took, ends.whole)
-
-    pub read_fault_cause : (status : Status) → EndedAt s k t l status → status ≡ ReadFault → Rose (source_state s).faults (source_state t).faults
-    read_fault_cause status ends is = (subst (EndedAt s k t l) is ends).4.0.1.rose
-
-    pub write_fault : (status : Status) → EndedAt s k t l status → status ≡ WriteFault → MovedTo s k t l (λ given written. BeginsDue (output words) given (told_left (source_state t).left) written)
-    write_fault status ends is = by (subst (EndedAt s k t l) is ends)
-      where
-        by : EndedAt s k t l WriteFault → MovedTo s k t l (λ given written. BeginsDue (output words) given (told_left (source_state t).left) written)
-        by (given, written, gave, took, (ends, calls)) = (given, written, gave, took, ends.begins)
-
-    pub write_fault_cause : (status : Status) → EndedAt s k t l status → status ≡ WriteFault → Rose (sink_state k).faults (sink_state l).faults
-    write_fault_cause status ends is = (subst (EndedAt s k t l) is ends).4.0.rose
-
-    pub input_too_long : (status : Status) → EndedAt s k t l status → status ≡ InputTooLong → MovedTo s k t l (λ given written. (input_limit < length given) × (written ≡ complete_output words (take input_limit given)))
-    input_too_long status ends is = by (subst (EndedAt s k t l) is ends)
-      where
-        by : EndedAt s k t l InputTooLong → MovedTo s k t l (λ given written. (input_limit < length given) × (written ≡ complete_output words (take input_limit given)))
-        by (given, written, gave, took, ((few, ends), calls)) = (given, written, gave, took, (ends.over, ends.whole))
-
     pub input_too_long_cause : (status : Status) → EndedAt s k t l status → status ≡ InputTooLong → count_after (source_state s).given (input_limit + 1) ≤ (source_state t).given
     input_too_long_cause status ends is = by (subst (EndedAt s k t l) is ends)
       where
         by : EndedAt s k t l InputTooLong → count_after (source_state s).given (input_limit + 1) ≤ (source_state t).given
         by (given, written, gave, took, ((few, ends), calls)) = omega (arith, gave.amount, ends.over)
 
-    pub out_of_memory : (status : Status) → EndedAt s k t l status → status ≡ OutOfMemory → MovedTo s k t l (λ given written. BeginsDue (output words) given (told_left (source_state t).left) written)
-    out_of_memory status ends is = by (subst (EndedAt s k t l) is ends)
-      where
-        by : EndedAt s k t l OutOfMemory → MovedTo s k t l (λ given written. BeginsDue (output words) given (told_left (source_state t).left) written)
-        by (given, written, gave, took, (ends, calls)) = (given, written, gave, took, ends.begins)
-
-    pub usage : (status : Status) → EndedAt s k t l status → status ≡ Usage → MovedTo s k t l (λ given written. (given ≡ []) × (written ≡ usage_line))
-    usage status ends is = by (subst (EndedAt s k t l) is ends)
-      where
-        by : EndedAt s k t l Usage → MovedTo s k t l (λ given written. (given ≡ []) × (written ≡ usage_line))
-        by (given, written, gave, took, ((many, same, none, line), calls)) = (given, written, gave, took, (none, line))
-
-    pub usage_cause : (status : Status) → EndedAt s k t l status → status ≡ Usage → accepts words ≡ false
-    usage_cause status ends is = (subst (EndedAt s k t l) is ends).4.0.0
-
-    pub calls_made : (status : Status) → EndedAt s k t l status → MovedTo s k t l (λ given written. NothingFollowsAFault takes puts (start_at (opened words) s k) (record { first = opened words; source = t; sink = l; given = given; written = written }) status)
-    calls_made status (given, written, gave, took, (ends, calls)) = (given, written, gave, took, calls)
+    -- and each trace is meant
+    pub ended : (status : Status) → EndedAt s k t l status
+        → Moved source_state sink_state (s, k) (t, l) (λ given written.
+        Ends words (source_state s, sink_state k) (source_state t, sink_state l) (given, written) status
+        × TracesAreMeant words (lines_of (take input_limit given))
+        × NothingFollowsAFault takes puts (start_at (opened words) s k) (record { first = opened words; source = t; sink = l; given = given; written = written }) status)
+    ended status (given, written, gave, took, (ends, calls)) = (given, written, gave, took, (ends, (all_meant words (take input_limit given) (taken input_limit given), calls)))
 
     -- where no call failed and the input is no longer than it may be, only memory keeps a run from the end of its input
     pub complete : (status : Status) → EndedAt s k t l status → accepts words ≡ true → (Rose (source_state s).faults (source_state t).faults → ⊥) → (Rose (sink_state k).faults (sink_state l).faults → ⊥)

@@ -1,3 +1,4 @@
+pub mod Ends
 pub mod Output
 pub mod Run
 pub mod Traced

@@ -1,10 +1,10 @@
 -- The output of a run.
-use Rattle.std.specs.Prelude.{ℕ, Bool, if◌then◌else◌, List, codes}
+use Rattle.std.specs.Prelude.{ℕ, if◌then◌else◌, List, codes}
 use Rattle.clap.specs.Words.{Text}
 use Rattle.nv_options.specs.Options.{accepts, hops_in}
 use Rattle.nv_input.specs.Lines.{lines_of, complete_lines}
 use Rattle.nv_reply.specs.Session.{Session, new_session}
-use Rattle.nv_reply.specs.Reply.{replies, some_refused}
+use Rattle.nv_reply.specs.Reply.{replies}
 
 -- the session before the first line, by the program's arguments
 abbrev pub opened : List Text → Session
@@ -21,7 +21,3 @@ output words input = if accepts words then replies (opened words) (lines_of inpu
 -- what is written for the complete lines alone
 abbrev pub complete_output : List Text → List ℕ → List ℕ
 complete_output words input = replies (opened words) (complete_lines input)
-
--- whether a line of the input is refused
-abbrev pub is_refused : List Text → List ℕ → Bool
-is_refused words input = some_refused (opened words) (lines_of input)

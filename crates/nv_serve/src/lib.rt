@@ -4,6 +4,6 @@
 mod laws;
 mod serve;
 
-pub use laws::output_goes_on;
+pub use laws::{output_goes_on, traces_are_meant};
 pub use nv_input::Status;
 pub use serve::run;

@@ -138,9 +138,9 @@ module _ (net : Network) (sound : IsSound net) (plain : IsPlain net) where
       subst KnowsMacs (sym agree.alike.left) agree.holds
 
 -- and so is what is told of its walks
-pub told_meant : (net : Network) → IsSound net → (hops : ℕ) (port : ObjId) (packet : Values) (trace : Trace) → KnowsMacs trace.before → trace.told ≡ map event_of (machine net hops port packet trace.before).told
+pub told_meant : (net : Network) → IsSound net → (hops : ℕ) (port : ObjId) (packet : Values) (trace : Trace) → KnowsMacs trace.before → IsPacket packet → trace.told ≡ map event_of (machine net hops port packet trace.before).told
     → trace.after ≡ (machine net hops port packet trace.before).state → IsPlain net → IsMeant net hops port packet trace
-told_meant net sound hops port packet trace knows told left plain is formed =
+told_meant net sound hops port packet trace knows formed told left plain is =
     let alike = plain_is_refined net sound plain hops port packet trace.before is formed knows in
     record {
       told = ap without_hits told ∙ left_out (machine net hops port packet trace.before).told ∙ alike.told;

@@ -57,7 +57,7 @@ pub record TellsOf {M : Type 0} (trace : Trace) (walked : Walked M State) : Type
 
 -- what was told of a packet that comes in by a port of a datapath is what the network does with it
 abbrev pub IsMeant : Network → ℕ → ObjId → Values → Trace → Type 0
-IsMeant net hops port packet trace = IsPort net port → IsPacket packet → TellsOf trace (meaning net hops port packet trace.before)
+IsMeant net hops port packet trace = IsPort net port → TellsOf trace (meaning net hops port packet trace.before)
 
 -- What the rows do with each packet that comes in by a port of a datapath is, hits left out, what the network does with it, from each state
 -- in which what was learnt of neighbours are MACs.

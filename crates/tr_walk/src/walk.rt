@@ -1,7 +1,7 @@
 //! The walk of a packet: it comes in by a port, leaves by others, and goes on over their peers.
 ghost use Rattle.std.specs.Prelude.{◌≡◌, ◌&&◌, ◌==◌, ◌++◌, map, IfOk, OnOk, OnErr};
 ghost use Rattle.nv_base.specs.declared.field.Field.TheVariants.{Outport, FlagsLoopback};
-ghost use Rattle.pkt_core.specs.Packet.{value};
+ghost use Rattle.pkt_core.specs.Packet.{IsPacket, value};
 ghost use Rattle.nb_model.specs.Network.{same};
 ghost use Rattle.nb_model.specs.Sound.{IsSound};
 ghost use Rattle.net_meaning.specs.Places.{datapath_at};
@@ -61,6 +61,7 @@ pub fn trace(
         records,
     };
     knows_macs(state);
+    fits_its_fields(packet);
     let mut work = Work::begin(alloc, state)?;
     match enter(flows, hops, port, packet, &mut work, &mut events) {
         Ok(()) => {
@@ -79,6 +80,13 @@ fn knows_macs(state: &State)
     ensures { KnowsMacs state.now }
 {
     let _count = state.nbrs().len();
+}
+
+// Each number of a packet fits its field.
+fn fits_its_fields(packet: &Packet)
+    ensures { IsPacket packet.now }
+{
+    let _number = packet.get(Field::Inport);
 }
 
 // A packet comes into a datapath by a port.

@@ -9,4 +9,4 @@ pub returns-in-Ok-clause-refinement : goal.returns-in-Ok-clause-refinement
 returns-in-Ok-clause-refinement c =
     let told : c.enter.new.events.items ≡ map event_of (machine c.args.records.now c.args.hops c.args.port c.args.packet.now c.args.state.now).told = search rules in
     let left : c.finish.new.state ≡ (machine c.args.records.now c.args.hops c.args.port c.args.packet.now c.args.state.now).state = search rules in
-    told_meant c.args.records.now c.requires.sound c.args.hops c.args.port c.args.packet.now (record { before = c.args.state.now; told = c.enter.new.events.items; after = c.finish.new.state }) c.knows_macs.ensures told left
+    told_meant c.args.records.now c.requires.sound c.args.hops c.args.port c.args.packet.now (record { before = c.args.state.now; told = c.enter.new.events.items; after = c.finish.new.state }) c.knows_macs.ensures c.fits_its_fields.ensures told left

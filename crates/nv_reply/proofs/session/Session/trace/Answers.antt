@@ -1,8 +1,7 @@
 use Rattle.std.proofs.Common.{◌∙◌, ap, sym, subst}
 use Rattle.tr_walk.proofs.Ends.{runnable}
-use Rattle.tr_walk.proofs.Refinement.{plain_is_refined}
 use Rattle.tr_walk.specs.Runnable.{AreRunnable}
-use Rattle.nv_reply.proofs.Tracing.{left_from, told_from}
+use Rattle.nv_reply.proofs.Tracing.{left_from, meant_from, told_from}
 use Rattle.nv_reply.proofs.session.Session.trace.Goals as goal
 
 -- each packet comes to an end in the rows of the network
@@ -14,7 +13,9 @@ trace-requires-clause-run c =
 
 -- the rows do what the network does
 pub returns-clause-refinement : goal.returns-clause-refinement
-returns-clause-refinement c = plain_is_refined c.args.self.now.network c.in_ok-rows.ensures.rows.sound c.in_ok-rows.ensures.rows.plain
+returns-clause-refinement c =
+    meant_from _ c.args.self.now c.args.port c.args.packet.now c.records-records.result.now c.from-hops.result c.records-records.ensures.records c.from-hops.ensures
+    (c.self.view_is ∙ c.in_ok-rows.ensures.same) c.in_ok-events.events.items c.trace.new.state c.in_ok-rows.ensures.rows.plain c.in_ok-events.ensures.refinement
 
 pub returns-clause-events : goal.returns-clause-events
 returns-clause-events c =

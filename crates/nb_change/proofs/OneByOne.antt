@@ -186,7 +186,7 @@ module _ {R : Type 0} (list : Network → List R) (with_list : List R → Networ
           by_again true l = part.again l _ net
           by_again false l = refl
 
-      pub seen : (n : ObjId) → n ≡ number x → now ≡ cond b (with_list (without_number number n (list net)) net) net → IsSeen list with_list number goes after net now n
-      seen n is now_is =
+      pub looked_at : (n : ObjId) → n ≡ number x → now ≡ cond b (with_list (without_number number n (list net)) net) net → IsSeen list with_list number goes after net now n
+      looked_at n is now_is =
           subst (λ (m : ObjId). IsSeen list with_list number goes after net now m) (sym is)
           (own_seen (now_is ∙ ap (λ (m : ObjId). cond b (with_list (without_number number m (list net)) net) net) is))

@@ -1,6 +1,6 @@
 use Rattle.std.proofs.Common.{◌∙◌, ◌&&◌, cond, refl, ap}
 use Rattle.nb_model.specs.Network.{Network, same}
-use Rattle.nb_change.proofs.OneByOne.{none_seen, seen, all_seen}
+use Rattle.nb_change.proofs.OneByOne.{none_seen, looked_at, all_seen}
 use Rattle.nb_change.proofs.owned.drop_each.Goals as goal
 
 pub loop-held-init : goal.loop-held-init
@@ -15,7 +15,7 @@ pub loop-held-preserved : goal.loop-held-preserved
 loop-held-preserved g c =
     let net = c.loop-held.work.records in
     let it =
-    seen g.R.Owned.list g.R.Owned.with_list g.met.R.Owned.part g.R.Record.number g.R.Owned.owner_of c.args.owner
+    looked_at g.R.Owned.list g.R.Owned.with_list g.met.R.Owned.part g.R.Record.number g.R.Owned.owner_of c.args.owner
     (g.T.Test.holds c.args.test.now) c.loop-held.after net c.loop-held.invariant.done c.remove_if.new.work.records c.in-Some.held.now c.in-Some.ensures c.loop-held.invariant.rise
     c.holds-goes.result c.holds-goes.ensures c.number-number.result c.number-number.ensures
     (c.in_ok-remove_if.ensures.ok ∙ ap (λ (left : Network). cond c.holds-goes.result left net) (c.place.ensures net)) in
@@ -30,7 +30,7 @@ pub loop-held-smaller : goal.loop-held-smaller
 loop-held-smaller g c =
     let net = c.loop-held.work.records in
     let it =
-    seen g.R.Owned.list g.R.Owned.with_list g.met.R.Owned.part g.R.Record.number g.R.Owned.owner_of c.args.owner
+    looked_at g.R.Owned.list g.R.Owned.with_list g.met.R.Owned.part g.R.Record.number g.R.Owned.owner_of c.args.owner
     (g.T.Test.holds c.args.test.now) c.loop-held.after net c.loop-held.invariant.done c.remove_if.new.work.records c.in-Some.held.now c.in-Some.ensures c.loop-held.invariant.rise
     c.holds-goes.result c.holds-goes.ensures c.number-number.result c.number-number.ensures
     (c.in_ok-remove_if.ensures.ok ∙ ap (λ (left : Network). cond c.holds-goes.result left net) (c.place.ensures net)) in

@@ -19,8 +19,8 @@ drop_all-requires c = record {
   rise = subst (λ (net : Network). NumbersRise (λ (x : Route). x.id) net.routes) (sym c.in_ok-remove_router_ports.ensures.ok) (rises (λ (x : Route). x.id) c.args.work.now.records.routes c.requires.order.routes);
 }
 
-pub drop_all-2-requires : goal.drop_all-2-requires
-drop_all-2-requires c = record {
+pub drop_all-requires-2 : goal.drop_all-requires-2
+drop_all-requires-2 c = record {
   rise = subst (λ (net : Network). NumbersRise (λ (x : Nat). x.id) net.nats) (sym c.in_ok-drop_all.ensures.ok)
       (subst (λ (net : Network). NumbersRise (λ (x : Nat). x.id) net.nats) (sym c.in_ok-remove_router_ports.ensures.ok) (rises (λ (x : Nat). x.id) c.args.work.now.records.nats c.requires.order.nats));
 }

@@ -17,7 +17,7 @@ use Rattle.nb_model.specs.Sound.{IsSound}
 use Rattle.nb_model.proofs.Numbered.{are_used}
 use Rattle.nv_table.specs.Table.{with_exchanged}
 use Rattle.nb_store.proofs.PlacedRecords.{new_last}
-use Rattle.nb_change.proofs.Goes.{none_goes}
+use Rattle.nb_change.proofs.Goes.{and_true, none_goes}
 
 there_or_not : {X Y : Type 0} (f : X → Y) (o : Option X) → is_some o ≡ is_some (option_map f o)
 there_or_not f None = refl
@@ -52,10 +52,6 @@ module _ (net : Network) (way : Way) (priority : ℕ) (matching : Formula TypedA
       ∙ ap (λ (x : Acl). with_acls (net.acls ++ x ∷ [])) fields
       ∙ sym (ap (unless owner) (there_or_not (λ (acl : Acl). acl.id) (acl_like net owner way (priority, matching)) ∙ free))
       ∙ ap where_owner there
-
-and_true : (b : Bool) → b ≡ (b && true)
-and_true true = refl
-and_true false = refl
 
 module _ (net : Network) (name : List ℕ) (of : Option OwnerKind) where
   abbrev gone_of : Option Way → Option (ℕ × Formula TypedAtom) → Option ObjId → Network

@@ -1,6 +1,6 @@
 -- What is left of the ACLs of a sound network.
-use Rattle.std.proofs.Common.{◌≡◌, ◌+◌, ◌<◌, ◌==◌, ◌&&◌, ℕ, arith, length, subst, Bool, List, Option, Some, None, refl, sym, ap, ◌∙◌}
-use Rattle.std.specs.Prelude.{find, filter, option_map}
+use Rattle.std.proofs.Common.{◌≡◌, ◌==◌, ◌&&◌, ℕ, subst, Bool, List, Option, Some, None, refl, sym, ap, ◌∙◌}
+use Rattle.std.specs.Prelude.{option_map}
 use Rattle.std.specs.Bool.{IsTrue}
 use Rattle.std.specs.Str.{bytes_eq}
 use Rattle.std.proofs.lemmas.Bool.{and_parts, and_from}
@@ -15,11 +15,10 @@ use Rattle.nb_model.specs.Effect.{acl_like, is_rule, without}
 use Rattle.nb_model.specs.Network.{Network, same}
 use Rattle.nb_model.specs.Sound.{IsSound}
 use Rattle.nb_model.proofs.Alike.{number_key, same_names}
-use Rattle.nv_table.specs.Table.{NumbersRise, is_after, without_number}
-use Rattle.nb_store.proofs.AclLikes.{one_way, filter_without_number}
+use Rattle.nv_table.specs.Table.{without_number}
+use Rattle.nb_store.proofs.AclLikes.{one_way}
 use Rattle.nb_store.proofs.PlacedRecords.{none_without, rises}
 use Rattle.nb_change.proofs.Goes.{alone_goes}
-use Rattle.nb_change.proofs.AclsThatGo.{acl_smaller}
 
 way_key : (k a b : Way) → IsTrue (same_way k a) → IsTrue (same_way k b) → IsTrue (same_way a b)
 way_key k a b e f = subst (λ w. IsTrue (same_way w b)) (one_way k a e) f
@@ -65,16 +64,3 @@ module _ (net : Network) (sound : IsSound net) (owner : ObjId) (way : Way) (prio
           ap (λ (n : ObjId). record net { acls = without_number (λ x. x.id) n net.acls }) own
           ∙ ap (λ (all : List Acl). record net { acls = all })
           (alone_goes (λ (x : Acl). x.id) is_like same_acl a net.acls e (rises (λ (x : Acl). x.id) net.acls sound.numbered.order.acls) agree sound.apart.acls)
-
--- An ACL goes, and no more are left of those after a number.
-pub acl_falls : (p : Acl → Bool) (net now : Network) (acl : Acl) (after : Option ObjId) → Some acl ≡ find p net.acls → NumbersRise (λ (a : Acl). a.id) net.acls
-    → now ≡ record net { acls = without_number (λ x. x.id) acl.id net.acls }
-    → length now.acls + length (filter (λ (a : Acl). is_after after a.id) now.acls) < length net.acls + length (filter (λ (a : Acl). is_after after a.id) net.acls)
-acl_falls p net now acl after found rise now_is =
-    let fewer = acl_smaller p net (record net { acls = without_number (λ x. x.id) acl.id net.acls }) acl found rise refl in
-    let less = filter_without_number acl.id after net.acls in
-    subst (λ (it : Network). length it.acls + length (filter (λ (a : Acl). is_after after a.id) it.acls) < length net.acls + length (filter (λ (a : Acl). is_after after a.id) net.acls)) (sym now_is)
-    (omega (arith, fewer, less))
-
-pub more_falls : (n a b : ℕ) → a < b → n + a < n + b
-more_falls n a b lt = omega (arith, lt)

@@ -1,23 +1,24 @@
 -- What edits of load balancers, and of the switches and routers that have them, make of a sound network.
 use Rattle.std.proofs.Common.{◌≡◌, ℕ, ◌+◌, Bool, true, false, cond, List, [], ◌∷◌, ◌++◌, map, Option, Some, None, refl, sym, ap, ◌∙◌}
-use Rattle.std.specs.Prelude.{is_some, unwrap_or}
+use Rattle.std.specs.Prelude.{find, is_some, unwrap_or}
+use Rattle.std.specs.Bool.{IsTrue}
 use Rattle.std.specs.Str.{bytes_eq}
 use Rattle.nv_base.specs.declared.object.ObjId.{ObjId}
 use Rattle.nb_records.specs.declared.balancer.Lb.{Lb}
 use Rattle.nb_records.specs.declared.balancer.Proto.{Proto}
 use Rattle.nb_records.specs.declared.balancer.Proto.TheVariants.{Tcp}
 use Rattle.nb_records.specs.declared.balancer.Vip.{Vip}
-use Rattle.nb_records.specs.declared.edit.Edit.TheVariants as edit
 use Rattle.nb_records.specs.declared.router.Router.{Router}
 use Rattle.nb_records.specs.declared.switch.Switch.{Switch}
 use Rattle.nb_model.specs.Belongs.{is_number}
-use Rattle.nb_model.specs.Effect.{effect, each_where, add_vip, where_there, set_switch_lbs, set_router_lbs, with_number, without, is_detached}
-use Rattle.nb_model.specs.Network.{Network, next_number, same, switch_named, router_named, lb_named, lb_id}
+use Rattle.nb_model.specs.Effect.{each_where, add_vip, where_there, with_number, without, is_detached}
+use Rattle.nb_model.specs.Network.{Network, next_number, same, lb_named}
+use Rattle.nb_model.specs.Readable.{are_apart}
 use Rattle.nb_model.specs.Sound.{IsSound}
 use Rattle.nb_model.proofs.Alike.{same_names}
 use Rattle.nb_model.proofs.Numbered.{are_used}
 use Rattle.nb_model.proofs.RecordLists.{found_holds}
-use Rattle.nv_table.specs.Table.{with_exchanged}
+use Rattle.nv_table.specs.Table.{NumbersRise, with_exchanged}
 use Rattle.nb_store.proofs.PlacedRecords.{changed_at, named_changed, new_last, none_changed, apart_first, rises}
 use Rattle.nb_change.proofs.Goes.{apart_last, none_goes}
 use Rattle.nb_change.proofs.Removed.{map_same}
@@ -27,57 +28,92 @@ pub all_detached : (net : Network) (numbers : List ObjId) → [] ≡ without (is
 all_detached net [] = refl
 all_detached net (n ∷ numbers) = all_detached net numbers
 
+-- the switches, or the routers, of a network: each has a name and load balancers
+pub record HaveBalancers {R : Type 0} (list : Network → List R) (with_list : List R → Network → Network) (number : R → ObjId) (called : R → List ℕ) (lbs : R → List ObjId)
+    (with_lbs : List ObjId → R → R) (net : Network) : Type 0 where
+  pub same_list : with_list (list net) net ≡ net
+  pub same_lbs : (x : R) → with_lbs (lbs x) x ≡ x
+  pub numbered : (all : List ObjId) (x : R) → number (with_lbs all x) ≡ number x
+  pub rise : NumbersRise number (list net)
+  pub apart : IsTrue (are_apart bytes_eq (map called (list net)))
+
+pub of_switches : (net : Network) → IsSound net
+    → HaveBalancers (λ net. net.switches) (λ all net. record net { switches = all }) (λ (x : Switch). x.id) (λ x. x.name) (λ x. x.lbs) (λ all x. record x { lbs = all }) net
+of_switches net sound = record {
+  same_list = refl;
+  same_lbs = λ x. refl;
+  numbered = λ all x. refl;
+  rise = rises (λ (x : Switch). x.id) net.switches sound.numbered.order.switches;
+  apart = apart_first bytes_eq (map (λ (x : Switch). x.name) net.switches) (map (λ (x : Router). x.name) net.routers) sound.named.datapaths;
+}
+
+pub of_routers : (net : Network) → IsSound net
+    → HaveBalancers (λ net. net.routers) (λ all net. record net { routers = all }) (λ (x : Router). x.id) (λ x. x.name) (λ x. x.lbs) (λ all x. record x { lbs = all }) net
+of_routers net sound = record {
+  same_list = refl;
+  same_lbs = λ x. refl;
+  numbered = λ all x. refl;
+  rise = rises (λ (x : Router). x.id) net.routers sound.numbered.order.routers;
+  apart = apart_last bytes_eq (map (λ (x : Switch). x.name) net.switches) (map (λ (x : Router). x.name) net.routers) sound.named.datapaths;
+}
+
+module _ {R : Type 0} {list : Network → List R} {with_list : List R → Network → Network} {number : R → ObjId} {called : R → List ℕ} {lbs : R → List ObjId} {with_lbs : List ObjId → R → R}
+    {net : Network} (part : HaveBalancers list with_list number called lbs with_lbs net) (name : List ℕ) where
+  abbrev is_named : R → Bool
+  is_named x = bytes_eq (called x) name
+
+  abbrev set_lbs : (List ObjId → List ObjId) → Network
+  set_lbs change = with_list (each_where is_named (λ x. with_lbs (change (lbs x)) x) (list net)) net
+
+  abbrev with_lb : Option ObjId → Network
+  with_lb lb = where_there lb (λ n. set_lbs (with_number n)) net
+
+  -- other load balancers of the one of a name
+  changed : (change : List ObjId → List ObjId) (old new : R) → Some old ≡ find is_named (list net) → (name ≡ called old → new ≡ with_lbs (change (lbs old)) old)
+      → with_list (with_exchanged number new (list net)) net ≡ set_lbs change
+  changed change old new found fields =
+      let is : name ≡ called old = sym (same_names (called old) name (found_holds is_named (list net) old (sym found))) in
+      ap (λ (x : R). with_list (with_exchanged number x (list net)) net) (fields is)
+      ∙ ap (λ (all : List R). with_list all net)
+      (sym (named_changed number called name (λ x. with_lbs (change (lbs x)) x) old (list net) (sym found) part.rise part.apart (part.numbered _ old)))
+
+  -- other load balancers of the one of a number that a name has
+  listed : (change : List ObjId → List ObjId) (old : R) → Some old ≡ find is_named (list net)
+      → with_list (each_where (λ x. same (number old) (number x)) (λ x. with_lbs (change (lbs x)) x) (list net)) net ≡ set_lbs change
+  listed change old found =
+      ap (λ (all : List R). with_list all net) (sym (changed_at number is_named (λ x. with_lbs (change (lbs x)) x) old (list net) (sym found) part.rise (part.numbered _ old)))
+      ∙ changed change old (with_lbs (change (lbs old)) old) found (λ is. refl)
+
+  pub none_named : (change : List ObjId → List ObjId) → None ≡ find is_named (list net) → net ≡ set_lbs change
+  none_named change none = sym part.same_list ∙ ap (λ (all : List R). with_list all net) (sym (none_changed is_named (λ x. with_lbs (change (lbs x)) x) (list net) (sym none)))
+
+  pub attached : (lb : Option ObjId) (n : ObjId) (old : R) → Some n ≡ lb → Some old ≡ find is_named (list net)
+      → with_list (each_where (λ x. same (number old) (number x)) (λ x. with_lbs (with_number n (lbs x)) x) (list net)) net ≡ with_lb lb
+  attached lb n old there found = listed (with_number n) old found ∙ ap with_lb there
+
+  pub none_attached : (lb : Option ObjId) (n : ObjId) → Some n ≡ lb → None ≡ find is_named (list net) → net ≡ with_lb lb
+  none_attached lb n there none = none_named (with_number n) none ∙ ap with_lb there
+
+  pub no_lb_attached : (lb : Option ObjId) → None ≡ lb → net ≡ with_lb lb
+  no_lb_attached lb none = ap with_lb none
+
+  pub detached : (lb : Option ObjId) (n : ObjId) (old : R) → Some n ≡ lb → Some old ≡ find is_named (list net)
+      → with_list (each_where (λ x. same (number old) (number x)) (λ x. with_lbs (without (same n) (lbs x)) x) (list net)) net ≡ set_lbs (without (is_number lb))
+  detached lb n old there found = listed (without (same n)) old found ∙ ap (λ (o : Option ObjId). set_lbs (without (is_number o))) there
+
+  -- a load balancer that is not there
+  pub no_lb_detached : (lb : Option ObjId) → None ≡ lb → net ≡ set_lbs (without (is_number lb))
+  no_lb_detached lb none = sym part.same_list ∙ ap (λ (all : List R). with_list all net) (sym (map_same _ (λ x. either (is_named x) x) (list net))) ∙ ap (λ (o : Option ObjId). set_lbs (without (is_number o))) none
+    where
+      either : (b : Bool) (x : R) → cond b (with_lbs (without (is_number None) (lbs x)) x) x ≡ x
+      either true x = ap (λ (all : List ObjId). with_lbs all x) (none_goes (lbs x)) ∙ part.same_lbs x
+      either false x = refl
+
+  -- each is detached
+  pub emptied : (old new : R) → Some old ≡ find is_named (list net) → (name ≡ called old → new ≡ with_lbs [] old) → with_list (with_exchanged number new (list net)) net ≡ set_lbs (without (is_detached net None))
+  emptied old new found fields = changed (without (is_detached net None)) old new found (λ is. fields is ∙ ap (λ (all : List ObjId). with_lbs all old) (all_detached net (lbs old)))
+
 module _ (net : Network) (sound : IsSound net) where
-  -- other load balancers of the switch of a name
-  changed_switch : (name : List ℕ) (change : List ObjId → List ObjId) (old new : Switch) → Some old ≡ switch_named net name
-      → (name ≡ old.name → new ≡ record old { lbs = change old.lbs })
-      → record net { switches = with_exchanged (λ x. x.id) new net.switches } ≡ set_switch_lbs net name change
-  changed_switch name change old new found fields =
-      let is : name ≡ old.name = sym (same_names old.name name (found_holds (λ (x : Switch). bytes_eq x.name name) net.switches old (sym found))) in
-      ap (λ (s : Switch). record net { switches = with_exchanged (λ x. x.id) s net.switches }) (fields is)
-      ∙ ap (λ (all : List Switch). record net { switches = all })
-      (sym (named_changed (λ (x : Switch). x.id) (λ (x : Switch). x.name) name (λ x. record x { lbs = change x.lbs }) old net.switches (sym found)
-      (rises (λ (x : Switch). x.id) net.switches sound.numbered.order.switches)
-      (apart_first bytes_eq (map (λ (x : Switch). x.name) net.switches) (map (λ (x : Router). x.name) net.routers) sound.named.datapaths) refl))
-
-  -- other load balancers of the switch of a number that a name has
-  listed_switch : (name : List ℕ) (change : List ObjId → List ObjId) (old : Switch) → Some old ≡ switch_named net name
-      → record net { switches = each_where (λ x. same old.id x.id) (λ x. record x { lbs = change x.lbs }) net.switches } ≡ set_switch_lbs net name change
-  listed_switch name change old found =
-      ap (λ (all : List Switch). record net { switches = all })
-      (sym (changed_at (λ (x : Switch). x.id) (λ (x : Switch). bytes_eq x.name name) (λ x. record x { lbs = change x.lbs }) old net.switches (sym found)
-      (rises (λ (x : Switch). x.id) net.switches sound.numbered.order.switches) refl))
-      ∙ changed_switch name change old (record old { lbs = change old.lbs }) found (λ is. refl)
-
-  pub no_switch : (name : List ℕ) (change : List ObjId → List ObjId) → None ≡ switch_named net name → net ≡ set_switch_lbs net name change
-  no_switch name change none =
-      ap (λ (all : List Switch). record net { switches = all }) (sym (none_changed (λ (x : Switch). bytes_eq x.name name) (λ x. record x { lbs = change x.lbs }) net.switches (sym none)))
-
-  -- other load balancers of the router of a name
-  changed_router : (name : List ℕ) (change : List ObjId → List ObjId) (old new : Router) → Some old ≡ router_named net name
-      → (name ≡ old.name → new ≡ record old { lbs = change old.lbs })
-      → record net { routers = with_exchanged (λ x. x.id) new net.routers } ≡ set_router_lbs net name change
-  changed_router name change old new found fields =
-      let is : name ≡ old.name = sym (same_names old.name name (found_holds (λ (x : Router). bytes_eq x.name name) net.routers old (sym found))) in
-      ap (λ (s : Router). record net { routers = with_exchanged (λ x. x.id) s net.routers }) (fields is)
-      ∙ ap (λ (all : List Router). record net { routers = all })
-      (sym (named_changed (λ (x : Router). x.id) (λ (x : Router). x.name) name (λ x. record x { lbs = change x.lbs }) old net.routers (sym found)
-      (rises (λ (x : Router). x.id) net.routers sound.numbered.order.routers)
-      (apart_last bytes_eq (map (λ (x : Switch). x.name) net.switches) (map (λ (x : Router). x.name) net.routers) sound.named.datapaths) refl))
-
-  -- other load balancers of the router of a number that a name has
-  listed_router : (name : List ℕ) (change : List ObjId → List ObjId) (old : Router) → Some old ≡ router_named net name
-      → record net { routers = each_where (λ x. same old.id x.id) (λ x. record x { lbs = change x.lbs }) net.routers } ≡ set_router_lbs net name change
-  listed_router name change old found =
-      ap (λ (all : List Router). record net { routers = all })
-      (sym (changed_at (λ (x : Router). x.id) (λ (x : Router). bytes_eq x.name name) (λ x. record x { lbs = change x.lbs }) old net.routers (sym found)
-      (rises (λ (x : Router). x.id) net.routers sound.numbered.order.routers) refl))
-      ∙ changed_router name change old (record old { lbs = change old.lbs }) found (λ is. refl)
-
-  pub no_router : (name : List ℕ) (change : List ObjId → List ObjId) → None ≡ router_named net name → net ≡ set_router_lbs net name change
-  no_router name change none =
-      ap (λ (all : List Router). record net { routers = all }) (sym (none_changed (λ (x : Router). bytes_eq x.name name) (λ x. record x { lbs = change x.lbs }) net.routers (sym none)))
-
   abbrev new_lb : List ℕ → Vip → Option Proto → Lb
   new_lb name vip proto = record { id = next_number net; name = name; proto = unwrap_or proto Tcp; vips = vip ∷ [] }
 
@@ -85,92 +121,6 @@ module _ (net : Network) (sound : IsSound net) where
   vip_in name vip proto found =
       cond (is_some found) (record net { lbs = each_where (λ lb. bytes_eq lb.name name) (λ lb. record lb { vips = lb.vips ++ vip ∷ [] }) net.lbs })
       (record net { lbs = net.lbs ++ new_lb name vip proto ∷ []; next = net.next + 1 })
-
-  abbrev switch_with_lb : List ℕ → Option ObjId → Network
-  switch_with_lb name lb = where_there lb (λ number. set_switch_lbs net name (with_number number)) net
-
-  abbrev router_with_lb : List ℕ → Option ObjId → Network
-  router_with_lb name lb = where_there lb (λ number. set_router_lbs net name (with_number number)) net
-
-  pub attached_to_switch : (name lb : List ℕ) (may : Bool) (number : ObjId) (old : Switch) → Some number ≡ lb_id net lb → Some old ≡ switch_named net name
-      → record net { switches = each_where (λ x. same old.id x.id) (λ x. record x { lbs = with_number number x.lbs }) net.switches } ≡ effect net (edit.LsLbAdd name lb may)
-  attached_to_switch name lb may number old there found = listed_switch name (with_number number) old found ∙ ap (switch_with_lb name) there
-
-  pub no_switch_attached : (name lb : List ℕ) (may : Bool) (number : ObjId) → Some number ≡ lb_id net lb → None ≡ switch_named net name → net ≡ effect net (edit.LsLbAdd name lb may)
-  no_switch_attached name lb may number there none = no_switch name (with_number number) none ∙ ap (switch_with_lb name) there
-
-  pub none_attached_to_switch : (name lb : List ℕ) (may : Bool) → None ≡ lb_id net lb → net ≡ effect net (edit.LsLbAdd name lb may)
-  none_attached_to_switch name lb may none = ap (switch_with_lb name) none
-
-  pub attached_to_router : (name lb : List ℕ) (may : Bool) (number : ObjId) (old : Router) → Some number ≡ lb_id net lb → Some old ≡ router_named net name
-      → record net { routers = each_where (λ x. same old.id x.id) (λ x. record x { lbs = with_number number x.lbs }) net.routers } ≡ effect net (edit.LrLbAdd name lb may)
-  attached_to_router name lb may number old there found = listed_router name (with_number number) old found ∙ ap (router_with_lb name) there
-
-  pub no_router_attached : (name lb : List ℕ) (may : Bool) (number : ObjId) → Some number ≡ lb_id net lb → None ≡ router_named net name → net ≡ effect net (edit.LrLbAdd name lb may)
-  no_router_attached name lb may number there none = no_router name (with_number number) none ∙ ap (router_with_lb name) there
-
-  pub none_attached_to_router : (name lb : List ℕ) (may : Bool) → None ≡ lb_id net lb → net ≡ effect net (edit.LrLbAdd name lb may)
-  none_attached_to_router name lb may none = ap (router_with_lb name) none
-
-  pub detached_from_switch : (name lb : List ℕ) (given : Bool) (number : ObjId) (old : Switch) → Some number ≡ lb_id net lb → Some old ≡ switch_named net name
-      → record net { switches = each_where (λ x. same old.id x.id) (λ x. record x { lbs = without (same number) x.lbs }) net.switches } ≡ effect net (edit.LsLbDel name (Some lb) given)
-  detached_from_switch name lb given number old there found =
-      listed_switch name (without (same number)) old found ∙ ap (λ (n : Option ObjId). set_switch_lbs net name (without (is_number n))) there
-
-  -- a load balancer that is not there
-  pub none_detached_from_switch : (name lb : List ℕ) (given : Bool) → None ≡ lb_id net lb → net ≡ effect net (edit.LsLbDel name (Some lb) given)
-  none_detached_from_switch name lb given none =
-      ap (λ (all : List Switch). record net { switches = all }) (sym (all_kept net.switches)) ∙ ap (λ (n : Option ObjId). set_switch_lbs net name (without (is_number n))) none
-    where
-      kept : (x : Switch) → record x { lbs = without (is_number None) x.lbs } ≡ x
-      kept x = ap (λ (all : List ObjId). let y : Switch = record x { lbs = all } in y) (none_goes x.lbs)
-
-      either : (b : Bool) (x : Switch) → cond b (record x { lbs = without (is_number None) x.lbs }) x ≡ x
-      either true x = kept x
-      either false x = refl
-
-      all_kept : (xs : List Switch) → each_where (λ x. bytes_eq x.name name) (λ x. record x { lbs = without (is_number None) x.lbs }) xs ≡ xs
-      all_kept xs = map_same _ (λ x. either (bytes_eq x.name name) x) xs
-
-  -- each is detached
-  pub emptied_switch : (name : List ℕ) (given : Bool) (old new : Switch) → Some old ≡ switch_named net name → (name ≡ old.name → new ≡ record old { lbs = [] })
-      → record net { switches = with_exchanged (λ x. x.id) new net.switches } ≡ effect net (edit.LsLbDel name None given)
-  emptied_switch name given old new found fields =
-      changed_switch name (without (is_detached net None)) old new found
-      (λ is. fields is ∙ ap (λ (all : List ObjId). let x : Switch = record old { lbs = all } in x) (all_detached net old.lbs))
-
-  pub no_switch_detached : (name : List ℕ) (lb : Option (List ℕ)) (given : Bool) → None ≡ switch_named net name → net ≡ effect net (edit.LsLbDel name lb given)
-  no_switch_detached name lb given none = no_switch name (without (is_detached net lb)) none
-
-  pub detached_from_router : (name lb : List ℕ) (given : Bool) (number : ObjId) (old : Router) → Some number ≡ lb_id net lb → Some old ≡ router_named net name
-      → record net { routers = each_where (λ x. same old.id x.id) (λ x. record x { lbs = without (same number) x.lbs }) net.routers } ≡ effect net (edit.LrLbDel name (Some lb) given)
-  detached_from_router name lb given number old there found =
-      listed_router name (without (same number)) old found ∙ ap (λ (n : Option ObjId). set_router_lbs net name (without (is_number n))) there
-
-  -- a load balancer that is not there
-  pub none_detached_from_router : (name lb : List ℕ) (given : Bool) → None ≡ lb_id net lb → net ≡ effect net (edit.LrLbDel name (Some lb) given)
-  none_detached_from_router name lb given none =
-      ap (λ (all : List Router). record net { routers = all }) (sym (all_kept net.routers)) ∙ ap (λ (n : Option ObjId). set_router_lbs net name (without (is_number n))) none
-    where
-      kept : (x : Router) → record x { lbs = without (is_number None) x.lbs } ≡ x
-      kept x = ap (λ (all : List ObjId). let y : Router = record x { lbs = all } in y) (none_goes x.lbs)
-
-      either : (b : Bool) (x : Router) → cond b (record x { lbs = without (is_number None) x.lbs }) x ≡ x
-      either true x = kept x
-      either false x = refl
-
-      all_kept : (xs : List Router) → each_where (λ x. bytes_eq x.name name) (λ x. record x { lbs = without (is_number None) x.lbs }) xs ≡ xs
-      all_kept xs = map_same _ (λ x. either (bytes_eq x.name name) x) xs
-
-  -- each is detached
-  pub emptied_router : (name : List ℕ) (given : Bool) (old new : Router) → Some old ≡ router_named net name → (name ≡ old.name → new ≡ record old { lbs = [] })
-      → record net { routers = with_exchanged (λ x. x.id) new net.routers } ≡ effect net (edit.LrLbDel name None given)
-  emptied_router name given old new found fields =
-      changed_router name (without (is_detached net None)) old new found
-      (λ is. fields is ∙ ap (λ (all : List ObjId). let x : Router = record old { lbs = all } in x) (all_detached net old.lbs))
-
-  pub no_router_detached : (name : List ℕ) (lb : Option (List ℕ)) (given : Bool) → None ≡ router_named net name → net ≡ effect net (edit.LrLbDel name lb given)
-  no_router_detached name lb given none = no_router name (without (is_detached net lb)) none
 
   -- a VIP more
   pub added_vip : (name : List ℕ) (vip : Vip) (proto : Option Proto) (old new : Lb) → Some old ≡ lb_named net name

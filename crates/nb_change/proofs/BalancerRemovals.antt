@@ -12,21 +12,7 @@ use Rattle.nv_table.specs.Table.{NumbersRise, with_exchanged}
 use Rattle.nb_change.specs.inner.Balancers.{vip_leaves}
 use Rattle.nb_store.proofs.PlacedRecords.{changed_at}
 use Rattle.nb_change.proofs.Goes.{none_goes}
-use Rattle.nb_change.proofs.ListedNumbers.{Listing}
 use Rattle.nb_change.proofs.Removed.{map_same}
-use Rattle.nb_change.proofs.RouterRemovals.{IsList}
-
-pub of_switches : IsList (λ net. net.switches) (λ all net. record net { switches = all })
-of_switches = record { read = λ all net. refl; again = λ all before net. refl; same = λ net. refl }
-
-pub of_routers : IsList (λ net. net.routers) (λ all net. record net { routers = all })
-of_routers = record { read = λ all net. refl; again = λ all before net. refl; same = λ net. refl }
-
-pub in_switch : Listing (λ (x : Switch). x.id) (λ x. x.lbs) (λ all x. record x { lbs = all })
-in_switch = record { keeps = λ all x. refl; read = λ all x. refl; again = λ all before x. refl; same = λ x. refl }
-
-pub in_router : Listing (λ (x : Router). x.id) (λ x. x.lbs) (λ all x. record x { lbs = all })
-in_router = record { keeps = λ all x. refl; read = λ all x. refl; again = λ all before x. refl; same = λ x. refl }
 
 -- No load balancer of the number is there.
 

@@ -1,5 +1,5 @@
 -- Records that go, and one that alone passes a test.
-use Rattle.std.proofs.Common.{◌≡◌, ◌++◌, ◌<◌, ◌||◌, Bool, true, false, cond, not, List, [], ◌∷◌, Some, None, refl, sym, ap, ◌∙◌, subst}
+use Rattle.std.proofs.Common.{◌≡◌, ◌++◌, ◌<◌, ◌&&◌, ◌||◌, Bool, true, false, cond, not, List, [], ◌∷◌, Some, None, refl, sym, ap, ◌∙◌, subst}
 use Rattle.std.proofs.lemmas.Bool.{and_parts}
 use Rattle.std.specs.Prelude.{find}
 use Rattle.std.specs.Bool.{IsTrue}
@@ -11,6 +11,10 @@ use Rattle.nb_model.proofs.RecordLists.{all_as, every_filter, found_holds}
 use Rattle.nv_table.specs.Table.{NumbersRise, without_number}
 use Rattle.nb_store.proofs.AclLikes.{none_narrow, found_narrow}
 use Rattle.nb_store.proofs.PlacedRecords.{placed, none_of, none_without}
+
+pub and_true : (b : Bool) → b ≡ (b && true)
+and_true true = refl
+and_true false = refl
 
 apart_rest : {K : Type 0} (same : K → K → Bool) (before : List K) (x : K) (after : List K) → IsTrue (are_apart same (before ++ x ∷ after)) → IsTrue (list_all (λ y. not (same x y)) after)
 apart_rest same [] x after apart = (and_parts (list_all (λ y. not (same x y)) after) (are_apart same after) apart).0

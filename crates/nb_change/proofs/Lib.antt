@@ -8,14 +8,11 @@ pub mod Once
 pub mod RouterEdits
 pub mod SetEdits
 pub mod AclRemovals
-pub mod AclsThatGo
 pub mod BalancerRemovals
 pub mod Goes
 pub mod ListedNumbers
 pub mod ManyLeave
-pub mod NatsFor
 pub mod OneByOne
 pub mod OneEach
 pub mod Removed
 pub mod RouterRemovals
-pub mod RoutesFor

@@ -4,6 +4,9 @@ use Rattle.std.proofs.lemmas.List.{map-append, length-append}
 use Rattle.std.proofs.lemmas.List.Elements.{filter-append}
 use Rattle.std.specs.Prelude.{find, filter}
 use Rattle.nv_base.specs.declared.object.ObjId.{ObjId}
+use Rattle.nb_records.specs.declared.router.Router.{Router}
+use Rattle.nb_records.specs.declared.sets.Group.{Group}
+use Rattle.nb_records.specs.declared.switch.Switch.{Switch}
 use Rattle.nb_model.specs.Belongs.{is_among}
 use Rattle.nb_model.specs.Effect.{each_where, without}
 use Rattle.nb_model.specs.Network.{Network, same}
@@ -11,8 +14,8 @@ use Rattle.nb_model.proofs.RecordLists.{found_holds}
 use Rattle.nv_table.specs.Table.{NumbersRise, with_exchanged}
 use Rattle.nv_table.proofs.Undone.{rise_exchanged}
 use Rattle.nb_store.proofs.PlacedRecords.{IsPlaced, placed, none_without, changed_at}
+use Rattle.nb_change.specs.inner.Kinds.{IsList}
 use Rattle.nb_change.proofs.Removed.{without_twice, none_listed, gone, either_same}
-use Rattle.nb_change.proofs.RouterRemovals.{IsList}
 
 -- a list of numbers in each record
 pub record Listing {R : Type 0} (number : R → ObjId) (listed : R → List ObjId) (with_listed : List ObjId → R → R) : Type 0 where
@@ -101,3 +104,23 @@ module _ {R : Type 0} {number : R → ObjId} {listed : R → List ObjId} {with_l
           ap (λ (it : Network). with_list (map left_by (list now)) it) left_now
           ∙ part.again _ _ net
           ∙ ap (λ (l : List R). with_list l net) (ap (map left_by) left_list ∙ still_leaving (list net) x found rise)
+
+-- The three lists whose records list numbers.
+
+pub of_switches : IsList (λ net. net.switches) (λ all net. record net { switches = all })
+of_switches = record { read = λ all net. refl; again = λ all before net. refl; same = λ net. refl }
+
+pub of_routers : IsList (λ net. net.routers) (λ all net. record net { routers = all })
+of_routers = record { read = λ all net. refl; again = λ all before net. refl; same = λ net. refl }
+
+pub of_groups : IsList (λ net. net.groups) (λ all net. record net { groups = all })
+of_groups = record { read = λ all net. refl; again = λ all before net. refl; same = λ net. refl }
+
+pub in_switch : Listing (λ (x : Switch). x.id) (λ x. x.lbs) (λ all x. record x { lbs = all })
+in_switch = record { keeps = λ all x. refl; read = λ all x. refl; again = λ all before x. refl; same = λ x. refl }
+
+pub in_router : Listing (λ (x : Router). x.id) (λ x. x.lbs) (λ all x. record x { lbs = all })
+in_router = record { keeps = λ all x. refl; read = λ all x. refl; again = λ all before x. refl; same = λ x. refl }
+
+pub in_group : Listing (λ (x : Group). x.id) (λ x. x.ports) (λ all x. record x { ports = all })
+in_group = record { keeps = λ all x. refl; read = λ all x. refl; again = λ all before x. refl; same = λ x. refl }

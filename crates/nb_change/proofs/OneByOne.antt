@@ -8,13 +8,13 @@ use Rattle.std.specs.Bool.{IsTrue}
 use Rattle.std.specs.List.{list_all, AllByRecursion}
 use Rattle.nv_base.specs.declared.object.ObjId.{ObjId}
 use Rattle.nb_model.specs.Effect.{without}
-use Rattle.nb_model.specs.Network.{Network}
+use Rattle.nb_model.specs.Network.{Network, same}
 use Rattle.nb_model.proofs.RecordLists.{all_append, none_found, found_holds}
 use Rattle.nv_table.specs.Table.{NumbersRise, without_number, is_after}
 use Rattle.nv_table.proofs.Undone.{rise_without}
 use Rattle.nb_store.proofs.PlacedRecords.{IsPlaced, placed, none_of, none_without}
+use Rattle.nb_change.specs.inner.Kinds.{IsList}
 use Rattle.nb_change.proofs.Goes.{passing_goes, without_both}
-use Rattle.nb_change.proofs.RouterRemovals.{IsList}
 
 both_all : {X : Type 0} (f g h : X → Bool) (xs : List X) → ((x : X) → IsTrue (f x) → IsTrue (g x) → IsTrue (h x)) → IsTrue (list_all f xs) → IsTrue (list_all g xs) → IsTrue (list_all h xs)
 both_all f g h [] each first second = refl
@@ -137,36 +137,56 @@ module _ {R : Type 0} (number : R → ObjId) where
   none_seen p [] = refl
   none_seen p (r ∷ rs) = none_seen p rs
 
--- The same of a network.
-module _ {R : Type 0} {list : Network → List R} {with_list : List R → Network → Network} (part : IsList list with_list) (number : R → ObjId) (p q : R → Bool) (weaker : (r : R) → IsTrue (p r) → IsTrue (q r))
-    (after : Option ObjId) (net : Network) (done : IsTrue (list_all (passed number p after) (list net))) where
-  pub all_seen : None ≡ find (λ r. is_after after (number r) && q r) (list net) → net ≡ with_list (without p (list net)) net
-  all_seen none = sym (ap (λ (l : List R). with_list l net) (none_left number p q weaker after (list net) done none) ∙ part.same net)
+-- The same of a network: of the records of an owner those go of which a test holds.
 
-  module _ (now : Network) (x : R) (found : Some x ≡ find (λ r. is_after after (number r) && q r) (list net)) (rise : NumbersRise number (list net)) (goes : Bool) (goes_is : p x ≡ goes)
-      (now_is : now ≡ cond goes (with_list (without_number number (number x) (list net)) net) net) where
-    seen_list : list now ≡ cond goes (without_number number (number x) (list net)) (list net)
-    seen_list = ap list now_is ∙ by goes
-      where
-        by : (b : Bool) → list (cond b (with_list (without_number number (number x) (list net)) net) net) ≡ cond b (without_number number (number x) (list net)) (list net)
-        by true = part.read _ net
-        by false = refl
+-- a record was looked at, and is gone if it was to go
+pub record IsSeen {R : Type 0} (list : Network → List R) (with_list : List R → Network → Network) (number : R → ObjId) (p : R → Bool) (after : Option ObjId) (net now : Network) (n : ObjId) : Type 0 where
+  pub done : IsTrue (list_all (passed number p (Some n)) (list now))
+  pub rise : NumbersRise number (list now)
+  pub same : with_list (without p (list now)) now ≡ with_list (without p (list net)) net
+  pub smaller : length (to_see number (Some n) (list now)) < length (to_see number after (list net))
 
-    pub seen_done : IsTrue (list_all (passed number p (Some (number x))) (list now))
-    seen_done = subst (λ l. IsTrue (list_all (passed number p (Some (number x))) l)) (sym seen_list) (next_done number p q weaker after (list net) done x found rise goes goes_is)
+module _ {R : Type 0} (list : Network → List R) (with_list : List R → Network → Network) (part : IsList list with_list) (number owner_of : R → ObjId) (owner : ObjId) (holds : R → Bool)
+    (after : Option ObjId) (net : Network) where
+  abbrev owned : R → Bool
+  owned r = same owner (owner_of r)
 
-    pub seen_rise : NumbersRise number (list now)
-    seen_rise = subst (NumbersRise number) (sym seen_list) (next_rise number p q weaker after (list net) done x found rise goes)
+  abbrev goes : R → Bool
+  goes r = owned r && holds r
 
-    pub seen_same : with_list (without p (list now)) now ≡ with_list (without p (list net)) net
-    seen_same =
-        ap (λ (it : Network). with_list (without p (list now)) it) now_is
-        ∙ by goes (without p (list now))
-        ∙ ap (λ (l : List R). with_list l net) (ap (without p) seen_list ∙ next_same number p q weaker after (list net) done x found rise goes goes_is)
-      where
-        by : (b : Bool) (l : List R) → with_list l (cond b (with_list (without_number number (number x) (list net)) net) net) ≡ with_list l net
-        by true l = part.again l _ net
-        by false l = refl
+  weaker : (r : R) → IsTrue (goes r) → IsTrue (owned r)
+  weaker r it = (and_parts (owned r) (holds r) it).0
 
-    pub seen_smaller : length (to_see number (Some (number x)) (list now)) < length (to_see number after (list net))
-    seen_smaller = subst (λ (l : List R). length (to_see number (Some (number x)) l) < length (to_see number after (list net))) (sym seen_list) (next_smaller number p q weaker after (list net) done x found rise goes)
+  module _ (done : IsTrue (list_all (passed number goes after) (list net))) where
+    pub all_seen : None ≡ find (λ r. is_after after (number r) && owned r) (list net) → net ≡ with_list (without goes (list net)) net
+    all_seen none = sym (ap (λ (l : List R). with_list l net) (none_left number goes owned weaker after (list net) done none) ∙ part.same net)
+
+    module _ (now : Network) (x : R) (found : Some x ≡ find (λ r. is_after after (number r) && owned r) (list net)) (rise : NumbersRise number (list net)) (b : Bool) (b_is : b ≡ holds x) where
+      it_goes : goes x ≡ b
+      it_goes = ap (λ c. c && holds x) (and_parts (is_after after (number x)) (owned x) (found_holds (λ r. is_after after (number r) && owned r) (list net) x (sym found))).1 ∙ sym b_is
+
+      own_seen : now ≡ cond b (with_list (without_number number (number x) (list net)) net) net → IsSeen list with_list number goes after net now (number x)
+      own_seen now_is = record {
+        done = subst (λ l. IsTrue (list_all (passed number goes (Some (number x))) l)) (sym seen_list) (next_done number goes owned weaker after (list net) done x found rise b it_goes);
+        rise = subst (NumbersRise number) (sym seen_list) (next_rise number goes owned weaker after (list net) done x found rise b);
+        same = ap (λ (it : Network). with_list (without goes (list now)) it) now_is
+            ∙ by_again b (without goes (list now))
+            ∙ ap (λ (l : List R). with_list l net) (ap (without goes) seen_list ∙ next_same number goes owned weaker after (list net) done x found rise b it_goes);
+        smaller = subst (λ (l : List R). length (to_see number (Some (number x)) l) < length (to_see number after (list net))) (sym seen_list) (next_smaller number goes owned weaker after (list net) done x found rise b);
+      }
+        where
+          by_read : (c : Bool) → list (cond c (with_list (without_number number (number x) (list net)) net) net) ≡ cond c (without_number number (number x) (list net)) (list net)
+          by_read true = part.read _ net
+          by_read false = refl
+
+          seen_list : list now ≡ cond b (without_number number (number x) (list net)) (list net)
+          seen_list = ap list now_is ∙ by_read b
+
+          by_again : (c : Bool) (l : List R) → with_list l (cond c (with_list (without_number number (number x) (list net)) net) net) ≡ with_list l net
+          by_again true l = part.again l _ net
+          by_again false l = refl
+
+      pub looked_at : (n : ObjId) → n ≡ number x → now ≡ cond b (with_list (without_number number n (list net)) net) net → IsSeen list with_list number goes after net now n
+      looked_at n is now_is =
+          subst (λ (m : ObjId). IsSeen list with_list number goes after net now m) (sym is)
+          (own_seen (now_is ∙ ap (λ (m : ObjId). cond b (with_list (without_number number m (list net)) net) net) is))

@@ -60,53 +60,9 @@ pub either_same : (a : Bool) → a ≡ (a || a)
 either_same true = refl
 either_same false = refl
 
--- A group that a port has left.
-
-leave_twice : (port : ObjId) (group : Group) → leave port (leave port group) ≡ leave port group
-leave_twice port group = ap (λ (ports : List ObjId). let g : Group = record group { ports = ports } in g) (without_twice (same port) (same port) (same port) (λ n. either_same (same port n)) group.ports)
-
-module _ (port : ObjId) (groups : List Group) (group : Group) (found : Some group ≡ find (λ g. is_among port g.ports) groups) (rise : NumbersRise (λ (g : Group). g.id) groups) where
-  place : IsPlaced (λ (g : Group). g.id) (λ g. is_among port g.ports) group groups
-  place = placed (λ (g : Group). g.id) (λ g. is_among port g.ports) group groups (sym found) rise
-
-  left : with_exchanged (λ (g : Group). g.id) (leave port group) groups ≡ place.before ++ leave port group ∷ place.after
-  left = place.exchanged (leave port group) refl
-
-  pub still_leaving : leaving port (with_exchanged (λ (g : Group). g.id) (leave port group) groups) ≡ leaving port groups
-  still_leaving =
-      ap (leaving port) left
-      ∙ map-append (leave port) place.before (leave port group ∷ place.after)
-      ∙ ap (λ g. leaving port place.before ++ g ∷ leaving port place.after) (leave_twice port group)
-      ∙ sym (map-append (leave port) place.before (group ∷ place.after))
-      ∙ ap (leaving port) (sym place.whole)
-
-  -- one group less lists the port
-  pub fewer_list : length (filter (λ g. is_among port g.ports) (with_exchanged (λ (g : Group). g.id) (leave port group) groups)) < length (filter (λ g. is_among port g.ports) groups)
-  fewer_list =
-      let p = λ (g : Group). is_among port g.ports in
-      let now : length (filter p (with_exchanged (λ (g : Group). g.id) (leave port group) groups)) ≡ length (filter p place.before) + length (filter p place.after) =
-      ap (λ l. length (filter p l)) left ∙ ap length (filter-append p place.before (leave port group ∷ place.after)) ∙ length-append (filter p place.before) _
-      ∙ ap (λ b. length (filter p place.before) + length (cond b (leave port group ∷ filter p place.after) (filter p place.after))) (gone (same port) group.ports) in
-      let before : length (filter p groups) ≡ length (filter p place.before) + length (group ∷ filter p place.after) =
-      ap (λ l. length (filter p l)) place.whole ∙ ap length (filter-append p place.before (group ∷ place.after)) ∙ length-append (filter p place.before) _
-      ∙ ap (λ b. length (filter p place.before) + length (cond b (group ∷ filter p place.after) (filter p place.after))) (found_holds p groups group (sym found)) in
-      omega (arith, now, before)
-
--- no group lists the port
-pub none_leave : (port : ObjId) (groups : List Group) → None ≡ find (λ (g : Group). is_among port g.ports) groups → leaving port groups ≡ groups
-none_leave port [] none = refl
-none_leave port (g ∷ groups) none = by (is_among port g.ports) refl none (none_leave port groups)
-  where
-    by : (b : Bool) → is_among port g.ports ≡ b → None ≡ cond b (Some g) (find (λ (g : Group). is_among port g.ports) groups)
-        → (None ≡ find (λ (g : Group). is_among port g.ports) groups → leaving port groups ≡ groups) → leaving port (g ∷ groups) ≡ g ∷ groups
-    by true e f more = absurd (cc)
-    by false e f more =
-        ap (λ (ports : List ObjId). (let h : Group = record g { ports = ports } in h) ∷ leaving port groups) (none_without (same port) g.ports (none_listed (same port) g.ports e))
-        ∙ ap (λ l. g ∷ l) (more f)
-
 -- Ports that leave their switch.
 
-none_passes : {X : Type 0} (p : X → Bool) (n : ObjId) (key : X → ObjId) (xs : List X) → find p xs ≡ None → list_any (λ x. same (key x) n && p x) xs ≡ false
+pub none_passes : {X : Type 0} (p : X → Bool) (n : ObjId) (key : X → ObjId) (xs : List X) → find p xs ≡ None → list_any (λ x. same (key x) n && p x) xs ≡ false
 none_passes p n key [] none = refl
 none_passes {X} p n key (x ∷ xs) none = by (p x) none (none_passes p n key xs)
   where
@@ -134,7 +90,7 @@ none_gone gone net none =
     stays : (group : Group) → (let g : Group = record group { ports = without listed group.ports } in g) ≡ group
     stays group = ap (λ (ports : List ObjId). let g : Group = record group { ports = ports } in g) (all_stay listed (λ n. none_passes gone n (λ (x : Port). x.id) net.ports none) group.ports)
 
-shuffle : (a b c d : Bool) → d ≡ true → (a || ((b && d) || c)) ≡ (b || (a || c))
+pub shuffle : (a b c d : Bool) → d ≡ true → (a || ((b && d) || c)) ≡ (b || (a || c))
 shuffle true true c d is = refl
 shuffle true false c d is = refl
 shuffle false true c true is = refl
@@ -207,24 +163,6 @@ named_gone net name port found rise apart =
     ap (find gone) place.left ∙ find-append gone place.before place.after ∙ ap (λ o. option_or o (find gone place.after)) place.first
     ∙ named_once (λ (x : Port). x.name) name place.before port place.after (subst (λ l. IsTrue (are_apart bytes_eq (map (λ (x : Port). x.name) l))) place.whole apart) is in
     sym (none_gone gone (less_port port.id net) none) ∙ one_gone gone net port place is
-
--- A port has left one more group.
-module _ (port : ObjId) (net now : Network) (group : Group) (found : Some group ≡ find (λ g. is_among port g.ports) net.groups) (rise : NumbersRise (λ (g : Group). g.id) net.groups)
-    (now_is : now ≡ record net { groups = each_where (λ g. same group.id g.id) (leave port) net.groups }) where
-  groups_now : now ≡ record net { groups = with_exchanged (λ x. x.id) (leave port group) net.groups }
-  groups_now = now_is ∙ ap (λ (all : List Group). record net { groups = all }) (sym (changed_at (λ (g : Group). g.id) (λ g. is_among port g.ports) (leave port) group net.groups (sym found) rise refl))
-
-  pub group_smaller : length (filter (λ g. is_among port g.ports) now.groups) < length (filter (λ g. is_among port g.ports) net.groups)
-  group_smaller = subst (λ (it : Network). length (filter (λ g. is_among port g.ports) it.groups) < length (filter (λ g. is_among port g.ports) net.groups)) (sym groups_now) (fewer_list port net.groups group found rise)
-
-  pub group_rise : NumbersRise (λ (g : Group). g.id) now.groups
-  group_rise = subst (λ (it : Network). NumbersRise (λ (g : Group). g.id) it.groups) (sym groups_now) (rise_exchanged (λ (g : Group). g.id) (leave port group) net.groups rise)
-
-  pub group_same : record now { groups = leaving port now.groups } ≡ record net { groups = leaving port net.groups }
-  group_same = ap (λ (it : Network). record it { groups = leaving port it.groups }) groups_now ∙ ap (λ (all : List Group). record net { groups = all }) (still_leaving port net.groups group found rise)
-
-pub groups_done : (port : ObjId) (net : Network) → None ≡ find (λ (g : Group). is_among port g.ports) net.groups → net ≡ record net { groups = leaving port net.groups }
-groups_done port net none = sym (ap (λ (all : List Group). record net { groups = all }) (none_leave port net.groups none))
 
 above_leaving : (n : ℕ) (port : ObjId) (groups : List Group) → AllByRecursion (λ (g : Group). n < g.id.0) groups → AllByRecursion (λ (g : Group). n < g.id.0) (leaving port groups)
 above_leaving n port [] all = tt

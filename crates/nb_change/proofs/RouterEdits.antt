@@ -24,6 +24,7 @@ use Rattle.nb_model.proofs.Alike.{same_names}
 use Rattle.nb_model.proofs.RecordLists.{found_holds}
 use Rattle.nv_table.specs.Table.{with_exchanged, without_number, NumbersRise}
 use Rattle.nb_store.proofs.PlacedRecords.{named_changed, none_changed, none_without, rises}
+use Rattle.nb_change.specs.inner.Routers.{is_route_for, is_nat_for}
 use Rattle.nb_change.proofs.Goes.{alone_goes, none_goes, apart_last}
 use Rattle.nb_change.proofs.NewRecords.{new_router, new_router_port, new_route, new_nat, new_binding}
 
@@ -157,3 +158,25 @@ module _ (net : Network) (sound : IsSound net) where
           let first = and_parts (same owner a.port) (addr.0 == a.addr.0) e in
           let second = and_parts (same owner b.port) (addr.0 == b.addr.0) f in
           and_from (same a.port b.port) (a.addr.0 == b.addr.0) (one_key owner.0 a.port.0 b.port.0 first.0 second.0) (one_key addr.0 a.addr.0 b.addr.0 first.1 second.1)
+
+-- Routes and NAT rules that a command asks to remove.
+
+abbrev routes_gone : Network → Option Block → Option RouteBy → Option ObjId → Network
+routes_gone net prefix by number = record net { routes = without (λ (r : Route). is_number number r.router && is_route_for prefix by r) net.routes }
+
+pub routes_deleted : (net : Network) (router : List ℕ) (prefix : Option Block) (given : Bool) (by : Option RouteBy) (number : ObjId) → Some number ≡ router_id net router
+    → record net { routes = without (λ (r : Route). same number r.router && is_route_for prefix by r) net.routes } ≡ effect net (edit.LrRouteDel router prefix given by)
+routes_deleted net router prefix given by number there = ap (routes_gone net prefix by) there
+
+pub no_routes_deleted : (net : Network) (router : List ℕ) (prefix : Option Block) (given : Bool) (by : Option RouteBy) → None ≡ router_id net router → net ≡ effect net (edit.LrRouteDel router prefix given by)
+no_routes_deleted net router prefix given by none = ap (λ (all : List Route). record net { routes = all }) (sym (none_goes net.routes)) ∙ ap (routes_gone net prefix by) none
+
+abbrev nats_gone : Network → Option NatKind → Option Block → Option ObjId → Network
+nats_gone net kind at number = record net { nats = without (λ (r : Nat). is_number number r.router && is_nat_for kind at r) net.nats }
+
+pub nats_deleted : (net : Network) (router : List ℕ) (kind : Option NatKind) (at : Option Block) (given : Bool) (number : ObjId) → Some number ≡ router_id net router
+    → record net { nats = without (λ (r : Nat). same number r.router && is_nat_for kind at r) net.nats } ≡ effect net (edit.LrNatDel router kind at given)
+nats_deleted net router kind at given number there = ap (nats_gone net kind at) there
+
+pub no_nats_deleted : (net : Network) (router : List ℕ) (kind : Option NatKind) (at : Option Block) (given : Bool) → None ≡ router_id net router → net ≡ effect net (edit.LrNatDel router kind at given)
+no_nats_deleted net router kind at given none = ap (λ (all : List Nat). record net { nats = all }) (sym (none_goes net.nats)) ∙ ap (nats_gone net kind at) none

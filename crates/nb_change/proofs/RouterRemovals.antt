@@ -1,4 +1,4 @@
--- Records that go one by one, ports of routers with their bindings, and routers.
+-- Ports of routers that go with their bindings, and routers.
 use Rattle.std.proofs.Common.{◌≡◌, ℕ, ◌+◌, ◌<◌, Bool, true, false, cond, not, ◌&&◌, ◌||◌, List, [], ◌∷◌, map, Option, Some, None, arith, refl, sym, ap, ◌∙◌, subst, length}
 use Rattle.std.proofs.lemmas.List.{length-append}
 use Rattle.std.proofs.lemmas.List.Folds.{list_any-append, find-append}
@@ -24,105 +24,8 @@ use Rattle.nv_table.specs.Table.{NumbersRise, without_number}
 use Rattle.nv_table.proofs.Undone.{rise_without}
 use Rattle.nb_change.specs.inner.Routers.{less_router_port, less_router}
 use Rattle.nb_store.proofs.PlacedRecords.{placed, none_without, named_once, rises}
-use Rattle.nb_change.proofs.Goes.{passing_goes, none_goes, apart_last}
-
--- Filters, one after another.
-
-without_twice : {X : Type 0} (p q r : X → Bool) → ((x : X) → r x ≡ (p x || q x)) → (xs : List X) → without q (without p xs) ≡ without r xs
-without_twice p q r both [] = refl
-without_twice {X} p q r both (x ∷ xs) = by (p x) (both x) (without_twice p q r both xs)
-  where
-    by : (a : Bool) → r x ≡ (a || q x) → without q (without p xs) ≡ without r xs
-        → without q (cond (not a) (x ∷ without p xs) (without p xs)) ≡ cond (not (r x)) (x ∷ without r xs) (without r xs)
-    by true e more = more ∙ sym (ap (λ c. cond (not c) (x ∷ without r xs) (without r xs)) e)
-    by false e more = ap (λ c. cond (not c) (x ∷ without q (without p xs)) (without q (without p xs))) (sym e) ∙ ap (λ l. cond (not (r x)) (x ∷ l) l) more
-
-none_passes : {X : Type 0} (p : X → Bool) (n : ObjId) (key : X → ObjId) (xs : List X) → find p xs ≡ None → list_any (λ x. same (key x) n && p x) xs ≡ false
-none_passes p n key [] none = refl
-none_passes {X} p n key (x ∷ xs) none = by (p x) none (none_passes p n key xs)
-  where
-    by : (b : Bool) → cond b (Some x) (find p xs) ≡ None → (find p xs ≡ None → list_any (λ x. same (key x) n && p x) xs ≡ false) → ((same (key x) n && b) || list_any (λ x. same (key x) n && p x) xs) ≡ false
-    by true e more = absurd (cc)
-    by false e more = ap (λ b. b || list_any (λ x. same (key x) n && p x) xs) (no_and (same (key x) n)) ∙ more e
-      where
-        no_and : (a : Bool) → (a && false) ≡ false
-        no_and true = refl
-        no_and false = refl
-
-all_stay : {X : Type 0} (p : X → Bool) → ((x : X) → p x ≡ false) → (xs : List X) → without p xs ≡ xs
-all_stay p none [] = refl
-all_stay p none (x ∷ xs) = ap (λ b. cond (not b) (x ∷ without p xs) (without p xs)) (none x) ∙ ap (λ l. x ∷ l) (all_stay p none xs)
-
--- one record less
-one_less : {R : Type 0} (number : R → ObjId) (p : R → Bool) (x : R) (rs : List R) → Some x ≡ find p rs → NumbersRise number rs → length (without_number number (number x) rs) < length rs
-one_less number p x rs found rise =
-    let place = placed number p x rs (sym found) rise in
-    let now : length (without_number number (number x) rs) ≡ length place.before + length place.after = ap length place.left ∙ length-append place.before place.after in
-    let was : length rs ≡ length place.before + length (x ∷ place.after) = ap length place.whole ∙ length-append place.before (x ∷ place.after) in
-    let more : length (x ∷ place.after) ≡ length place.after + 1 = omega arith in
-    omega (arith, now, was, more)
-
--- numbers of those that stay rise
-all_left : {R : Type 0} (P : R → Type 0) (p : R → Bool) (rs : List R) → AllByRecursion P rs → AllByRecursion P (without p rs)
-all_left P p [] all = tt
-all_left {R} P p (r ∷ rs) all = by (p r) (all_left P p rs all.1)
-  where
-    by : (b : Bool) → AllByRecursion P (without p rs) → AllByRecursion P (cond (not b) (r ∷ without p rs) (without p rs))
-    by true more = more
-    by false more = (all.0, more)
-
-rise_left : {R : Type 0} (number : R → ObjId) (p : R → Bool) (rs : List R) → NumbersRise number rs → NumbersRise number (without p rs)
-rise_left number p [] rise = tt
-rise_left {R} number p (r ∷ rs) rise = by (p r) (all_left (λ x. (number r).0 < (number x).0) p rs rise.0) (rise_left number p rs rise.1)
-  where
-    by : (b : Bool) → AllByRecursion (λ x. (number r).0 < (number x).0) (without p rs) → NumbersRise number (without p rs) → NumbersRise number (cond (not b) (r ∷ without p rs) (without p rs))
-    by true first more = more
-    by false first more = (first, more)
-
--- without one of those that go anyway
-less_goes : {R : Type 0} (number : R → ObjId) (p : R → Bool) (x : R) (rs : List R) → Some x ≡ find p rs → NumbersRise number rs → without p (without_number number (number x) rs) ≡ without p rs
-less_goes number p x rs found rise =
-    let place = placed number p x rs (sym found) rise in
-    ap (without p) place.left
-    ∙ sym (passing_goes p place.before x place.after (found_holds p rs x (sym found)))
-    ∙ ap (without p) (sym place.whole)
-
--- One list of a network, from which records go.
-
-pub record IsList {R : Type 0} (list : Network → List R) (with_list : List R → Network → Network) : Type 0 where
-  pub read : (all : List R) (net : Network) → list (with_list all net) ≡ all
-  pub again : (all before : List R) (net : Network) → with_list all (with_list before net) ≡ with_list all net
-  pub same : (net : Network) → with_list (list net) net ≡ net
-
-pub of_routes : IsList (λ net. net.routes) (λ all net. record net { routes = all })
-of_routes = record { read = λ all net. refl; again = λ all before net. refl; same = λ net. refl }
-
-pub of_nats : IsList (λ net. net.nats) (λ all net. record net { nats = all })
-of_nats = record { read = λ all net. refl; again = λ all before net. refl; same = λ net. refl }
-
-pub of_bindings : IsList (λ net. net.bindings) (λ all net. record net { bindings = all })
-of_bindings = record { read = λ all net. refl; again = λ all before net. refl; same = λ net. refl }
-
-module _ {R : Type 0} {list : Network → List R} {with_list : List R → Network → Network} (part : IsList list with_list) (number : R → ObjId) (p : R → Bool) where
-  module _ (net now : Network) (x : R) (found : Some x ≡ find p (list net)) (rise : NumbersRise number (list net)) (now_is : now ≡ with_list (without_number number (number x) (list net)) net) where
-    left_list : list now ≡ without_number number (number x) (list net)
-    left_list = ap list now_is ∙ part.read _ net
-
-    pub left_smaller : length (list now) < length (list net)
-    left_smaller = subst (λ (l : List R). length l < length (list net)) (sym left_list) (one_less number p x (list net) found rise)
-
-    pub left_rise : NumbersRise number (list now)
-    left_rise = subst (NumbersRise number) (sym left_list) (rise_without number (number x) (list net) rise)
-
-    pub left_same : with_list (without p (list now)) now ≡ with_list (without p (list net)) net
-    left_same =
-        ap (λ (it : Network). with_list (without p (list now)) it) now_is
-        ∙ part.again _ _ net
-        ∙ ap (λ (l : List R). with_list l net) (ap (without p) left_list ∙ less_goes number p x (list net) found rise)
-
-  -- none of them is left
-  pub left_none : (net : Network) → None ≡ find p (list net) → net ≡ with_list (without p (list net)) net
-  left_none net none = sym (ap (λ (l : List R). with_list l net) (none_without p (list net) (sym none)) ∙ part.same net)
+use Rattle.nb_change.proofs.Goes.{none_goes, apart_last, rise_left}
+use Rattle.nb_change.proofs.Removed.{without_twice, none_passes, all_stay, one_less, less_goes, shuffle}
 
 -- Ports of routers, with their bindings.
 
@@ -132,13 +35,6 @@ none_gone gone net none =
     ap (λ (all : List RouterPort). record (without_router_ports gone net) { router_ports = all }) (none_without gone net.router_ports none)
     ∙ ap (λ (all : List Binding). record net { bindings = all })
     (all_stay (λ (b : Binding). list_any (λ port. same port.id b.port && gone port) net.router_ports) (λ b. none_passes gone b.port (λ (x : RouterPort). x.id) net.router_ports none) net.bindings)
-
-shuffle : (a b c d : Bool) → d ≡ true → (a || ((b && d) || c)) ≡ (b || (a || c))
-shuffle true true c d is = refl
-shuffle true false c d is = refl
-shuffle false true c true is = refl
-shuffle false false c true is = refl
-shuffle false b c false is = absurd (cc)
 
 module _ (gone : RouterPort → Bool) (net : Network) (port : RouterPort) (found : Some port ≡ find gone net.router_ports) (rise : NumbersRise (λ (x : RouterPort). x.id) net.router_ports) where
   abbrev bound_in : List RouterPort → ObjId → Bool

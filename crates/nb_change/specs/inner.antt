@@ -1,5 +1,6 @@
 -- What private contracts and proofs cite. No clause of a public call does, so a reader need not believe it.
 pub mod Balancers
+pub mod Kinds
 pub mod Leaving
 pub mod Ports
 pub mod Routers

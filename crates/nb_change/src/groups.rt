@@ -6,8 +6,8 @@ ghost use Rattle.nb_model.specs.Sound.{IsSound};
 ghost use Rattle.nb_change.specs.inner.Told.{IsTold};
 ghost use Rattle.nb_store.specs.Undo.{back_steps};
 
-use crate::acl_removals::remove_acls;
-use nb_records::{Group, Numbers};
+use crate::owned::drop_all;
+use nb_records::{Acl, Group, Numbers};
 use nb_store::{Place, Records, Work};
 use nv_base::{Items, Name, ObjId, OutOfMemory};
 use std::alloc::Global;
@@ -70,7 +70,7 @@ pub(crate) fn pg_del(work: &mut Work, name: &Name, if_exists: bool) -> Result<()
     let Some(group) = work.records.group_id(name) else {
         return Ok(());
     };
-    remove_acls(work, group)?;
+    drop_all::<Acl>(work, group)?;
     work.remove(Place::Group(group))
 }
 

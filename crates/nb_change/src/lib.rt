@@ -2,15 +2,14 @@
 #![tactic(auto)]
 
 mod acl_edits;
-mod acl_removals;
 mod acls;
 mod balancer_removals;
 mod balancers;
 mod edits;
 mod groups;
 mod large_groups;
-mod one_by_one;
 mod one_each;
+mod owned;
 mod ports;
 mod router_removals;
 mod routers;

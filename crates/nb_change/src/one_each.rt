@@ -8,7 +8,7 @@ ghost use Rattle.nv_table.specs.Table.{NumbersRise};
 ghost use Rattle.nb_store.specs.Undo.{back_steps};
 ghost use Rattle.nb_change.specs.inner.Routers.{is_route_for, is_nat_for, is_nat_like};
 
-use crate::one_by_one::{is_asked_kind, remove_if};
+use crate::owned::{Test, remove_if};
 use nb_records::{NatKind, RouteBy};
 use nb_store::{Place, Work};
 use nv_base::{ObjId, OutOfMemory, Prefix};
@@ -91,6 +91,6 @@ fn remove_nat(
         return Ok(());
     };
     let id = nat.id;
-    let goes = is_asked_kind(asked, nat.kind);
+    let goes = asked.holds(nat);
     remove_if(work, goes, Place::Nat(id))
 }

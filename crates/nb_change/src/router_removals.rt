@@ -1,12 +1,14 @@
 //! Routers and ports of routers that are removed, with what belongs to them.
 ghost use Rattle.std.specs.Prelude.{◌≡◌, OnOk};
-ghost use Rattle.nb_model.specs.Effect.{without, without_router_ports};
+ghost use Rattle.nb_model.specs.Effect.{without_router_ports};
 ghost use Rattle.nb_model.specs.Network.{same};
 ghost use Rattle.nb_model.specs.Sound.{AreInOrder};
 ghost use Rattle.nv_table.specs.Table.{NumbersRise};
 ghost use Rattle.nb_store.specs.Undo.{back_steps};
 ghost use Rattle.nb_change.specs.inner.Routers.{less_router_port, less_router};
 
+use crate::owned::drop_all;
+use nb_records::{Binding, Nat, Route};
 use nb_store::{Place, Work};
 use nv_base::{ObjId, OutOfMemory};
 
@@ -16,7 +18,7 @@ pub(crate) fn remove_router_port(work: &mut Work, port: ObjId) -> Result<(), Out
     ensures ok { OnOk result (work.new.records ≡ less_router_port port work.old.records) }
     ensures back { back_steps work.new.steps.items work.new.records ≡ back_steps work.old.steps.items work.old.records }
 {
-    remove_bindings(work, port)?;
+    drop_all::<Binding>(work, port)?;
     work.remove(Place::RouterPort(port))
 }
 
@@ -27,22 +29,9 @@ pub(crate) fn remove_router(work: &mut Work, router: ObjId) -> Result<(), OutOfM
     ensures back { back_steps work.new.steps.items work.new.records ≡ back_steps work.old.steps.items work.old.records }
 {
     remove_router_ports(work, router)?;
-    remove_routes(work, router)?;
-    remove_nats(work, router)?;
+    drop_all::<Route>(work, router)?;
+    drop_all::<Nat>(work, router)?;
     work.remove(Place::Router(router))
-}
-
-// Removes the static bindings of a port of a router.
-fn remove_bindings(work: &mut Work, port: ObjId) -> Result<(), OutOfMemory>
-    requires rise { NumbersRise (λ x. x.id) work.old.records.bindings }
-    ensures ok { OnOk result (work.new.records ≡ record work.old.records { bindings = without (λ binding. same port binding.port) work.old.records.bindings }) }
-    ensures back { back_steps work.new.steps.items work.new.records ≡ back_steps work.old.steps.items work.old.records }
-{
-    while let Some(binding) = work.records.binding_of(port, None) {
-        let number = binding.id;
-        work.remove(Place::Binding(number))?;
-    }
-    Ok(())
 }
 
 // Removes the ports of a router, with their static bindings.
@@ -55,32 +44,6 @@ fn remove_router_ports(work: &mut Work, router: ObjId) -> Result<(), OutOfMemory
     while let Some(port) = work.records.router_port_on(router, None) {
         let number = port.id;
         remove_router_port(work, number)?;
-    }
-    Ok(())
-}
-
-// Removes the routes of a router.
-fn remove_routes(work: &mut Work, router: ObjId) -> Result<(), OutOfMemory>
-    requires rise { NumbersRise (λ x. x.id) work.old.records.routes }
-    ensures ok { OnOk result (work.new.records ≡ record work.old.records { routes = without (λ route. same router route.router) work.old.records.routes }) }
-    ensures back { back_steps work.new.steps.items work.new.records ≡ back_steps work.old.steps.items work.old.records }
-{
-    while let Some(route) = work.records.route_of(router, None) {
-        let number = route.id;
-        work.remove(Place::Route(number))?;
-    }
-    Ok(())
-}
-
-// Removes the NAT rules of a router.
-fn remove_nats(work: &mut Work, router: ObjId) -> Result<(), OutOfMemory>
-    requires rise { NumbersRise (λ x. x.id) work.old.records.nats }
-    ensures ok { OnOk result (work.new.records ≡ record work.old.records { nats = without (λ nat. same router nat.router) work.old.records.nats }) }
-    ensures back { back_steps work.new.steps.items work.new.records ≡ back_steps work.old.steps.items work.old.records }
-{
-    while let Some(nat) = work.records.nat_of(router, None) {
-        let number = nat.id;
-        work.remove(Place::Nat(number))?;
     }
     Ok(())
 }

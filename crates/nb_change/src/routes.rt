@@ -10,8 +10,8 @@ ghost use Rattle.nv_table.specs.Table.{NumbersRise};
 ghost use Rattle.nb_store.specs.Undo.{back_steps};
 ghost use Rattle.nb_change.specs.inner.Routers.{is_route_for, is_nat_for};
 
-use crate::one_by_one::{remove_nats_for, remove_routes_for};
 use crate::one_each::{remove_nats_at, remove_routes_at};
+use crate::owned::drop_each;
 use nb_records::{Binding, Nat, NatKind, Route, RouteBy};
 use nb_store::{Place, Work};
 use nv_base::{Ip4, Mac, Name, ObjId, OutOfMemory, Prefix};
@@ -176,7 +176,7 @@ fn remove_routes(
 {
     match prefix {
         Some(prefix) => remove_routes_at(work, router, prefix, by),
-        None => remove_routes_for(work, router, &None, by),
+        None => drop_each::<Route, Option<RouteBy>>(work, router, &by),
     }
 }
 
@@ -194,6 +194,6 @@ fn remove_nats(
 {
     match at {
         Some(at) => remove_nats_at(work, router, kind, at),
-        None => remove_nats_for(work, router, kind, &None),
+        None => drop_each::<Nat, Option<NatKind>>(work, router, &kind),
     }
 }

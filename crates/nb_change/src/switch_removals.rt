@@ -7,8 +7,9 @@ ghost use Rattle.nv_table.specs.Table.{NumbersRise, without_number};
 ghost use Rattle.nb_store.specs.Undo.{back_steps};
 ghost use Rattle.nb_change.specs.inner.Leaving.{leaving, without_switch};
 
-use crate::acl_removals::remove_acls;
 use crate::large_groups::leave_large_groups;
+use crate::owned::drop_all;
+use nb_records::Acl;
 use nb_store::{Place, Work};
 use nv_base::{ObjId, OutOfMemory};
 use std::alloc::Global;
@@ -34,7 +35,7 @@ pub(crate) fn remove_switch(
     ensures back { back_steps work.new.steps.items work.new.records ≡ back_steps work.old.steps.items work.old.records }
 {
     remove_ports_on(work, alloc, switch)?;
-    remove_acls(work, switch)?;
+    drop_all::<Acl>(work, switch)?;
     work.remove(Place::Switch(switch))
 }
 

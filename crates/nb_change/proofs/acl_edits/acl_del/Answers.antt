@@ -6,8 +6,8 @@ use Rattle.nb_change.proofs.acl_edits.acl_del.Goals as goal
 pub returns-in_default-clause-ok : goal.returns-in_default-clause-ok
 returns-in_default-clause-ok c = no_owner_loses c.args.work.now.records c.args.owner.now c.args.of c.args.way c.args.rule.now c.in_default.ensures
 
-pub remove_acls-requires : goal.remove_acls-requires
-remove_acls-requires c = record { rise = rises (λ (x : Acl). x.id) c.args.work.now.records.acls c.requires.sound.numbered.order.acls }
+pub drop_all-requires : goal.drop_all-requires
+drop_all-requires c = record { rise = rises (λ (x : Acl). x.id) c.args.work.now.records.acls c.requires.sound.numbered.order.acls }
 
-pub remove_acls_of_way-requires : goal.remove_acls_of_way-requires
-remove_acls_of_way-requires c = record { rise = rises (λ (x : Acl). x.id) c.args.work.now.records.acls c.requires.sound.numbered.order.acls }
+pub drop_each-requires : goal.drop_each-requires
+drop_each-requires c = record { rise = rises (λ (x : Acl). x.id) c.args.work.now.records.acls c.requires.sound.numbered.order.acls }

@@ -1,6 +1,5 @@
 use Rattle.std.proofs.Common.{◌∙◌}
-use Rattle.nb_change.proofs.BalancerRemovals.{of_routers, in_router}
-use Rattle.nb_change.proofs.ListedNumbers.{left_smaller, left_rise, left_same, all_left}
+use Rattle.nb_change.proofs.ListedNumbers.{of_routers, in_router, left_smaller, left_rise, left_same, all_left}
 use Rattle.nb_change.proofs.balancer_removals.leave_routers.Goals as goal
 
 pub loop-router-smaller : goal.loop-router-smaller

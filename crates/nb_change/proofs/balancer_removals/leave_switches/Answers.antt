@@ -1,6 +1,5 @@
 use Rattle.std.proofs.Common.{◌∙◌}
-use Rattle.nb_change.proofs.BalancerRemovals.{of_switches, in_switch}
-use Rattle.nb_change.proofs.ListedNumbers.{left_smaller, left_rise, left_same, all_left}
+use Rattle.nb_change.proofs.ListedNumbers.{of_switches, in_switch, left_smaller, left_rise, left_same, all_left}
 use Rattle.nb_change.proofs.balancer_removals.leave_switches.Goals as goal
 
 pub loop-switch-smaller : goal.loop-switch-smaller

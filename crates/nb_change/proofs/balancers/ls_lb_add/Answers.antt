@@ -1,16 +1,19 @@
 use Rattle.std.proofs.Common.{◌∙◌}
 use Rattle.std.proofs.lemmas.Result.{on_ok_weaker}
-use Rattle.nb_change.proofs.BalancerEdits.{attached_to_switch, no_switch_attached, none_attached_to_switch}
+use Rattle.nb_model.specs.Network.{lb_id}
+use Rattle.nb_change.proofs.BalancerEdits.{of_switches, attached, none_attached, no_lb_attached}
 use Rattle.nb_change.proofs.balancers.ls_lb_add.Goals as goal
 
 pub returns-in_default-clause-ok : goal.returns-in_default-clause-ok
-returns-in_default-clause-ok c = none_attached_to_switch c.args.work.now.records c.requires.sound c.args.switch.now c.args.lb.now c.args.may_exist c.in_default.ensures
+returns-in_default-clause-ok c = let net = c.args.work.now.records in no_lb_attached (of_switches net c.requires.sound) c.args.switch.now (lb_id net c.args.lb.now) c.in_default.ensures
 
 pub returns-in_default-switch_named-clause-ok : goal.returns-in_default-switch_named-clause-ok
 returns-in_default-switch_named-clause-ok c =
-    no_switch_attached c.args.work.now.records c.requires.sound c.args.switch.now c.args.lb.now c.args.may_exist c.in-Some.number c.in-Some.ensures c.in_default-switch_named.ensures
+    let net = c.args.work.now.records in
+    none_attached (of_switches net c.requires.sound) c.args.switch.now (lb_id net c.args.lb.now) c.in-Some.number c.in-Some.ensures c.in_default-switch_named.ensures
 
 pub returns-clause-ok : goal.returns-clause-ok
 returns-clause-ok c =
-    on_ok_weaker c.list_on_switch.result (λ e. e
-    ∙ attached_to_switch c.args.work.now.records c.requires.sound c.args.switch.now c.args.lb.now c.args.may_exist c.in-Some.number c.in-Some-switch_named.old.now c.in-Some.ensures c.in-Some-switch_named.ensures) c.list_on_switch.ensures.ok
+    let net = c.args.work.now.records in
+    on_ok_weaker c.list_on_switch.result
+    (λ e. e ∙ attached (of_switches net c.requires.sound) c.args.switch.now (lb_id net c.args.lb.now) c.in-Some.number c.in-Some-switch_named.old.now c.in-Some.ensures c.in-Some-switch_named.ensures) c.list_on_switch.ensures.ok

@@ -23,5 +23,5 @@ returns-clause-ok c =
     (c.in-Some.ensures
     ∙ ap (λ (external : Ip4). find (λ (nat : Nat). same c.args.router nat.router && (if is_snat c.args.like then is_snat nat.kind && same_block c.args.at nat.logical else not (is_snat nat.kind) && (external.0 == nat.external.0))) c.args.work.now.records.nats)
     (ap (λ (at : Block). at.base) c.at.view_is))
-    c.requires.rise c.requires.apart c.is_asked_kind-goes.result c.is_asked_kind-goes.ensures)
+    c.requires.rise c.requires.apart c.holds-goes.result c.holds-goes.ensures)
     c.remove_if.ensures.ok

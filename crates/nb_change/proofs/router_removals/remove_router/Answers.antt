@@ -14,13 +14,13 @@ remove_router_ports-requires-clause-ports c = rises (λ (x : RouterPort). x.id) 
 pub remove_router_ports-requires-clause-bindings : goal.remove_router_ports-requires-clause-bindings
 remove_router_ports-requires-clause-bindings c = rises (λ (x : Binding). x.id) c.args.work.now.records.bindings c.requires.order.bindings
 
-pub remove_routes-requires : goal.remove_routes-requires
-remove_routes-requires c = record {
+pub drop_all-requires : goal.drop_all-requires
+drop_all-requires c = record {
   rise = subst (λ (net : Network). NumbersRise (λ (x : Route). x.id) net.routes) (sym c.in_ok-remove_router_ports.ensures.ok) (rises (λ (x : Route). x.id) c.args.work.now.records.routes c.requires.order.routes);
 }
 
-pub remove_nats-requires : goal.remove_nats-requires
-remove_nats-requires c = record {
-  rise = subst (λ (net : Network). NumbersRise (λ (x : Nat). x.id) net.nats) (sym c.in_ok-remove_routes.ensures.ok)
+pub drop_all-requires-2 : goal.drop_all-requires-2
+drop_all-requires-2 c = record {
+  rise = subst (λ (net : Network). NumbersRise (λ (x : Nat). x.id) net.nats) (sym c.in_ok-drop_all.ensures.ok)
       (subst (λ (net : Network). NumbersRise (λ (x : Nat). x.id) net.nats) (sym c.in_ok-remove_router_ports.ensures.ok) (rises (λ (x : Nat). x.id) c.args.work.now.records.nats c.requires.order.nats));
 }

@@ -2,7 +2,7 @@ use Rattle.std.proofs.Common.{◌∙◌}
 use Rattle.std.proofs.lemmas.Result.{on_ok_weaker}
 use Rattle.nb_records.specs.declared.router.Nat.{Nat}
 use Rattle.nb_store.proofs.PlacedRecords.{rises}
-use Rattle.nb_change.proofs.NatsFor.{nats_deleted, no_nats_deleted}
+use Rattle.nb_change.proofs.RouterEdits.{nats_deleted, no_nats_deleted}
 use Rattle.nb_change.proofs.routes.lr_nat_del.Goals as goal
 
 pub returns-in-Some-clause-ok : goal.returns-in-Some-clause-ok

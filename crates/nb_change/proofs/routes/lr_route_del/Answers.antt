@@ -2,7 +2,7 @@ use Rattle.std.proofs.Common.{◌∙◌}
 use Rattle.std.proofs.lemmas.Result.{on_ok_weaker}
 use Rattle.nb_records.specs.declared.router.Route.{Route}
 use Rattle.nb_store.proofs.PlacedRecords.{rises}
-use Rattle.nb_change.proofs.RoutesFor.{routes_deleted, no_routes_deleted}
+use Rattle.nb_change.proofs.RouterEdits.{routes_deleted, no_routes_deleted}
 use Rattle.nb_change.proofs.routes.lr_route_del.Goals as goal
 
 pub returns-in-Some-clause-ok : goal.returns-in-Some-clause-ok

@@ -15,13 +15,13 @@ remove_ports_on-requires-clause-ports c = rises (λ (x : Port). x.id) c.args.wor
 pub remove_ports_on-requires-clause-groups : goal.remove_ports_on-requires-clause-groups
 remove_ports_on-requires-clause-groups c = rises (λ (x : Group). x.id) c.args.work.now.records.groups c.requires.order.groups
 
-pub remove_acls-requires : goal.remove_acls-requires
-remove_acls-requires c = record {
+pub drop_all-requires : goal.drop_all-requires
+drop_all-requires c = record {
   rise = subst (λ (net : Network). NumbersRise (λ (x : Acl). x.id) net.acls) (sym c.in_ok-remove_ports_on.ensures.ok) (rises (λ (x : Acl). x.id) c.args.work.now.records.acls c.requires.order.acls);
 }
 
 pub returns-clause-ok : goal.returns-clause-ok
 returns-clause-ok c =
     on_ok_weaker c.remove.result (λ e. e
-    ∙ ap (λ (net : Network). record net { switches = without_number (λ x. x.id) c.args.switch net.switches }) c.in_ok-remove_acls.ensures.ok
+    ∙ ap (λ (net : Network). record net { switches = without_number (λ x. x.id) c.args.switch net.switches }) c.in_ok-drop_all.ensures.ok
     ∙ ap (λ (net : Network). record net { switches = without_number (λ x. x.id) c.args.switch net.switches; acls = without (λ acl. same c.args.switch acl.owner) net.acls }) c.in_ok-remove_ports_on.ensures.ok) c.remove.ensures.ok

@@ -3,7 +3,7 @@ use Rattle.std.proofs.lemmas.Result.{on_ok_weaker}
 use Rattle.nb_records.specs.declared.acl.Acl.{Acl}
 use Rattle.nb_change.proofs.AclRemovals.{none_like_removed, like_removed}
 use Rattle.nb_store.proofs.PlacedRecords.{rises}
-use Rattle.nb_change.proofs.acl_removals.remove_acl_like.Goals as goal
+use Rattle.nb_change.proofs.acl_edits.remove_acl_like.Goals as goal
 
 pub acl_like-requires-clause-rise : goal.acl_like-requires-clause-rise
 acl_like-requires-clause-rise c = rises (λ (x : Acl). x.id) c.args.work.now.records.acls c.requires.sound.numbered.order.acls

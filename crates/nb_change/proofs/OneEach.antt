@@ -1,5 +1,5 @@
 -- The routes and the NAT rules of a router at one prefix: no two of them say the same.
-use Rattle.std.proofs.Common.{◌≡◌, ℕ, ◌&&◌, ◌||◌, ◌==◌, Bool, true, false, cond, not, if◌then◌else◌, List, [], ◌∷◌, Option, Some, None, refl, sym, ap, ◌∙◌}
+use Rattle.std.proofs.Common.{◌≡◌, ◌&&◌, ◌||◌, ◌==◌, Bool, true, false, cond, not, if◌then◌else◌, List, [], ◌∷◌, Option, Some, None, refl, sym, ap, ◌∙◌}
 use Rattle.std.proofs.lemmas.Bool.{and_parts, and_from}
 use Rattle.std.specs.Prelude.{find}
 use Rattle.std.specs.Bool.{IsTrue}
@@ -12,7 +12,7 @@ use Rattle.nb_records.specs.declared.router.Route.{Route}
 use Rattle.nb_records.specs.declared.router.RouteBy.{RouteBy}
 use Rattle.nb_records.specs.declared.router.RouteBy.TheVariants.{Dst, Src}
 use Rattle.nb_model.specs.Belongs.{is_snat, same_block, same_nat, same_nat_kind, same_policy, same_route}
-use Rattle.nb_model.specs.Effect.{without, is_asked, is_nat_at}
+use Rattle.nb_model.specs.Effect.{without, is_asked}
 use Rattle.nb_model.specs.Network.{Network, same}
 use Rattle.nb_model.specs.Readable.{are_apart}
 use Rattle.nb_model.proofs.Alike.{number_key}

@@ -1,6 +1,6 @@
 -- Ports that leave their groups and their switch.
 use Rattle.std.proofs.Common.{◌≡◌, ℕ, ◌+◌, ◌<◌, Bool, true, false, cond, not, ◌&&◌, ◌||◌, List, [], ◌∷◌, ◌++◌, map, Some, None, arith, refl, sym, ap, ◌∙◌, subst, length}
-use Rattle.std.proofs.lemmas.List.{map-append, length-append}
+use Rattle.std.proofs.lemmas.List.{length-append}
 use Rattle.std.proofs.lemmas.List.Elements.{filter-append}
 use Rattle.std.proofs.lemmas.List.Folds.{list_any-append, find-append}
 use Rattle.std.specs.Prelude.{find, filter}
@@ -11,15 +11,14 @@ use Rattle.std.specs.Str.{bytes_eq}
 use Rattle.nv_base.specs.declared.object.ObjId.{ObjId}
 use Rattle.nb_records.specs.declared.sets.Group.{Group}
 use Rattle.nb_records.specs.declared.switch.Port.{Port}
-use Rattle.nb_model.specs.Belongs.{is_among}
-use Rattle.nb_model.specs.Effect.{each_where, without, without_ports, delete_port}
+use Rattle.nb_model.specs.Effect.{without, without_ports, delete_port}
 use Rattle.nb_model.specs.Network.{Network, same, port_named}
 use Rattle.nb_model.specs.Readable.{are_apart}
 use Rattle.nb_model.proofs.RecordLists.{found_holds}
-use Rattle.nv_table.specs.Table.{NumbersRise, with_exchanged, without_number}
-use Rattle.nv_table.proofs.Undone.{rise_exchanged, rise_without}
+use Rattle.nv_table.specs.Table.{NumbersRise, without_number}
+use Rattle.nv_table.proofs.Undone.{rise_without}
 use Rattle.nb_change.specs.inner.Leaving.{leave, leaving}
-use Rattle.nb_store.proofs.PlacedRecords.{IsPlaced, placed, none_without, named_once, changed_at}
+use Rattle.nb_store.proofs.PlacedRecords.{IsPlaced, placed, none_without, named_once}
 
 -- Filters, one after another.
 

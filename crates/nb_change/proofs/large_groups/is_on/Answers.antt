@@ -1,4 +1,4 @@
-use Rattle.std.proofs.Common.{ap, subst, sym, ◌∙◌}
+use Rattle.std.proofs.Common.{ap, ◌∙◌}
 use Rattle.nb_records.specs.declared.switch.Port.{Port}
 use Rattle.nv_table.specs.Table.{record_of}
 use Rattle.nb_change.proofs.ManyLeave.{none_on, found_on}

@@ -1,4 +1,4 @@
-use Rattle.std.proofs.Common.{◌≡◌, ◌+◌, ◌&&◌, Bool, List, [], ◌∷◌, ◌++◌, take, arith, sym, ap, ◌∙◌}
+use Rattle.std.proofs.Common.{◌&&◌, Bool, [], ◌∷◌, ◌++◌, take, arith, sym, ap, ◌∙◌}
 use Rattle.std.proofs.lemmas.List.{take_more}
 use Rattle.std.specs.List.{list_any}
 use Rattle.nv_base.specs.declared.object.ObjId.{ObjId}

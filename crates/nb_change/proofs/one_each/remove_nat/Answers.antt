@@ -1,4 +1,4 @@
-use Rattle.std.proofs.Common.{◌≡◌, ◌&&◌, ◌==◌, not, if◌then◌else◌, Option, ap, ◌∙◌}
+use Rattle.std.proofs.Common.{◌&&◌, ◌==◌, not, if◌then◌else◌, ap, ◌∙◌}
 use Rattle.std.proofs.lemmas.Result.{on_ok_weaker}
 use Rattle.std.specs.Prelude.{find}
 use Rattle.nv_base.specs.Block.{Block}

@@ -1,0 +1,3 @@
+pub mod FrameTrips
+pub mod HeaderTrips
+pub mod Shapes

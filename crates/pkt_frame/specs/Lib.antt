@@ -1,0 +1,4 @@
+pub mod Bytes
+pub mod Checksum
+pub mod Read
+pub mod Written

@@ -1,7 +1,7 @@
 -- What the end of a run says.
-use Rattle.std.proofs.Common.{◌≡◌, ℕ, ◌+◌, ◌<◌, ◌≤◌, ◌⊎◌, inl, inr, ◌∙◌, Bool, true, false, List, [], ◌++◌, Option, Some, None, Result, length, min, take, refl, sym, ap, subst, arith, IsSomeAnd}
-use Rattle.std.specs.Prelude.{◌↔◌, if◌then◌else◌}
-use Rattle.std.specs.Io.KnownBytes.{Consumes, IsAtEnd}
+use Rattle.std.proofs.Common.{◌≡◌, ℕ, ◌+◌, ◌<◌, ◌≤◌, ◌⊎◌, inl, inr, ◌∙◌, true, false, List, [], ◌++◌, Option, Some, None, Result, length, min, take, refl, sym, ap, subst, arith, IsSomeAnd}
+use Rattle.std.specs.Prelude.{if◌then◌else◌}
+use Rattle.std.specs.Io.KnownBytes.{Consumes}
 use Rattle.std.proofs.lemmas.Bool.{true≢false}
 use Rattle.std.proofs.lemmas.List.{length-append, length-take}
 use Rattle.clap.specs.Words.{Text}
@@ -12,12 +12,12 @@ use Rattle.nv_io.specs.declared.sink.SinkFailed.{SinkFailed}
 use Rattle.nv_io.specs.declared.source.SourceFailed.{SourceFailed}
 use Rattle.nv_input.specs.declared.status.Status.{Status}
 use Rattle.nv_input.specs.declared.status.Status.TheVariants.{Done, SomeRefused, Usage, ReadFault, WriteFault, InputTooLong, OutOfMemory}
-use Rattle.nv_serve.specs.Output.{opened, output, complete_output, usage_line, is_refused}
+use Rattle.nv_serve.specs.Output.{opened, output, usage_line}
 use Rattle.nv_input.specs.Lines.{lines_of, input_limit}
 use Rattle.nv_reply.specs.Reply.{replies}
 use Rattle.nv_reply.specs.Session.{Session, new_session}
 use Rattle.nv_io.specs.Passed.{IsPrefix}
-use Rattle.nv_input.specs.Calls.{BeginsDue, Moved, told_left, start_at, no_call, and_puts, NothingFollowsAFault}
+use Rattle.nv_input.specs.Calls.{Moved, told_left, start_at, no_call, and_puts, NothingFollowsAFault}
 use Rattle.nv_serve.specs.Run.{IsFinished}
 use Rattle.nv_input.specs.Ends.{InputEnds}
 use Rattle.nv_serve.specs.Traced.{TracesAreMeant}
@@ -150,7 +150,7 @@ module _ {S K : Type 0} (takes : S → List ℕ → Result ℕ SourceFailed → 
         Ends words (source_state s, sink_state k) (source_state t, sink_state l) (given, written) status
         × TracesAreMeant words (lines_of (take input_limit given))
         × NothingFollowsAFault takes puts (start_at (opened words) s k) (record { first = opened words; source = t; sink = l; given = given; written = written }) status)
-    ended status (given, written, gave, took, (ends, calls)) = (given, written, gave, took, (ends, (all_meant words (take input_limit given) (taken input_limit given), calls)))
+    ended status (given, written, gave, took, (ends, calls)) = (given, written, gave, took, (ends, all_meant words (take input_limit given) (taken input_limit given), calls))
 
     -- where no call failed and the input is no longer than it may be, only memory keeps a run from the end of its input
     pub complete : (status : Status) → EndedAt s k t l status → accepts words ≡ true → (Rose (source_state s).faults (source_state t).faults → ⊥) → (Rose (sink_state k).faults (sink_state l).faults → ⊥)

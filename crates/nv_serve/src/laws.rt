@@ -18,7 +18,6 @@ pub fn output_goes_on()
 
 /// Each trace among lines that have fewer bytes than there are numbers of objects is answered by the lines of events that are, hits left
 /// out, what the network does with the packet, from the state that earlier packets left: so also what was answered before a fault.
-#[tactic(auto, using(crate::proofs::Traced::traces_meant))]
 pub fn traces_are_meant()
     ensures { (words : List Text) (lines : List (List ℕ)) → 1 + sum_by length lines < number_limit → TracesAreMeant words lines }
 {}

@@ -5,7 +5,7 @@ ghost use Rattle.pcap_file.specs.Numbers.{number_in};
 use byteorder::{BigEndian, ByteOrder, LittleEndian};
 
 /// The order of the bytes of a capture's numbers: that of the machine that wrote it.
-#[derive(Clone, Copy, Debug, PartialEq, Eq)]
+#[derive(Clone, Copy, PartialEq, Eq)]
 pub enum Order {
     /// The highest byte first.
     Big,

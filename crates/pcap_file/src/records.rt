@@ -14,7 +14,7 @@ use nv_base::OutOfMemory;
 pub const RECORD_LENGTH: usize = 16;
 
 /// What a record says of its frame.
-#[derive(Clone, Copy, Debug, PartialEq, Eq)]
+#[derive(Clone, Copy, PartialEq, Eq)]
 pub struct Record {
     /// When the frame was captured: seconds since 1970 began, in UTC.
     pub seconds: u32,
@@ -27,7 +27,7 @@ pub struct Record {
 }
 
 /// What stands next in a capture, after its header or a record.
-#[derive(Clone, Copy, Debug, PartialEq, Eq)]
+#[derive(Clone, Copy, PartialEq, Eq)]
 pub enum Next {
     /// Nothing: the capture ends here.
     End,

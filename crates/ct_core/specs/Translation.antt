@@ -1,14 +1,17 @@
 -- What a connection makes of a packet's addresses (ovn-sb(5), `ct_lb`, `ct_dnat` and `ct_snat`), and what is chosen for a new one.
-use Rattle.std.specs.Prelude.{ℕ, ◌+◌, ◌-◌, ◌%◌, ◌==◌, Bool, not, ◌||◌, if◌then◌else◌, List, Option, Some, None}
+use Rattle.std.specs.Prelude.{ℕ, ◌+◌, ◌-◌, ◌%◌, ◌==◌, Bool, true, false, not, ◌||◌, if◌then◌else◌, List, Option, Some, None, slice_get, unwrap_or}
 use Rattle.std.specs.List.{find, list_any, range_with_len}
+use Rattle.std.specs.Option.{option_map_or}
 use Rattle.nv_base.specs.declared.field.Field.TheVariants.{Ip4Src, Ip4Dst}
 use Rattle.nv_base.specs.declared.ip4.Ip4.{Ip4}
 use Rattle.pkt_core.specs.declared.tuple.Tuple.{Tuple}
 use Rattle.pkt_core.specs.Packet.{Values, value, with_value}
 use Rattle.pkt_core.specs.Prerequisite.{is_icmp_error}
 use Rattle.pkt_core.specs.Replies.{with_quote}
-use Rattle.pkt_core.specs.Tuple.{swap, with_tuple}
+use Rattle.pkt_core.specs.Tuple.{swap, tuple, with_tuple}
 use Rattle.ct_core.specs.declared.entry.Entry.{Entry}
+use Rattle.ct_core.specs.declared.look.Look.{Look}
+use Rattle.ct_core.specs.declared.look.Look.TheVariants.{Found}
 use Rattle.ct_core.specs.declared.look.Side.{Side}
 use Rattle.ct_core.specs.declared.look.Side.TheVariants.{Orig, Reply}
 use Rattle.ct_core.specs.declared.zone.Zone.{Zone}
@@ -34,6 +37,37 @@ abbrev pub translated : Entry → Side → Values → Values
 translated e side packet =
     if is_icmp_error packet then translated_error (tuple_on side e) (tuple_on (other side) e) packet
     else with_tuple packet (swap (tuple_on (other side) e))
+
+-- with the addresses that the connection at a place gives to packets of a direction
+abbrev pub translated_at : List Entry → ℕ → Side → Values → Values
+translated_at conns place side packet = option_map_or (λ e. translated e side packet) (slice_get conns place) packet
+
+-- a packet that was looked up, translated where it is of a connection
+abbrev pub followed : List Entry → Values → Look → Values
+followed conns packet (Found place side related blocked) = translated_at conns place side packet
+followed conns packet _ = packet
+
+-- where it goes in the direction of its connection
+abbrev pub forth : List Entry → Values → Look → Values
+forth conns packet (Found place Orig related blocked) = translated_at conns place Orig packet
+forth conns packet _ = packet
+
+-- and where it is a reply
+abbrev pub back : List Entry → Values → Look → Values
+back conns packet (Found place Reply related blocked) = translated_at conns place Reply packet
+back conns packet _ = packet
+
+abbrev pub is_reply : Look → Bool
+is_reply (Found place Reply related blocked) = true
+is_reply _ = false
+
+-- the connection of a packet that gets this tuple
+abbrev pub begun_as : Zone → Tuple → Values → Entry
+begun_as zone t packet = record { zone = zone; orig = tuple packet; reply = swap t; blocked = false }
+
+-- the tuple to another address, and to a port where one is given
+abbrev pub with_destination : Ip4 → Option ℕ → Tuple → Tuple
+with_destination addr port t = record t { dst = addr; dport = unwrap_or port t.dport }
 
 -- the number, from 0, of the backend that a packet goes to, of so many
 abbrev pub balance : Tuple → ℕ → ℕ

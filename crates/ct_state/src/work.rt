@@ -1,10 +1,11 @@
-ghost use Rattle.std.specs.Prelude.{◌≡◌, ◌↔◌, ◌≤◌, ◌++◌, true, length, take, Some, Err, IfOk, OnOk, OnErr};
+ghost use Rattle.std.specs.Prelude.{◌≡◌, ◌↔◌, ◌≤◌, ◌++◌, true, length, slice_get, take, Some, Err, IfOk, OnOk, OnErr};
 ghost use Rattle.std.specs.List.{AllByRecursion};
 ghost use Rattle.pkt_core.specs.Prerequisite.{is_ip4};
 ghost use Rattle.ct_core.specs.Changes.{connection_limit, marked, recorded};
 ghost use Rattle.ct_core.specs.Look.{look};
 ghost use Rattle.ct_core.specs.Neighbours.{learnt, mac_of};
 ghost use Rattle.ct_core.specs.State.{with_conns};
+ghost use Rattle.ct_core.specs.Translation.{snat_port};
 ghost use Rattle.ct_state.specs.Work.{unlearnt, unmarked, with_nbrs};
 ghost use Rattle.ct_state.specs.inner.Noted.{IsWithin, known_as, noted};
 ghost use Rattle.ct_table.specs.declared.conns.CtFault.TheVariants.{Full};
@@ -14,7 +15,7 @@ use ct_core::{Entry, Look, Neighbour, Zone};
 use ct_nbrs::Neighbours;
 use ct_table::{Conns, CtFault};
 use nv_base::{Ip4, Mac, ObjId, OutOfMemory};
-use pkt_core::Packet;
+use pkt_core::{Packet, Tuple};
 use std::alloc::Global;
 use std::marker::Model;
 use std::mem;
@@ -110,6 +111,22 @@ impl Work {
         ensures { result ≡ look self.now.state.conns zone packet.now }
     {
         self.state.conns.classify(zone, packet)
+    }
+
+    /// The entry at a place, counted from 0. `None` exactly where the list of connections has no such place.
+    pub fn entry(&self, place: u32) -> Option<Entry>
+        ensures { result ≡ slice_get self.now.state.conns place }
+    {
+        self.state.conns.entry(place)
+    }
+
+    /// The source port that a new connection of this tuple gets with an external address (modelled on `ct_snat` of ovn-sb(5); which one is
+    /// not from OVN): its own where no connection of the zone has the reply that this gives, else for TCP and UDP the least such port from
+    /// 1024 to 65535. `None` exactly where there is none.
+    pub fn snat_port(&self, zone: Zone, tuple: Tuple, external: Ip4) -> Option<u16>
+        ensures { result ≡ snat_port self.now.state.conns zone tuple external }
+    {
+        self.state.conns.snat_port(zone, tuple, external)
     }
 
     /// Records an entry, last in the list of connections (ovn-sb(5), `ct_commit`). `Full` exactly where there are 65,536

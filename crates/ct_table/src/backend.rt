@@ -6,7 +6,7 @@ use pkt_core::Tuple;
 
 /// The number, from 0, of the backend that a packet of this tuple goes to, of so many; there is one (modelled on `ct_lb` of
 /// ovn-sb(5); which one is not from OVN).
-pub fn balance(tuple: Tuple, count: u32) -> u32
+pub fn balance(tuple: Tuple, count: usize) -> usize
     requires { 0 < count }
     ensures number { result ≡ balance tuple count }
     ensures within { result < count }
@@ -16,5 +16,5 @@ pub fn balance(tuple: Tuple, count: u32) -> u32
         + u64::from(tuple.sport)
         + u64::from(tuple.dport)
         + u64::from(tuple.proto);
-    (sum % u64::from(count)) as u32
+    (sum % count as u64) as usize
 }

@@ -1,8 +1,7 @@
 -- How a router changes the addresses of packets (ovn-nb(5), 'NAT TABLE' and 'Load_Balancer TABLE'; ovn-northd(8), 'Ingress Table: UNSNAT',
 -- 'DEFRAG', 'DNAT' and 'Egress Table: UNDNAT', 'SNAT'). Which connection's rules hold is told by two zones of the router.
-use Rattle.std.specs.Prelude.{ℕ, ◌==◌, nat_lt, Bool, true, false, not, ◌&&◌, if◌then◌else◌, List, fold, filter, length, Option, Some, None, option_map, unwrap_or, slice_get, option_and_then}
+use Rattle.std.specs.Prelude.{ℕ, ◌==◌, nat_lt, Bool, true, false, not, ◌&&◌, if◌then◌else◌, List, fold, filter, length, Option, Some, None, option_map, slice_get, option_and_then}
 use Rattle.std.specs.List.{find, filter_map, list_any}
-use Rattle.std.specs.Option.{option_map_or}
 use Rattle.nv_base.specs.declared.ip4.Ip4.{Ip4}
 use Rattle.nv_base.specs.declared.object.ObjId.{ObjId}
 use Rattle.nv_base.specs.declared.field.Field.TheVariants.{Ip4Src, Ip4Dst}
@@ -10,18 +9,16 @@ use Rattle.nv_base.specs.declared.field.Prerequisite.TheVariants as needs
 use Rattle.pkt_core.specs.declared.tuple.Tuple.{Tuple}
 use Rattle.pkt_core.specs.Packet.{Values, value}
 use Rattle.pkt_core.specs.Prerequisite.{is_ip4, meets}
-use Rattle.pkt_core.specs.Tuple.{dport_of, swap, tuple, with_tuple}
+use Rattle.pkt_core.specs.Tuple.{dport_of, tuple, with_tuple}
 use Rattle.ct_core.specs.declared.entry.Entry.{Entry}
 use Rattle.ct_core.specs.declared.look.Look.{Look}
-use Rattle.ct_core.specs.declared.look.Look.TheVariants.{New, Found}
-use Rattle.ct_core.specs.declared.look.Side.{Side}
-use Rattle.ct_core.specs.declared.look.Side.TheVariants.{Orig, Reply}
+use Rattle.ct_core.specs.declared.look.Look.TheVariants.{New}
 use Rattle.ct_core.specs.declared.zone.Zone.{Zone}
 use Rattle.ct_core.specs.declared.zone.Zone.TheVariants.{Dnat, Snat}
 use Rattle.ct_core.specs.Changes.{recorded}
 use Rattle.ct_core.specs.Look.{look}
 use Rattle.ct_core.specs.State.{State, with_conns}
-use Rattle.ct_core.specs.Translation.{balance, snat_port, translated, with_source}
+use Rattle.ct_core.specs.Translation.{back, balance, begun_as, forth, is_reply, snat_port, with_destination, with_source}
 use Rattle.nb_records.specs.declared.balancer.Backend.{Backend}
 use Rattle.nb_records.specs.declared.balancer.Lb.{Lb}
 use Rattle.nb_records.specs.declared.balancer.Proto.{Proto}
@@ -37,26 +34,6 @@ use Rattle.net_router.specs.Input.{is_in_network}
 use Rattle.net_meaning.specs.declared.cause.Cause.{Cause}
 use Rattle.net_meaning.specs.declared.cause.Cause.TheVariants.{CtFull, NoPort}
 
--- ---- packets of a connection
-
--- with the addresses that the connection at a place gives to packets of a direction
-abbrev pub translated_at : List Entry → ℕ → Side → Values → Values
-translated_at conns place side packet = option_map_or (λ e. translated e side packet) (slice_get conns place) packet
-
--- a packet that was looked up, translated where it goes in the direction of its connection
-abbrev pub forth : List Entry → Values → Look → Values
-forth conns packet (Found place Orig related blocked) = translated_at conns place Orig packet
-forth conns packet _ = packet
-
--- and where it is a reply
-abbrev pub back : List Entry → Values → Look → Values
-back conns packet (Found place Reply related blocked) = translated_at conns place Reply packet
-back conns packet _ = packet
-
-abbrev pub is_reply : Look → Bool
-is_reply (Found place Reply related blocked) = true
-is_reply _ = false
-
 -- ---- packets that begin one
 
 -- what becomes of a packet whose addresses may change: it goes on with a state, or it is dropped and leaves the state as it was
@@ -67,10 +44,6 @@ pub data Changed : Type 0 where
 abbrev pub where_room : Option (List Entry) → Values → State → Changed
 where_room (Some conns) packet state = Onward packet (with_conns conns state)
 where_room None packet state = Stopped CtFull
-
--- the connection of a packet that gets this tuple
-abbrev pub begun_as : Zone → Tuple → Values → Entry
-begun_as zone t packet = record { zone = zone; orig = tuple packet; reply = swap t; blocked = false }
 
 -- a packet gets this tuple, and begins a connection in a zone, if there is room for it
 abbrev pub bound : Zone → Tuple → Values → State → Changed
@@ -109,10 +82,6 @@ vip lbs packet = either (slice_get (filter_map (vip_of_port packet) lbs) 0) (sli
 -- the backend to which a packet goes
 abbrev pub backend_for : Values → Vip → Option Backend
 backend_for packet vip = slice_get vip.backends (balance (tuple packet) (length vip.backends))
-
--- a tuple to another address, and to a port where one is given
-abbrev pub with_destination : Ip4 → Option ℕ → Tuple → Tuple
-with_destination addr port t = record t { dst = addr; dport = unwrap_or port t.dport }
 
 -- the rule that changes the destination of a packet
 abbrev pub destination_rule : Network → ObjId → Values → Option Nat

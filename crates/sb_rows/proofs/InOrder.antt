@@ -2,6 +2,7 @@
 use Rattle.std.proofs.Common.{◌≡◌, ℕ, ◌+◌, ◌-◌, ◌<◌, ◌≤◌, Bool, true, false, eqb, get_or, ltb, List, length, drop, take, Contains, ap, sym, subst, refl, ◌∙◌, arith}
 use Rattle.std.specs.Borrow.{Bor}
 use Rattle.std.specs.Prelude.{◌&&◌, All, Option, None, Some}
+use Rattle.std.specs.List.{AllWithin}
 use Rattle.std.specs.List.Sorted.{IsSorted, IsNonDecreasingBy, IsPartitionPoint, IsPartitionedBy}
 use Rattle.std.specs.Ordering.{is_lt, nat_cmp, ordering_then}
 use Rattle.std.specs.declared.cmp.Ordering.{Ordering}
@@ -77,6 +78,27 @@ module _ (xs : List (ℕ × ℕ)) (bucket at : ℕ) (point : IsPartitionPoint (�
           let from = ltb-false k at later in
           let there : at + (k - at) ≡ k = omega (arith, from) in
           (k - at, omega (arith, lt, from, length-drop at xs), get_or-drop at xs (k - at) (bucket, p) ∙ ap (λ n. get_or xs n (bucket, p)) there ∙ is)
+
+-- ---- where lower buckets end
+
+test_lower : (a b : ℕ) → a < b → ltb a b ≡ true
+test_lower a b h = grind (arith, nat_tests)
+
+test_not_lower : (a b : ℕ) → b ≤ a → ltb a b ≡ false
+test_not_lower a b h = grind (arith, nat_tests)
+
+module _ (xs : List (ℕ × ℕ)) (bucket at : ℕ) (d : ℕ × ℕ) (up : IsSorted pair_cmp xs) (within : at < length xs) where
+  -- where a bucket is lower, all up to it are
+  pub lower_up_to : (get_or xs at d).0 < bucket → AllWithin (λ (x : ℕ × ℕ). ltb x.0 bucket ≡ true) xs 0 (at + 1)
+  lower_up_to less k e _ lt =
+      let same : (get_or xs at d).0 ≡ (get_or xs at e).0 = ap (λ (x : ℕ × ℕ). x.0) (get_or_default xs at d e within) in
+      test_lower (get_or xs k e).0 bucket (omega (arith, less, same, buckets_rise xs up k at e (omega (arith, lt)) within))
+
+  -- where it is not, none from it on is
+  pub not_lower_from : bucket ≤ (get_or xs at d).0 → AllWithin (λ (x : ℕ × ℕ). ltb x.0 bucket ≡ false) xs at (length xs)
+  not_lower_from not k e le lt =
+      let same : (get_or xs at d).0 ≡ (get_or xs at e).0 = ap (λ (x : ℕ × ℕ). x.0) (get_or_default xs at d e within) in
+      test_not_lower (get_or xs k e).0 bucket (omega (arith, not, same, buckets_rise xs up at k e le lt))
 
 -- ---- those of a bucket from a place on
 

@@ -1,8 +1,8 @@
 //! Places after their buckets, in order.
-ghost use Rattle.std.specs.Prelude.{◌≤◌, ◌⊎◌, ℕ, All, Contains, IfOk};
+ghost use Rattle.std.specs.Prelude.{◌<◌, ◌≤◌, ◌-◌, ◌⊎◌, ℕ, All, Contains, IfOk};
 ghost use Rattle.std.specs.List.Sorted.{IsSorted};
 ghost use Rattle.sb_model.specs.declared.row.Row as row_of;
-ghost use Rattle.sb_rows.specs.inner.Filled.{pair_cmp};
+ghost use Rattle.sb_rows.specs.inner.Filled.{IsTurnBetween, pair_cmp};
 ghost use Rattle.sb_rows.specs.inner.Store.{NumbersRise};
 
 use crate::stored::Stored;
@@ -27,6 +27,82 @@ impl Model for Filled {
     ghost view = { λ filled. filled.places.items };
 
     ghost invariant = { λ filled. IsSorted pair_cmp filled.places.items };
+}
+
+// Of fewer places a bucket's are not guessed.
+const MANY: usize = 64;
+
+// So far from a guess a place is looked for first, and then.
+const CLOSE: usize = 8;
+const FAR: usize = 64;
+
+// The places between which lower buckets end.
+#[derive(Clone, Copy)]
+struct Window {
+    low: usize,
+    high: usize,
+}
+
+impl Window {
+    // All places.
+    #[inline]
+    fn all(places: &[(u64, u128)]) -> Window
+        ensures { (bucket : ℕ) → IsTurnBetween places.now bucket result.low result.high }
+    {
+        Window {
+            low: 0,
+            high: places.len(),
+        }
+    }
+
+    // It, narrowed by the bucket at a place, where this is in it.
+    #[inline]
+    fn narrowed(self, places: &[(u64, u128)], bucket: u64, at: usize) -> Window
+        requires rise { IsSorted pair_cmp places.now }
+        requires turn { IsTurnBetween places.now bucket self.low self.high }
+        ensures turn { IsTurnBetween places.now bucket result.low result.high }
+        ensures less { self.low ≤ at → at < self.high → result.high - result.low < self.high - self.low }
+    {
+        if at < self.low || self.high <= at {
+            return self;
+        }
+        if places[at].0 < bucket {
+            Window {
+                low: at + 1,
+                high: self.high,
+            }
+        } else {
+            Window {
+                low: self.low,
+                high: at,
+            }
+        }
+    }
+
+    // It, narrowed by the buckets at places so far before and after a guess.
+    #[inline]
+    fn near(self, places: &[(u64, u128)], bucket: u64, guess: usize, far: usize) -> Window
+        requires rise { IsSorted pair_cmp places.now }
+        requires turn { IsTurnBetween places.now bucket self.low self.high }
+        ensures { IsTurnBetween places.now bucket result.low result.high }
+    {
+        self.narrowed(places, bucket, guess.saturating_sub(far))
+            .narrowed(places, bucket, guess.saturating_add(far))
+    }
+
+    // The place where lower buckets end, by halving it.
+    fn turn(self, places: &[(u64, u128)], bucket: u64) -> usize
+        requires rise { IsSorted pair_cmp places.now }
+        requires turn { IsTurnBetween places.now bucket self.low self.high }
+        ensures { IsTurnBetween places.now bucket result result }
+    {
+        let mut window = self;
+        while window.low < window.high {
+            let middle = window.low + (window.high - window.low) / 2;
+            window = window.narrowed(places, bucket, middle);
+        }
+        window.low
+    }
 }
 
 impl Filled {
@@ -67,8 +143,38 @@ impl Filled {
         ensures from { All (λ x. bucket ≤ x.0) result.now }
         ensures all { (place : ℕ) → Contains self.now (bucket, place) → Contains result.now (bucket, place) }
     {
-        let from = self.places.partition_point(|place| place.0 < bucket);
+        let from = self.window(bucket).turn(&self.places, bucket);
         &self.places[from..]
+    }
+
+    // Places between which those of lower buckets end, near a guess where there are many.
+    fn window(&self, bucket: u64) -> Window
+        ensures { IsTurnBetween self.now bucket result.low result.high }
+    {
+        let places: &[(u64, u128)] = &self.places;
+        let all = Window::all(places);
+        if places.len() < MANY {
+            return all;
+        }
+        let guess = self.guess(bucket);
+        let close = all.near(places, bucket, guess, CLOSE);
+        close.near(places, bucket, guess, FAR)
+    }
+
+    // A guess of the place where lower buckets end, which need not be near: by the bucket, and anew by the one at that place.
+    fn guess(&self, bucket: u64) -> usize {
+        let first = self.share(bucket);
+        match self.places.get(first) {
+            Some((there, _)) if *there < bucket => first.saturating_add(self.share(bucket - *there)),
+            Some((there, _)) => first.saturating_sub(self.share(*there - bucket)),
+            None => first,
+        }
+    }
+
+    // How many places may be in so many buckets, of those below `FIRST_OWN`, where these are spread evenly.
+    #[inline]
+    fn share(&self, buckets: u64) -> usize {
+        ((buckets >> 32).wrapping_mul(self.places.len() as u64) >> 31) as usize
     }
 
     // Those from a place of a bucket on, in order, and after them those of higher ones.

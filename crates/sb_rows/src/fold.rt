@@ -12,6 +12,10 @@ use std::mem;
 // So many places may come before they are put among those that were known at once.
 const MANY: usize = 48;
 
+// Where they are more than this share of those that were known at once, they are many. A look-up searches both, and each time all are put
+// together each costs some instructions.
+const SHARE: usize = 16;
+
 impl Index {
     // Puts the places that came since among those that were known at once, where they are many. Where there is no memory for it, they stay.
     pub(crate) fn fold(&mut self, alloc: Global, rows: &Places)
@@ -51,6 +55,6 @@ impl Index {
     // Whether so many places came since that they are to be among the first ones.
     fn has_many_more(&self) -> bool {
         let more = self.more.len();
-        more >= MANY && more > self.filled.len() / 4
+        more >= MANY && more > self.filled.len() / SHARE
     }
 }

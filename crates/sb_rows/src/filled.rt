@@ -1,5 +1,5 @@
 //! Places after their buckets, in order.
-ghost use Rattle.std.specs.Prelude.{◌<◌, ◌≤◌, ◌-◌, ◌⊎◌, ℕ, All, Contains, IfOk};
+ghost use Rattle.std.specs.Prelude.{◌≤◌, ◌⊎◌, ℕ, All, Contains, IfOk};
 ghost use Rattle.std.specs.List.Sorted.{IsSorted};
 ghost use Rattle.sb_model.specs.declared.row.Row as row_of;
 ghost use Rattle.sb_rows.specs.inner.Filled.{IsTurnBetween, pair_cmp};
@@ -30,10 +30,11 @@ impl Model for Filled {
 }
 
 // Of fewer places a bucket's are not guessed.
-const MANY: usize = 64;
+const MANY: usize = 512;
 
-// So far from a guess a place is looked for first, and then.
+// So far from a guess it is looked first, and then, whether the place is between: a wrong guess costs four looks.
 const CLOSE: usize = 8;
+
 const FAR: usize = 64;
 
 // The places between which lower buckets end.
@@ -60,8 +61,7 @@ impl Window {
     fn narrowed(self, places: &[(u64, u128)], bucket: u64, at: usize) -> Window
         requires rise { IsSorted pair_cmp places.now }
         requires turn { IsTurnBetween places.now bucket self.low self.high }
-        ensures turn { IsTurnBetween places.now bucket result.low result.high }
-        ensures less { self.low ≤ at → at < self.high → result.high - result.low < self.high - self.low }
+        ensures { IsTurnBetween places.now bucket result.low result.high }
     {
         if at < self.low || self.high <= at {
             return self;
@@ -96,12 +96,17 @@ impl Window {
         requires turn { IsTurnBetween places.now bucket self.low self.high }
         ensures { IsTurnBetween places.now bucket result result }
     {
-        let mut window = self;
-        while window.low < window.high {
-            let middle = window.low + (window.high - window.low) / 2;
-            window = window.narrowed(places, bucket, middle);
+        let mut low = self.low;
+        let mut high = self.high;
+        while low < high {
+            let middle = low + (high - low) / 2;
+            if places[middle].0 < bucket {
+                low = middle + 1;
+            } else {
+                high = middle;
+            }
         }
-        window.low
+        low
     }
 }
 
@@ -165,7 +170,9 @@ impl Filled {
     fn guess(&self, bucket: u64) -> usize {
         let first = self.share(bucket);
         match self.places.get(first) {
-            Some((there, _)) if *there < bucket => first.saturating_add(self.share(bucket - *there)),
+            Some((there, _)) if *there < bucket => first.saturating_add(self.share(
+                bucket - *there,
+            )),
             Some((there, _)) => first.saturating_sub(self.share(*there - bucket)),
             None => first,
         }

@@ -12,8 +12,8 @@ use std::mem;
 // So many places may come before they are put among those that were known at once.
 const MANY: usize = 48;
 
-// Where they are more than this share of those that were known at once, they are many. A look-up searches both, and each time all are put
-// together each costs some instructions.
+// They are many where they are more than one in so many of those that were known at once. A look-up searches both. With a greater number fewer
+// came since, and all are put together more often.
 const SHARE: usize = 16;
 
 impl Index {

@@ -1,7 +1,9 @@
 //! What is kept of a table that has many rows, by which those that may take a packet are found.
 ghost use Rattle.std.specs.Prelude.{◌≡◌, ◌<◌, ◌≤◌, ℕ, List, Contains, IfOk, IsTrue, OnOk, Some};
 ghost use Rattle.std.specs.List.{find};
+ghost use Rattle.std.specs.BTreeMap.{get};
 ghost use Rattle.std.specs.Option.{option_copied};
+ghost use Rattle.std.specs.Ordering.{nat_cmp};
 ghost use Rattle.expr_eval.specs.MatchMeaning.{holds};
 ghost use Rattle.sb_model.specs.declared.row.Row as row_of;
 ghost use Rattle.sb_rows.specs.declared.asks.Asks.{Asks};
@@ -410,9 +412,20 @@ fn better<'r, E: Env>(
     if !is_before(place, best) {
         return best;
     }
-    match rows.get(&place) {
+    match stored_at(rows, place) {
         Some(stored) if stored.takes(packet, env) => Some((place, stored.row())),
         _ => best,
+    }
+}
+
+// The row at a place, if one is there. On its way it compares each place once, where `get` compares twice.
+#[inline]
+fn stored_at(rows: &Places, place: u128) -> Option<&Stored>
+    ensures { option_copied result ≡ get nat_cmp rows.now place }
+{
+    match rows.range(place..).next() {
+        Some((there, stored)) if *there == place => Some(stored),
+        _ => None,
     }
 }
 

@@ -14,7 +14,7 @@ const MANY: usize = 48;
 
 // They are many where they are more than one in so many of those that were known at once. A look-up searches both. With a greater number fewer
 // came since, and all are put together more often.
-const SHARE: usize = 16;
+const SHARE: usize = 8;
 
 impl Index {
     // Puts the places that came since among those that were known at once, where they are many. Where there is no memory for it, they stay.

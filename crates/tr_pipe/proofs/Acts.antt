@@ -3,6 +3,7 @@ use Rattle.std.proofs.Common.{◌≡◌, Bool, true, false, refl, List, [], ◌�
 use Rattle.std.specs.Prelude.{◌==◌}
 use Rattle.std.specs.Bool.{IsTrue}
 use Rattle.std.proofs.lemmas.Bool.{false≢true, and_parts}
+use Rattle.nv_base.specs.declared.object.ObjId.{ObjId}
 use Rattle.expr_core.specs.Lookup.{Lookup}
 use Rattle.act_core.specs.WellFormed.{is_action, is_well_formed}
 use Rattle.act_core.specs.declared.action.Action.{Action}
@@ -21,24 +22,24 @@ pub step_changes : (net : Lookup) (stage : Stage) (step : Step) (others : List A
 step_changes net stage step [] some run = absurd (false≢true (sym some))
 step_changes net stage step (other ∷ others) some run = (and_parts (is_change net step) (are_run net stage (other ∷ others)) run).0
 
-module _ (net : Lookup) (stage : Stage) (whole : StageEnd) where
+module _ (net : Lookup) (dp : ObjId) (stage : Stage) (whole : StageEnd) where
   -- the actions that are left do what all of them do, and the machine runs them
   abbrev pub IsLeft : List Action → Flight → Type 0
-  IsLeft rest flight = (whole ≡ run_actions net stage rest flight) × IsTrue (is_well_formed rest) × IsTrue (are_run net stage rest)
+  IsLeft rest flight = (whole ≡ run_actions net dp stage rest flight) × IsTrue (is_well_formed rest) × IsTrue (are_run net stage rest)
 
   -- after a change the others are left
-  pub goes_on : (step : Step) (others : List Action) (flight changed : Flight) → (length others == 0) ≡ false → effect net stage step flight ≡ Changed changed
+  pub goes_on : (step : Step) (others : List Action) (flight changed : Flight) → (length others == 0) ≡ false → effect net dp stage step flight ≡ Changed changed
       → IsLeft (action.Step step ∷ others) flight → IsLeft others changed
   goes_on step [] flight changed some does left = absurd (false≢true (sym some))
   goes_on step (other ∷ others) flight changed some does left =
       let formed = and_parts (is_action (action.Step step)) (is_well_formed (other ∷ others)) left.1 in
       let run = and_parts (is_change net step) (are_run net stage (other ∷ others)) left.2 in
-      (left.0 ∙ ap (λ (e : Effect). after e (run_actions net stage (other ∷ others))) does, formed.1, run.1)
+      (left.0 ∙ ap (λ (e : Effect). after e (run_actions net dp stage (other ∷ others))) does, formed.1, run.1)
 
   -- an action that ends the step ends all
-  pub ends_here : (step : Step) (others : List Action) (flight : Flight) (end : StageEnd) → effect net stage step flight ≡ Done end
+  pub ends_here : (step : Step) (others : List Action) (flight : Flight) (end : StageEnd) → effect net dp stage step flight ≡ Done end
       → IsLeft (action.Step step ∷ others) flight → whole ≡ end
-  ends_here step others flight end does left = left.0 ∙ ap (λ (e : Effect). after e (run_actions net stage others)) does
+  ends_here step others flight end does left = left.0 ∙ ap (λ (e : Effect). after e (run_actions net dp stage others)) does
 
 -- a change that is neither a commit nor of neighbours changes any packet
 pub other_change : (net : Lookup) (step : Step) → ((blocked : Bool) → step ≡ CtCommit blocked → ⊥) → (step ≡ PutArp → ⊥) → (step ≡ GetArp → ⊥) → is_change net step ≡ true → runs.is_change net step ≡ true

@@ -12,7 +12,7 @@ use Rattle.act_core.specs.WellFormed.{is_well_formed}
 use Rattle.act_core.specs.declared.action.Action.{Action}
 use Rattle.act_core.specs.declared.action.Action.TheVariants as action
 use Rattle.act_core.specs.declared.step.Step.{Step}
-use Rattle.act_core.specs.declared.step.Step.TheVariants.{CtNext, CtCommit, PutArp, GetArp}
+use Rattle.act_core.specs.declared.step.Step.TheVariants.{CtNext, CtLb, CtLbTo, CtCommit, CtSnat, CtSnatTo, CtDnat, CtDnatTo, PutArp, GetArp}
 use Rattle.sb_model.specs.declared.stage.Pipeline.{Pipeline}
 use Rattle.sb_model.specs.declared.stage.Stage.{Stage}
 use Rattle.sb_model.specs.declared.row.Row.{Row}
@@ -39,7 +39,7 @@ LeadsOn stage (On later flight) = next_stage stage ≡ Some later
 LeadsOn stage (Ends (Some outcome) state) = Unit {0}
 LeadsOn stage (Ends None state) = ⊥
 
-module _ (net : Lookup) (stage : Stage) where
+module _ (net : Lookup) (dp : ObjId) (stage : Stage) where
   -- what leads any packet on leads on with connections
   lifted : (flight : Flight) (end : packets.StageEnd) → leads.LeadsOn stage end → LeadsOn stage (ended flight end)
   lifted flight (packets.StageEnd.On later packet) on = on
@@ -47,7 +47,7 @@ module _ (net : Lookup) (stage : Stage) where
   lifted flight (packets.StageEnd.Ends None) on = absurd on
 
   -- after a change the others lead on
-  change_leads : (step : Step) (flight : Flight) (others : Flight → StageEnd) → is_change net step ≡ true → ((later : Flight) → LeadsOn stage (others later)) → LeadsOn stage (after (effect net stage step flight) others)
+  change_leads : (step : Step) (flight : Flight) (others : Flight → StageEnd) → is_change net step ≡ true → ((later : Flight) → LeadsOn stage (others later)) → LeadsOn stage (after (effect net dp stage step flight) others)
   change_leads (CtCommit blocked) flight others is rest = by (committed (zone_of (pipeline_of stage) flight.packet) blocked flight.packet flight.state flight.look)
     where
       by : (left : Option State) → LeadsOn stage (after (kept flight left) others)
@@ -56,6 +56,12 @@ module _ (net : Lookup) (stage : Stage) where
   change_leads PutArp flight others is rest = rest (record flight { state = with_sender flight.packet flight.state })
   change_leads GetArp flight others is rest = rest (with_packet flight (resolved flight.state.nbrs flight.packet))
   change_leads CtNext flight others is rest = absurd (false≢true is)
+  change_leads CtLb flight others is rest = absurd (false≢true is)
+  change_leads (CtLbTo targets) flight others is rest = absurd (false≢true is)
+  change_leads CtSnat flight others is rest = absurd (false≢true is)
+  change_leads (CtSnatTo external) flight others is rest = absurd (false≢true is)
+  change_leads CtDnat flight others is rest = absurd (false≢true is)
+  change_leads (CtDnatTo addr) flight others is rest = absurd (false≢true is)
   change_leads step flight others is rest =
       let change = changes net stage step flight.packet is in
       subst (λ (e : packets.Effect). LeadsOn stage (after (done flight e) others)) (sym change.1) (rest (with_packet flight change.0))
@@ -66,9 +72,9 @@ module _ (net : Lookup) (stage : Stage) where
   next_leads flight None is may = absurd (false≢true may)
 
   -- a last action that asks for no connection
-  plain_leads : (last : Action) (flight : Flight) → runs.may_be_last net stage last ≡ true → LeadsOn stage (run_actions net stage (last ∷ []) flight)
+  plain_leads : (last : Action) (flight : Flight) → runs.may_be_last net stage last ≡ true → LeadsOn stage (run_actions net dp stage (last ∷ []) flight)
   plain_leads last flight may =
-      subst (LeadsOn stage) (sym (plain_actions net stage (last ∷ []) flight (one last may))) (lifted flight (packets.run_actions net stage (last ∷ []) flight.packet) (actions_lead net stage (last ∷ []) flight.packet (one last may)))
+      subst (LeadsOn stage) (sym (plain_actions net dp stage (last ∷ []) flight (one last may))) (lifted flight (packets.run_actions net stage (last ∷ []) flight.packet) (actions_lead net stage (last ∷ []) flight.packet (one last may)))
     where
       one : (last : Action) → runs.may_be_last net stage last ≡ true → steps.are_run net stage (last ∷ []) ≡ true
       one (action.Step step) may = may
@@ -77,8 +83,42 @@ module _ (net : Lookup) (stage : Stage) where
       one (action.Reject block) may = may
       one (action.Arp block) may = may
 
-  last_leads : (last : Action) (flight : Flight) → may_be_last net stage last ≡ true → LeadsOn stage (run_actions net stage (last ∷ []) flight)
+  -- a packet that begins a connection, and one whose source may change
+  room_leads : (flight : Flight) (left : Option (List Entry)) → not (is_last stage) ≡ true → LeadsOn stage (where_room (next_stage stage) flight left)
+  room_leads flight (Some conns) may = next_leads (record flight { state = with_conns conns flight.state }) (next_stage stage) refl may
+  room_leads flight None may = tt
+
+  bound_leads : (zone : Zone) (t : Tuple) (flight : Flight) → not (is_last stage) ≡ true → LeadsOn stage (bound (next_stage stage) zone t flight)
+  bound_leads zone t flight may = room_leads (with_packet flight (with_tuple flight.packet t)) (recorded (begun_as zone t flight.packet) flight.state.conns) may
+
+  target_leads : (zone : Zone) (t : Option Tuple) (flight : Flight) → not (is_last stage) ≡ true → LeadsOn stage (bound_if (next_stage stage) zone t flight)
+  target_leads zone (Some t) flight may = bound_leads zone t flight may
+  target_leads zone None flight may = next_leads flight (next_stage stage) refl may
+
+  hidden_leads : (zone : Zone) (external : Ip4) (flight : Flight) → not (is_last stage) ≡ true → LeadsOn stage (hidden (next_stage stage) zone external flight)
+  hidden_leads zone external flight may = by (is_ip4 flight.packet)
+    where
+      by_port : (port : Option ℕ) → LeadsOn stage (with_port (next_stage stage) zone external port flight)
+      by_port (Some port) = bound_leads zone (with_source external port (tuple flight.packet)) flight may
+      by_port None = tt
+
+      by_look : (found : Look) → LeadsOn stage (hidden_by (next_stage stage) zone external flight found)
+      by_look New = by_port (snat_port flight.state.conns zone (tuple flight.packet) external)
+      by_look Invalid = next_leads (with_packet flight flight.packet) (next_stage stage) refl may
+      by_look (Found place side related blocked) = next_leads (with_packet flight (forth flight.state.conns flight.packet (Found place side related blocked))) (next_stage stage) refl may
+
+      by : (ip : Bool) → LeadsOn stage (cond ip (hidden_by (next_stage stage) zone external flight (look flight.state.conns zone flight.packet)) (on_to (next_stage stage) flight))
+      by true = by_look (look flight.state.conns zone flight.packet)
+      by false = next_leads flight (next_stage stage) refl may
+
+  last_leads : (last : Action) (flight : Flight) → may_be_last net stage last ≡ true → LeadsOn stage (run_actions net dp stage (last ∷ []) flight)
   last_leads (action.Step CtNext) flight may = next_leads (tracked (zone_of (pipeline_of stage) flight.packet) flight) (next_stage stage) refl may
+  last_leads (action.Step CtLb) flight may = next_leads (tracked_by followed (zone_at dp stage flight.packet) flight) (next_stage stage) refl may
+  last_leads (action.Step (CtLbTo targets)) flight may = target_leads (zone_at dp stage flight.packet) (balanced_to targets flight.packet) flight may
+  last_leads (action.Step CtSnat) flight may = next_leads (unhidden (Snat dp) flight) (next_stage stage) refl may
+  last_leads (action.Step (CtSnatTo external)) flight may = hidden_leads (Snat dp) external flight may
+  last_leads (action.Step CtDnat) flight may = next_leads (tracked_by (way_of (pipeline_of stage)) (Dnat dp) flight) (next_stage stage) refl may
+  last_leads (action.Step (CtDnatTo addr)) flight may = bound_leads (Dnat dp) (redirected_to addr flight.packet) flight may
   last_leads (action.Step step) flight may = plain_leads (action.Step step) flight may
   last_leads (action.TcpReset block) flight may = plain_leads (action.TcpReset block) flight may
   last_leads (action.Icmp4 block) flight may = plain_leads (action.Icmp4 block) flight may
@@ -86,7 +126,7 @@ module _ (net : Lookup) (stage : Stage) where
   last_leads (action.Arp block) flight may = plain_leads (action.Arp block) flight may
 
   -- so the actions that the machine runs lead on
-  run_leads : (actions : List Action) (flight : Flight) → are_run net stage actions ≡ true → LeadsOn stage (run_actions net stage actions flight)
+  run_leads : (actions : List Action) (flight : Flight) → are_run net stage actions ≡ true → LeadsOn stage (run_actions net dp stage actions flight)
   run_leads [] flight run = absurd (false≢true run)
   run_leads (action.Step step ∷ []) flight run = last_leads (action.Step step) flight run
   run_leads (action.TcpReset block ∷ []) flight run = last_leads (action.TcpReset block) flight run
@@ -95,7 +135,7 @@ module _ (net : Lookup) (stage : Stage) where
   run_leads (action.Arp block ∷ []) flight run = last_leads (action.Arp block) flight run
   run_leads (action.Step step ∷ other ∷ others) flight run =
       let parts = and_parts (is_change net step) (are_run net stage (other ∷ others)) run in
-      change_leads step flight (run_actions net stage (other ∷ others)) parts.0 (λ later. run_leads (other ∷ others) later parts.1)
+      change_leads step flight (run_actions net dp stage (other ∷ others)) parts.0 (λ later. run_leads (other ∷ others) later parts.1)
   run_leads (action.TcpReset block ∷ other ∷ others) flight run = absurd (false≢true run)
   run_leads (action.Icmp4 block ∷ other ∷ others) flight run = absurd (false≢true run)
   run_leads (action.Reject block ∷ other ∷ others) flight run = absurd (false≢true run)
@@ -133,9 +173,9 @@ module _ (flows : Flows) (sound : IsRunnable flows) where
   unfolding step
   step_leads stage flight has = by (acting flows stage flight.packet) refl
     where
-      by : (found : Option Row) → acting flows stage flight.packet ≡ found → LeadsOn stage (acted flows.net stage flight found)
+      by : (found : Option Row) → acting flows stage flight.packet ≡ found → LeadsOn stage (acted flows.net flows.dp stage flight found)
       by None none = absurd (select_some flows stage flight.packet (sound.takes_each stage has) none)
-      by (Some row) is = run_leads flows.net stage row.actions flight (acting_run stage flight.packet row is)
+      by (Some row) is = run_leads flows.net flows.dp stage row.actions flight (acting_run stage flight.packet row is)
 
   -- so does a run, with a step for each stage that is still to come
   never_stuck : (budget : ℕ) (stage : Stage) (flight : Flight) → HasStage stage → places_left stage < budget → (run_from flows budget stage flight).outcome ≢ None

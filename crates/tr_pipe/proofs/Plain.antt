@@ -82,6 +82,14 @@ module _ (net : Lookup) (stage : Stage) where
   still_change GetArp is = refl
   still_change _ is = is
 
+  -- one action that may be the last is a list that is run
+  pub last_run : (last : Action) → runs.may_be_last net stage last ≡ true → steps.are_run net stage (last ∷ []) ≡ true
+  last_run (action.Step step) may = may
+  last_run (action.TcpReset block) may = may
+  last_run (action.Icmp4 block) may = may
+  last_run (action.Reject block) may = may
+  last_run (action.Arp block) may = may
+
   still_last : (last : Action) → runs.may_be_last net stage last ≡ true → may_be_last net stage last ≡ true
   still_last (action.Step CtNext) is = absurd (false≢true is)
   still_last (action.Step CtLb) is = absurd (false≢true is)

@@ -1,12 +1,25 @@
 -- On rows that the machine runs each packet comes to an outcome.
-use Rattle.std.proofs.Common.{◌≡◌, ◌≢◌, ℕ, zero, suc, ◌+◌, ◌-◌, ◌<◌, true, List, [], ◌∷◌, Option, Some, None, refl, sym, subst, arith}
+use Rattle.std.proofs.Common.{◌≡◌, ◌≢◌, ℕ, zero, suc, ◌+◌, ◌-◌, ◌<◌, Bool, true, false, cond, List, [], ◌∷◌, Option, Some, None, refl, sym, subst, arith}
 use Rattle.std.specs.Prelude.{not, is_some}
 use Rattle.std.specs.Bool.{IsTrue}
 use Rattle.std.specs.Option.{IsSome}
 use Rattle.std.proofs.lemmas.Bool.{false≢true, and_parts}
 use Rattle.std.proofs.lemmas.List.Elements.{All-contains}
+use Rattle.nv_base.specs.declared.ip4.Ip4.{Ip4}
+use Rattle.nv_base.specs.declared.object.ObjId.{ObjId}
 use Rattle.pkt_core.specs.Packet.{Values}
-use Rattle.ct_core.specs.State.{State}
+use Rattle.pkt_core.specs.Prerequisite.{is_ip4}
+use Rattle.pkt_core.specs.Tuple.{tuple, with_tuple}
+use Rattle.pkt_core.specs.declared.tuple.Tuple.{Tuple}
+use Rattle.ct_core.specs.Changes.{recorded}
+use Rattle.ct_core.specs.Look.{look}
+use Rattle.ct_core.specs.State.{State, with_conns}
+use Rattle.ct_core.specs.Translation.{begun_as, followed, forth, snat_port, with_source}
+use Rattle.ct_core.specs.declared.entry.Entry.{Entry}
+use Rattle.ct_core.specs.declared.look.Look.{Look}
+use Rattle.ct_core.specs.declared.look.Look.TheVariants.{Invalid, New, Found}
+use Rattle.ct_core.specs.declared.zone.Zone.{Zone}
+use Rattle.ct_core.specs.declared.zone.Zone.TheVariants.{Dnat, Snat}
 use Rattle.expr_core.specs.Lookup.{Lookup}
 use Rattle.act_core.specs.WellFormed.{is_well_formed}
 use Rattle.act_core.specs.declared.action.Action.{Action}
@@ -16,21 +29,21 @@ use Rattle.act_core.specs.declared.step.Step.TheVariants.{CtNext, CtLb, CtLbTo, 
 use Rattle.sb_model.specs.declared.stage.Pipeline.{Pipeline}
 use Rattle.sb_model.specs.declared.stage.Stage.{Stage}
 use Rattle.sb_model.specs.declared.row.Row.{Row}
-use Rattle.sb_model.specs.Stage.{stage_table, stage_place, stage_at, next_stage, pipeline_of, is_same_kind}
+use Rattle.sb_model.specs.Stage.{is_last, stage_table, stage_place, stage_at, next_stage, pipeline_of, is_same_kind}
 use Rattle.sb_model.proofs.Stages.{next_goes_up, place_below}
 use Rattle.tr_stage.specs.Machine as packets
 use Rattle.tr_stage.specs.Machine.{Flows, acting, kind_of}
 use Rattle.tr_stage.specs.Runnable as runs
 use Rattle.tr_stage.proofs.Found.{IsFound, IsFound-from_select, select_some}
-use Rattle.tr_stage.proofs.PacketRuns as steps
 use Rattle.tr_stage.proofs.Runs as leads
 use Rattle.tr_stage.proofs.Runs.{changes, actions_lead, same_kinds, at_is_of_kind}
-use Rattle.tr_pipe.specs.Machine.{StageEnd, after, acted, done, effect, ended, go_on, kept, on_to, run_actions, run_from, run_pipeline, step}
+use Rattle.tr_pipe.specs.Machine.{StageEnd, after, acted, bound, bound_if, done, effect, ended, go_on, hidden, hidden_by, kept, on_to, run_actions, run_from, run_pipeline, step, where_room, with_port}
 use Rattle.tr_pipe.specs.Machine.StageEnd.{On, Ends}
 use Rattle.tr_pipe.specs.Runnable.{is_change, may_be_last, are_run, IsRunnable}
 use Rattle.tr_pipe.specs.Learning.{resolved, with_sender}
 use Rattle.tr_pipe.specs.Tracking.{Flight, coming, committed, tracked, with_packet, zone_of}
-use Rattle.tr_pipe.proofs.Plain.{plain_actions}
+use Rattle.tr_pipe.specs.Translating.{balanced_to, redirected_to, tracked_by, unhidden, way_of, zone_at}
+use Rattle.tr_pipe.proofs.Plain.{last_run, plain_actions}
 use Rattle.tr_pipe.proofs.Steps.{pipeline_begins}
 
 -- a step that leads to the next stage, or to an outcome
@@ -74,14 +87,7 @@ module _ (net : Lookup) (dp : ObjId) (stage : Stage) where
   -- a last action that asks for no connection
   plain_leads : (last : Action) (flight : Flight) → runs.may_be_last net stage last ≡ true → LeadsOn stage (run_actions net dp stage (last ∷ []) flight)
   plain_leads last flight may =
-      subst (LeadsOn stage) (sym (plain_actions net dp stage (last ∷ []) flight (one last may))) (lifted flight (packets.run_actions net stage (last ∷ []) flight.packet) (actions_lead net stage (last ∷ []) flight.packet (one last may)))
-    where
-      one : (last : Action) → runs.may_be_last net stage last ≡ true → steps.are_run net stage (last ∷ []) ≡ true
-      one (action.Step step) may = may
-      one (action.TcpReset block) may = may
-      one (action.Icmp4 block) may = may
-      one (action.Reject block) may = may
-      one (action.Arp block) may = may
+      subst (LeadsOn stage) (sym (plain_actions net dp stage (last ∷ []) flight (last_run net stage last may))) (lifted flight (packets.run_actions net stage (last ∷ []) flight.packet) (actions_lead net stage (last ∷ []) flight.packet (last_run net stage last may)))
 
   -- a packet that begins a connection, and one whose source may change
   room_leads : (flight : Flight) (left : Option (List Entry)) → not (is_last stage) ≡ true → LeadsOn stage (where_room (next_stage stage) flight left)

@@ -1,5 +1,5 @@
 -- What translation does with a packet and the connections (ovn-sb(5), `ct_lb`, `ct_dnat` and `ct_snat`).
-use Rattle.std.specs.Prelude.{◌==◌, if◌then◌else◌, List, length, Option, Some, None, slice_get, option_map}
+use Rattle.std.specs.Prelude.{if◌then◌else◌, List, length, Option, None, slice_get, option_map}
 use Rattle.nv_base.specs.declared.ip4.Ip4.{Ip4}
 use Rattle.nv_base.specs.declared.object.ObjId.{ObjId}
 use Rattle.pkt_core.specs.declared.tuple.Tuple.{Tuple}

@@ -1,9 +1,10 @@
 //! What the actions of a row do.
-ghost use Rattle.std.specs.Prelude.{◌≡◌, IsTrue, true, not, [], ◌∷◌, Some, IfOk};
+ghost use Rattle.std.specs.Prelude.{◌≡◌, IsTrue, true, false, not, [], ◌∷◌, Some, is_some, IfOk};
+ghost use Rattle.expr_core.specs.Lookup.{Lookup};
 ghost use Rattle.act_core.specs.WellFormed.{is_action, is_step, is_well_formed};
 ghost use Rattle.sb_model.specs.Stage.{is_last, next_stage};
 ghost use Rattle.tr_pipe.specs.Machine.{effect, run_actions};
-ghost use Rattle.tr_pipe.specs.Runnable.{is_change, may_be_last, are_run};
+ghost use Rattle.tr_pipe.specs.Runnable.{is_change, is_tracking, may_be_last, are_run};
 ghost use Rattle.tr_pipe.specs.inner.Moving.{effect_of, in_flight, with_flight};
 
 use crate::learn::{get_arp, put_arp};
@@ -94,33 +95,60 @@ fn do_last<E: Env>(
     ensures back { work.new.back ≡ work.old.back }
 {
     match last {
-        Action::Step(Step::CtNext) => {
-            track(stage, moving, work);
-            Ok(Ending::On(next(stage)))
-        }
-        Action::Step(Step::CtLb) => {
-            follow(zone_at(dp, stage, &moving.packet), moving, work);
-            Ok(Ending::On(next(stage)))
-        }
-        Action::Step(Step::CtLbTo(targets)) => {
-            let zone = zone_at(dp, stage, &moving.packet);
-            balance_to(next(stage), zone, targets.as_slice(), moving, work)
-        }
-        Action::Step(Step::CtSnat) => {
-            unhide(Zone::Snat(dp), moving, work);
-            Ok(Ending::On(next(stage)))
-        }
-        Action::Step(Step::CtSnatTo(external)) => {
-            hide(next(stage), Zone::Snat(dp), *external, moving, work)
-        }
-        Action::Step(Step::CtDnat) => {
-            redirect_found(stage.pipeline(), Zone::Dnat(dp), moving, work);
-            Ok(Ending::On(next(stage)))
-        }
-        Action::Step(Step::CtDnatTo(addr)) => {
-            redirect(next(stage), Zone::Dnat(dp), *addr, moving, work)
-        }
+        Action::Step(step) => match do_tracking(dp, stage, step, moving, work)? {
+            Some(ending) => Ok(ending),
+            None => Ok(end(env, stage, last, &mut moving.packet)),
+        },
         _ => Ok(end(env, stage, last, &mut moving.packet)),
+    }
+}
+
+// Does an action that asks for a connection, after which the packet goes on. `None` exactly where the action is another; then nothing
+// changes.
+fn do_tracking(
+    dp: ObjId,
+    stage: Stage,
+    step: &Step,
+    moving: &mut Moving,
+    work: &mut Work,
+) -> Result<Option<Ending>, OutOfMemory>
+    requires next { is_tracking step.now ≡ true → not (is_last stage) ≡ true }
+    ensures asks { IfOk result (λ ended. is_some ended ≡ is_tracking step.now) }
+    ensures effect { IfOk result (λ ended. (net : Lookup) → is_tracking step.now ≡ true → effect net dp stage step.now (in_flight moving.old work.old.state) ≡ effect_of ended (in_flight moving.new work.new.state)) }
+    ensures other { IfOk result (λ ended. is_tracking step.now ≡ false → in_flight moving.new work.new.state ≡ in_flight moving.old work.old.state) }
+    ensures back { work.new.back ≡ work.old.back }
+{
+    match step {
+        Step::CtNext => {
+            track(stage, moving, work);
+            Ok(Some(Ending::On(next(stage))))
+        }
+        Step::CtLb => {
+            follow(zone_at(dp, stage, &moving.packet), moving, work);
+            Ok(Some(Ending::On(next(stage))))
+        }
+        Step::CtLbTo(targets) => {
+            let zone = zone_at(dp, stage, &moving.packet);
+            let ending = balance_to(next(stage), zone, targets.as_slice(), moving, work)?;
+            Ok(Some(ending))
+        }
+        Step::CtSnat => {
+            unhide(Zone::Snat(dp), moving, work);
+            Ok(Some(Ending::On(next(stage))))
+        }
+        Step::CtSnatTo(external) => {
+            let ending = hide(next(stage), Zone::Snat(dp), *external, moving, work)?;
+            Ok(Some(ending))
+        }
+        Step::CtDnat => {
+            redirect_found(stage.pipeline(), Zone::Dnat(dp), moving, work);
+            Ok(Some(Ending::On(next(stage))))
+        }
+        Step::CtDnatTo(addr) => {
+            let ending = redirect(next(stage), Zone::Dnat(dp), *addr, moving, work)?;
+            Ok(Some(ending))
+        }
+        _ => Ok(None),
     }
 }
 

@@ -112,7 +112,7 @@ module _ (net : Network) (router : Router) (flight : Flight) (on : IsOnRouter ne
   OfLayer row = IsOfLayer (does net router flight on LrInAdmission) layers row
 
   -- what the rules of the stage do
-  it_goes : run_actions (names net) LrInAdmission (admitting_rule (port_in_input net port)).actions flight ≡ goes
+  it_goes : run_actions (names net) router.id LrInAdmission (admitting_rule (port_in_input net port)).actions flight ≡ goes
   unfolding next_stage stage_at all_stages
   it_goes = refl
 
@@ -165,7 +165,7 @@ module _ (net : Network) (router : Router) (flight : Flight) (on : IsOnRouter ne
             priority = ap (λ (r : Row). r.priority) row_is;
             done =
                 ap (does net router flight on LrInAdmission) row_is
-                ∙ ap (λ (q : RouterPort). run_actions (names net) LrInAdmission (admitting_rule (port_in_input net q)).actions flight) same ∙ it_goes;
+                ∙ ap (λ (q : RouterPort). run_actions (names net) router.id LrInAdmission (admitting_rule (port_in_input net q)).actions flight) same ∙ it_goes;
           }
 
   taker : (row : Row) → IsRule net router.id LrInAdmission row → holds (names net) packet row.matching ≡ true → OfLayer row

@@ -78,7 +78,7 @@ module _ (net : Network) (router : Router) (flight : Flight) (on : IsOnRouter ne
   abbrev OfLayer : Row → Type 0
   OfLayer row = IsOfLayer (does net router flight on LrOutDelivery) layers row
 
-  it_goes : run_actions (names net) LrOutDelivery (delivery_rule port.name).actions flight ≡ goes
+  it_goes : run_actions (names net) router.id LrOutDelivery (delivery_rule port.name).actions flight ≡ goes
   unfolding pipeline_of
   it_goes = refl
 

@@ -1,6 +1,7 @@
 -- What the rules of input do.
 use Rattle.std.proofs.Common.{◌≡◌, Bool, true, false, cond, List, [], ◌∷◌, length, ap, refl, ◌∙◌}
 use Rattle.std.specs.Prelude.{◌&&◌, Some, None}
+use Rattle.nv_base.specs.declared.object.ObjId.{ObjId}
 use Rattle.nv_base.specs.Field.{field_count}
 use Rattle.nv_base.specs.declared.field.Field.TheVariants.{EthSrc, Ip4Src}
 use Rattle.nv_base.specs.declared.field.Prerequisite.TheVariants as needs
@@ -60,10 +61,10 @@ module _ (port : RouterPort) (flight : Flight) where
   abbrev pub expires : Ip4 → StageEnd
   expires first = answers (with_value (icmp_error turned TtlExceeded) Ip4Src first.0)
 
-  module _ (known : Lookup) (long : length flight.packet ≡ field_count) (at : CameIn port flight.packet) (has : HasMac port flight.packet) where
+  module _ (known : Lookup) (dp : ObjId) (long : length flight.packet ≡ field_count) (at : CameIn port flight.packet) (has : HasMac port flight.packet) where
     -- what actions do
     abbrev does_by : List Action → StageEnd
-    does_by actions = run_actions known LrInIpInput actions flight
+    does_by actions = run_actions known dp LrInIpInput actions flight
 
     pub it_drops : does_by drops ≡ dropped
     it_drops = refl

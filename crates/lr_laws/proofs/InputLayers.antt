@@ -163,7 +163,7 @@ module _ (net : Network) (router : Router) (flight : Flight) (port : RouterPort)
 
     -- a row of a rule is of a layer whose test holds, of the same priority, where the rule's actions do what the layer says
     in_layer : (l : Layer StageEnd) → Contains layers l → (row : Row) (unit : Unit) (says : Rule) → row ≡ row_of unit says → l.test ≡ true → says.priority ≡ l.priority
-        → run_actions (names net) LrInIpInput says.actions flight ≡ l.end → OfLayer row
+        → run_actions (names net) router.id LrInIpInput says.actions flight ≡ l.end → OfLayer row
     in_layer l there row unit says is test priority done =
         record { layer = l; among = there; holds = test; priority = ap (λ (r : Row). r.priority) is ∙ priority; done = ap (does net router flight here.on LrInIpInput) is ∙ done }
 
@@ -186,7 +186,7 @@ module _ (net : Network) (router : Router) (flight : Flight) (port : RouterPort)
         (of_first ip4_rule (last_rule ∷ []) says
         (λ same.
         in_layer ip4_layer (7, omega arith, refl) row unit ip4_rule (at_rule same) (sym (ip4_match (names net) packet here.on.formed) ∙ of_rule row unit ip4_rule (at_rule same) takes) refl
-        (it_goes port flight (names net) here.on.formed.count here.at here.has))
+        (it_goes port flight (names net) router.id here.on.formed.count here.at here.has))
         (of_first last_rule [] says (λ same. in_layer last_layer (8, omega arith, refl) row unit last_rule (at_rule same) refl refl refl) (of_none says)))))
       where
         unit : Unit
@@ -233,7 +233,7 @@ module _ (net : Network) (router : Router) (flight : Flight) (port : RouterPort)
           (sym (own_arp_match (names net) packet here.on.formed net of.port) ∙ of_rule row unit says is takes) in
           let asked : arp_asked ≡ true = sym (ap (λ (p : RouterPort). is_request packet && is_among_ips (value packet ArpTpa) (addresses_at p)) (same_one parts.0)) ∙ parts.1 in
           in_layer answer_layer (1, omega arith, refl) row unit says is (or_left arp_asked echo_asked asked) refl
-          (it_replies port flight (names net) here.on.formed.count here.at here.has ∙ sym (ap (λ b. cond b (replies port flight) (echoes port flight)) asked))
+          (it_replies port flight (names net) router.id here.on.formed.count here.at here.has ∙ sym (ap (λ b. cond b (replies port flight) (echoes port flight)) asked))
 
       by_echo : Is (echo_rule (port_in_input net of.port)) → OfLayer row
       by_echo is =
@@ -244,7 +244,7 @@ module _ (net : Network) (router : Router) (flight : Flight) (port : RouterPort)
           let ip4 = and_parts (is_ip4 packet) (eqb (value packet IpProto) 1) of_icmp.0 in
           let no_arp : arp_asked ≡ false = ap (λ b. b && eqb (value packet ArpOp) 1 && is_among_ips (value packet ArpTpa) (addresses_at port)) (ip4_no_arp packet ip4.0) in
           in_layer answer_layer (1, omega arith, refl) row unit says is (or_right arp_asked echo_asked (and_from (is_echo_request packet) to_own parts.0 (to_it parts.1))) refl
-          (it_echoes port flight (names net) here.on.formed.count here.at here.has ∙ sym (ap (λ b. cond b (replies port flight) (echoes port flight)) no_arp))
+          (it_echoes port flight (names net) router.id here.on.formed.count here.at here.has ∙ sym (ap (λ b. cond b (replies port flight) (echoes port flight)) no_arp))
 
       -- of a service
       abbrev served : Bool → StageEnd
@@ -258,7 +258,7 @@ module _ (net : Network) (router : Router) (flight : Flight) (port : RouterPort)
           let to = and_parts (is_ip4 packet) (is_among_ips (value packet Ip4Dst) addrs) parts.0 in
           in_layer service_layer (3, omega arith, refl) row unit (reset_rule addrs) is
           (and_from (is_ip4 packet && to_own) is_service (and_from (is_ip4 packet) to_own to.0 (to_free to.1)) (or_left (meets packet needs.Tcp) (meets packet needs.Udp) parts.1)) refl
-          (it_resets port flight (names net) here.on.formed.count here.at here.has parts.1 ∙ sym (ap served parts.1))
+          (it_resets port flight (names net) router.id here.on.formed.count here.at here.has parts.1 ∙ sym (ap served parts.1))
 
       by_unreachable : Is (unreachable_rule (free_addresses net of.port)) → OfLayer row
       by_unreachable is =
@@ -269,7 +269,7 @@ module _ (net : Network) (router : Router) (flight : Flight) (port : RouterPort)
           let to = and_parts (is_ip4 packet) (is_among_ips (value packet Ip4Dst) addrs) parts.0 in
           in_layer service_layer (3, omega arith, refl) row unit (unreachable_rule addrs) is
           (and_from (is_ip4 packet && to_own) is_service (and_from (is_ip4 packet) to_own to.0 (to_free to.1)) (or_right (meets packet needs.Tcp) (meets packet needs.Udp) parts.1)) refl
-          (it_is_unreachable port flight (names net) here.on.formed.count here.at here.has ∙ sym (ap served (udp_no_tcp packet parts.1)))
+          (it_is_unreachable port flight (names net) router.id here.on.formed.count here.at here.has ∙ sym (ap served (udp_no_tcp packet parts.1)))
 
       by_refusal : Is (refusing_rule (free_addresses net of.port)) → OfLayer row
       by_refusal is =
@@ -286,7 +286,7 @@ module _ (net : Network) (router : Router) (flight : Flight) (port : RouterPort)
           (sym (expiring_match (names net) packet here.on.formed of.port.name first.base) ∙ of_rule row unit says is takes) in
           let its_nets : first ∷ rest ≡ port.nets = sym nets ∙ ap (λ (p : RouterPort). p.nets) (same_one parts.0) in
           let from : first.base ≡ first_address port = ap (λ (ns : List Block). option_map_or (λ (own : Block). own.base) (slice_get ns 0) (address 0)) its_nets in
-          in_layer expiring_layer (6, omega arith, refl) row unit says is parts.1 refl (it_expires port flight (names net) here.on.formed.count here.at here.has first.base ∙ ap (expires port flight) from)
+          in_layer expiring_layer (6, omega arith, refl) row unit says is parts.1 refl (it_expires port flight (names net) router.id here.on.formed.count here.at here.has first.base ∙ ap (expires port flight) from)
 
       by_port : (said : IsPortSays net of.port of.says) → is_input (stage_said said) ≡ true → OfLayer row
       by_port (IsPortSays.OwnSource is) stage = by_source (of.is ∙ ap (row_of unit) is)

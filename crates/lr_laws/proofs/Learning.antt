@@ -134,13 +134,13 @@ module _ (net : Network) (router : Router) (flight : Flight) (on : IsOnRouter ne
     arrival : record { 0 = value packet Inport } ≡ port.id
     arrival = λ i. record { 0 = at i }
 
-    it_learns : run_actions (names net) LrInLearnNeighbor (learning_rule (port_in_input net port)).actions flight ≡ learns_it
+    it_learns : run_actions (names net) router.id LrInLearnNeighbor (learning_rule (port_in_input net port)).actions flight ≡ learns_it
     unfolding next_stage stage_at all_stages
     it_learns =
         ap (λ (number : ObjId). On LrInIpInput (record flight { state = record flight.state { nbrs = learnt (record { port = number; addr = address (value packet ArpSpa); mac = value packet ArpSha }) flight.state.nbrs } }))
         arrival
 
-    it_goes : run_actions (names net) LrInLearnNeighbor goes_on flight ≡ goes
+    it_goes : run_actions (names net) router.id LrInLearnNeighbor goes_on flight ≡ goes
     unfolding next_stage stage_at all_stages
     it_goes = refl
 

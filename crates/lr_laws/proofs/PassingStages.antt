@@ -44,7 +44,7 @@ module _ (net : Network) (router : Router) (flight : Flight) (on : IsOnRouter ne
   abbrev last : Layer StageEnd
   last = layer 0 true (On next flight)
 
-  goes : run_actions (names net) stage goes_on flight ≡ On next flight
+  goes : run_actions (names net) router.id stage goes_on flight ≡ On next flight
   goes = ap (λ s. ended flight (packets.on_to s flight.packet)) follows
 
   of_rule : (says : Rule) → says ≡ passing stage → (row : Row) → row.actions ≡ says.actions → row.priority ≡ says.priority → IsOfLayer (does net router flight on stage) (last ∷ []) row
@@ -54,7 +54,7 @@ module _ (net : Network) (router : Router) (flight : Flight) (on : IsOnRouter ne
         among = one_first last [] last refl;
         holds = refl;
         priority = priority ∙ ap (λ (r : Rule). r.priority) is;
-        done = ap (λ a. run_actions (names net) stage a flight) (actions ∙ ap (λ (r : Rule). r.actions) is) ∙ goes;
+        done = ap (λ a. run_actions (names net) router.id stage a flight) (actions ∙ ap (λ (r : Rule). r.actions) is) ∙ goes;
       }
 
   taker : (row : Row) → IsRule net router.id stage row → IsOfLayer (does net router flight on stage) (last ∷ []) row

@@ -124,11 +124,11 @@ module _ (net : Network) (router : Router) (flight : Flight) (on : IsOnRouter ne
   abbrev OfLayer : Row → Type 0
   OfLayer row = IsOfLayer (does net router flight on LrInArpRequest) layers row
 
-  it_asks : run_actions (names net) LrInArpRequest asking_rule.actions flight ≡ request
+  it_asks : run_actions (names net) router.id LrInArpRequest asking_rule.actions flight ≡ request
   unfolding pipeline_of
   it_asks = ap (λ p. Ends (Some (outcomes.Made p 0 answer.Arp)) flight.state) (made flight.packet)
 
-  it_leaves : run_actions (names net) LrInArpRequest goes_out flight ≡ leaves
+  it_leaves : run_actions (names net) router.id LrInArpRequest goes_out flight ≡ leaves
   unfolding pipeline_of
   it_leaves = refl
 

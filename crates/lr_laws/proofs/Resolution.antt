@@ -111,11 +111,11 @@ module _ (net : Network) (router : Router) (flight : Flight) (on : IsOnRouter ne
   its_does = does net router flight on LrInArpResolve
 
   -- what rows do
-  host_does : (priority : ℕ) (name : List ℕ) (own : Host) → run_actions (names net) LrInArpResolve (resolving_rule priority name own).actions flight ≡ to own.mac
+  host_does : (priority : ℕ) (name : List ℕ) (own : Host) → run_actions (names net) router.id LrInArpResolve (resolving_rule priority name own).actions flight ≡ to own.mac
   unfolding next_stage stage_at all_stages
   host_does priority name own = refl
 
-  last_does : run_actions (names net) LrInArpResolve last_rule.actions flight ≡ to (mac_of flight.state.nbrs port.id ip)
+  last_does : run_actions (names net) router.id LrInArpResolve last_rule.actions flight ≡ to (mac_of flight.state.nbrs port.id ip)
   unfolding next_stage stage_at all_stages
   last_does = ap (λ (number : ObjId). to (mac_of flight.state.nbrs number ip)) arrival
     where

@@ -145,9 +145,9 @@ module _ (net : Network) (router : Router) (flight : Flight) (on : IsOnRouter ne
 
   -- the packet is to leave by a port of this number
   set_outport : (name : List ℕ) (number : ℕ) → number_of (names net) name ≡ Some number → (others : List Step) (before : Flight)
-      → run_actions (names net) LrInIpRouting (steps (act.SetOutport name ∷ others)) before
-      ≡ run_actions (names net) LrInIpRouting (steps others) (with_packet before (with_value before.packet Outport number))
-  set_outport name number is others before = ap (λ o. after (done before (packets.bound_for o before.packet)) (run_actions (names net) LrInIpRouting (steps others))) is
+      → run_actions (names net) router.id LrInIpRouting (steps (act.SetOutport name ∷ others)) before
+      ≡ run_actions (names net) router.id LrInIpRouting (steps others) (with_packet before (with_value before.packet Outport number))
+  set_outport name number is others before = ap (λ o. after (done before (packets.bound_for o before.packet)) (run_actions (names net) router.id LrInIpRouting (steps others))) is
 
   -- on by a port, for a next host
   abbrev sent : RouterPort → ℕ → ℕ → StageEnd
@@ -162,15 +162,15 @@ module _ (net : Network) (router : Router) (flight : Flight) (on : IsOnRouter ne
   abbrev after_port : List Step
   after_port = becomes FlagsLoopback (in_decimal 1) ∷ act.Next ∷ []
 
-  by_port : (port : RouterPort) → Contains net.router_ports port → (via from : ℕ) → run_actions (names net) LrInIpRouting (steps (act.SetOutport port.name ∷ after_port)) (before_port port via from) ≡ sent port via from
+  by_port : (port : RouterPort) → Contains net.router_ports port → (via from : ℕ) → run_actions (names net) router.id LrInIpRouting (steps (act.SetOutport port.name ∷ after_port)) (before_port port via from) ≡ sent port via from
   unfolding next_stage stage_at all_stages
   by_port port there via from = set_outport port.name port.id.0 (number_of_port net on.sound port there) after_port (before_port port via from)
 
-  static_does : (port : RouterPort) → Contains net.router_ports port → (input : StaticRouteInput) (from : Ip4) → run_actions (names net) LrInIpRouting (static_rule input (exit_of port from)).actions flight
+  static_does : (port : RouterPort) → Contains net.router_ports port → (input : StaticRouteInput) (from : Ip4) → run_actions (names net) router.id LrInIpRouting (static_rule input (exit_of port from)).actions flight
       ≡ goes (hop_by port input.nexthop from)
   static_does port there input from = by_port port there input.nexthop.0 from.0
 
-  direct_does : (port : RouterPort) → Contains net.router_ports port → (own : Block) → run_actions (names net) LrInIpRouting (network_rule (port_route_input port) own).actions flight ≡ goes (hop_by port dst own.base)
+  direct_does : (port : RouterPort) → Contains net.router_ports port → (own : Block) → run_actions (names net) router.id LrInIpRouting (network_rule (port_route_input port) own).actions flight ≡ goes (hop_by port dst own.base)
   direct_does port there own =
       by_port port there (value (with_value packet IpTtl (value packet IpTtl - 1)) Ip4Dst) own.base.0
       ∙ ap (λ (via : ℕ). sent port via own.base.0) (other_value packet IpTtl Ip4Dst (value packet IpTtl - 1) refl)

@@ -21,7 +21,7 @@ use Rattle.lr_laws.proofs.Tables.{IsRule, network_rows-in_order, table-gives}
 module _ (net : Network) (router : Router) (flight : Flight) (on : IsOnRouter net router flight.packet) (stage : Stage) where
   -- what a row does with the packet
   abbrev pub does : Row → StageEnd
-  does row = run_actions (names net) stage row.actions flight
+  does row = run_actions (names net) router.id stage row.actions flight
 
   -- the match of a row holds of the packet
   abbrev pub Takes : Row → Type 0
@@ -46,7 +46,7 @@ module _ (net : Network) (router : Router) (flight : Flight) (on : IsOnRouter ne
 
   pub step_by_layers : (layers : List (Layer StageEnd)) (last : StageEnd) → Fall layers → TakersAreOf layers → HaveRows layers → any_holds layers ≡ true → step (flows_at net router.id) stage flight ≡ first_end layers last
   unfolding step
-  step_by_layers layers last fall takers rows_of any = ap (acted (names net) stage flight) met.is ∙ met.done
+  step_by_layers layers last fall takers rows_of any = ap (acted (names net) router.id stage flight) met.is ∙ met.done
     where
       met : Meets (names net) router.id stage flight.packet (network_rows net) does (first_end layers last)
       met =
@@ -64,7 +64,7 @@ module _ (net : Network) (router : Router) (flight : Flight) (on : IsOnRouter ne
       → ((x : Row) → IsRule net router.id stage x → Takes x → (does x ≡ does r) ⊎ ((x.priority < r.priority) ⊎ ((x.priority ≡ r.priority) × (r.hint.0 < x.hint.0))))
       → step (flows_at net router.id) stage flight ≡ does r
   unfolding step
-  step_by_row r there of_dp of_stage takes others = ap (acted (names net) stage flight) at.is ∙ by (others at.row (table-gives net router flight.packet on stage at.row at.among at.in_table) at.takes)
+  step_by_row r there of_dp of_stage takes others = ap (acted (names net) router.id stage flight) at.is ∙ by (others at.row (table-gives net router flight.packet on stage at.row at.among at.in_table) at.takes)
     where
       at : IsMet (names net) router.id stage flight.packet (network_rows net) r
       at = met (names net) router.id stage flight.packet r (in_table-from router.id stage r of_dp of_stage) takes (network_rows net) (network_rows-in_order net) there

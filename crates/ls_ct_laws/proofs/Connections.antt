@@ -57,42 +57,42 @@ use Rattle.ls_ct_laws.proofs.TrackedRules.{passing, tracked_switch_rules, switch
 
 -- ---- actions
 
-module _ (net : Network) (flight : Flight) where
-  first_passes : (w : Way) → run_actions (names net) (first_stage_of w) goes_on flight ≡ On (pre_stateful w) flight
+module _ (net : Network) (dp : ObjId) (flight : Flight) where
+  first_passes : (w : Way) → run_actions (names net) dp (first_stage_of w) goes_on flight ≡ On (pre_stateful w) flight
   unfolding next_stage stage_at all_stages
   first_passes From = refl
   first_passes To = refl
 
-  first_notes : (w : Way) → run_actions (names net) (first_stage_of w) (steps (asks_to_track ∷ action_step.Next ∷ [])) flight ≡ On (pre_stateful w) (with_bit 0 flight)
+  first_notes : (w : Way) → run_actions (names net) dp (first_stage_of w) (steps (asks_to_track ∷ action_step.Next ∷ [])) flight ≡ On (pre_stateful w) (with_bit 0 flight)
   unfolding next_stage stage_at all_stages
   first_notes From = refl
   first_notes To = refl
 
-  second_passes : (w : Way) → run_actions (names net) (pre_stateful w) goes_on flight ≡ On (stage_of w) flight
+  second_passes : (w : Way) → run_actions (names net) dp (pre_stateful w) goes_on flight ≡ On (stage_of w) flight
   unfolding next_stage stage_at all_stages
   second_passes From = refl
   second_passes To = refl
 
-  second_tracks : (w : Way) → run_actions (names net) (pre_stateful w) (steps (action_step.CtNext ∷ [])) flight ≡ On (stage_of w) (tracked (zone_of (pipeline_for w) flight.packet) flight)
+  second_tracks : (w : Way) → run_actions (names net) dp (pre_stateful w) (steps (action_step.CtNext ∷ [])) flight ≡ On (stage_of w) (tracked (zone_of (pipeline_for w) flight.packet) flight)
   unfolding next_stage stage_at all_stages pipeline_of
   second_tracks From = refl
   second_tracks To = refl
 
-  last_passes : (w : Way) → run_actions (names net) (stateful w) goes_on flight ≡ On (after_stateful w) flight
+  last_passes : (w : Way) → run_actions (names net) dp (stateful w) goes_on flight ≡ On (after_stateful w) flight
   unfolding next_stage stage_at all_stages
   last_passes From = refl
   last_passes To = refl
 
-  last_keeps : (w : Way) → run_actions (names net) (stateful w) (steps (action_step.CtCommit false ∷ action_step.Next ∷ [])) flight ≡ keeps w flight
+  last_keeps : (w : Way) → run_actions (names net) dp (stateful w) (steps (action_step.CtCommit false ∷ action_step.Next ∷ [])) flight ≡ keeps w flight
   unfolding next_stage stage_at all_stages pipeline_of
   last_keeps From = by (kept flight (committed (zone_of Ingress flight.packet) false flight.packet flight.state flight.look))
     where
-      by : (e : Effect) → after e (run_actions (names net) LsInStateful (steps (action_step.Next ∷ []))) ≡ after e (λ later. On LsInArpRsp later)
+      by : (e : Effect) → after e (run_actions (names net) dp LsInStateful (steps (action_step.Next ∷ []))) ≡ after e (λ later. On LsInArpRsp later)
       by (Effect.Changed later) = refl
       by (Effect.Done end) = refl
   last_keeps To = by (kept flight (committed (zone_of Egress flight.packet) false flight.packet flight.state flight.look))
     where
-      by : (e : Effect) → after e (run_actions (names net) LsOutStateful (steps (action_step.Next ∷ []))) ≡ after e (λ later. On LsOutCheckPortSec later)
+      by : (e : Effect) → after e (run_actions (names net) dp LsOutStateful (steps (action_step.Next ∷ []))) ≡ after e (λ later. On LsOutCheckPortSec later)
       by (Effect.Changed later) = refl
       by (Effect.Done end) = refl
 
@@ -240,7 +240,7 @@ module _ (net : Network) (switch : Switch) (flight : Flight) (on : IsOn net swit
     of_rule x (inr (inl of)) = absurd (of_no_port stage no_port x of)
     of_rule x (inr (inr of)) = absurd (of_no_acl stage no_acl x of)
 
-    two_rules : step (flows_at net dp) stage flight ≡ run_actions (names net) stage (cond (takes m) actions goes_on) flight
+    two_rules : step (flows_at net dp) stage flight ≡ run_actions (names net) dp stage (cond (takes m) actions goes_on) flight
     two_rules = by (takes m) refl
       where
         below : (x : Row) → (x ≡ row_at low) ⊎ (x ≡ row_at high) → (x.actions ≡ actions) ⊎ (x.priority < 100)
@@ -251,7 +251,7 @@ module _ (net : Network) (switch : Switch) (flight : Flight) (on : IsOn net swit
         only x none takes_x (inl is) = ap (λ (r : Row). r.actions) is
         only x none takes_x (inr is) = absurd (false≢true (sym none ∙ sym (ap (λ (r : Row). takes r.matching) is) ∙ takes_x))
 
-        by : (b : Bool) → takes m ≡ b → step (flows_at net dp) stage flight ≡ run_actions (names net) stage (cond b actions goes_on) flight
+        by : (b : Bool) → takes m ≡ b → step (flows_at net dp) stage flight ≡ run_actions (names net) dp stage (cond b actions goes_on) flight
         by true it_takes =
             meets_above net switch flight on stage (row_at high) (row_there stage (low ∷ high ∷ []) are high (one_later low (high ∷ []) high (one_first high [] high refl))) refl refl it_takes
             (λ x of takes_x. below x (of_rule x of))
@@ -268,9 +268,9 @@ module _ (net : Network) (switch : Switch) (flight : Flight) (on : IsOn net swit
       two_rules net switch flight on tracking (pre_stateful way) (bit_is_set Reg0 0) tracks_it (second_are way) (second_not_ports way) (second_not_acls way)
       ∙ by (has_bit 0 flight.packet)
     where
-      by : (b : Bool) → run_actions (names net) (pre_stateful way) (cond b tracks_it goes_on) flight ≡ On (stage_of way) (cond b (tracked (zone_of (pipeline_for way) flight.packet) flight) flight)
-      by true = second_tracks net flight way
-      by false = second_passes net flight way
+      by : (b : Bool) → run_actions (names net) switch.id (pre_stateful way) (cond b tracks_it goes_on) flight ≡ On (stage_of way) (cond b (tracked (zone_of (pipeline_for way) flight.packet) flight) flight)
+      by true = second_tracks net switch.id flight way
+      by false = second_passes net switch.id flight way
 
   -- the connection of what is noted to be kept is kept
   pub keeps_noted : (way : Way) → step (flows_at net switch.id) (stateful way) flight ≡ (if has_bit 1 flight.packet then keeps way flight else On (after_stateful way) flight)
@@ -278,9 +278,9 @@ module _ (net : Network) (switch : Switch) (flight : Flight) (on : IsOn net swit
       two_rules net switch flight on tracking (stateful way) (bit_is_set Reg0 1) keeps_it (last_are way) (last_not_ports way) (last_not_acls way)
       ∙ by (has_bit 1 flight.packet)
     where
-      by : (b : Bool) → run_actions (names net) (stateful way) (cond b keeps_it goes_on) flight ≡ cond b (keeps way flight) (On (after_stateful way) flight)
-      by true = last_keeps net flight way
-      by false = last_passes net flight way
+      by : (b : Bool) → run_actions (names net) switch.id (stateful way) (cond b keeps_it goes_on) flight ≡ cond b (keeps way flight) (On (after_stateful way) flight)
+      by true = last_keeps net switch.id flight way
+      by false = last_passes net switch.id flight way
 
 -- ---- the first stage
 
@@ -448,7 +448,7 @@ module _ (net : Network) (switch : Switch) (flight : Flight) (on : IsOn net swit
   many_go many =
       meets_above net switch flight on at (switch_row of_many) (three_there of_many (one_later (passing at) (of_many ∷ of_ip4 ∷ []) of_many (one_first of_many (of_ip4 ∷ []) of_many refl))) refl refl (held_many ∙ many)
       (λ x of takes. going x 110 (omega arith) (each_row x of))
-      ∙ first_passes net flight way
+      ∙ first_passes net switch.id flight way
 
   -- what a stateless ACL takes goes on
   stateless_go : passes_untracked net switch.id way flight.packet ≡ true → step (flows_at net switch.id) at flight ≡ On (pre_stateful way) flight
@@ -457,20 +457,20 @@ module _ (net : Network) (switch : Switch) (flight : Flight) (on : IsOn net swit
       let both = and_parts (is_stateless found.0.verdict) (held found.0.matching) found.2 in
       meets_above net switch flight on at (untracking_row found.0) (untracking_there found.0 found.1 both.0) refl refl both.1
       (λ x of takes. going x (found.0.priority + 1000) (omega arith) (each_row x of))
-      ∙ first_passes net flight way
+      ∙ first_passes net switch.id flight way
 
   -- what is of a port that leads to a router goes on
   router_go : is_to_router port ≡ true → step (flows_at net switch.id) at flight ≡ On (pre_stateful way) flight
   router_go leads =
       meets_above net switch flight on at (row_of (unit_of port.switch port.id) (port_rule way port.name)) (router_row leads) of_it.1 refl
       (at_port-from net flight.packet (port_field way) (plain_field way) on.sound port of_it.0 here) (λ x of takes. going x 110 (omega arith) (each_row x of))
-      ∙ first_passes net flight way
+      ∙ first_passes net switch.id flight way
 
   -- what is not of IPv4 goes on
   others_go : is_ip4 flight.packet ≡ false → step (flows_at net switch.id) at flight ≡ On (pre_stateful way) flight
   others_go other =
       meets_above net switch flight on at (switch_row (passing at)) (three_there (passing at) (one_first (passing at) (of_many ∷ of_ip4 ∷ []) (passing at) refl)) refl refl refl (λ x of takes. inl (same x takes (each_row x of)))
-      ∙ first_passes net flight way
+      ∙ first_passes net switch.id flight way
     where
       same : (x : Row) → held x.matching ≡ true → IsOneOf x → x.actions ≡ goes_on
       same x takes (inl is) = ap (λ (r : Row). r.actions) is
@@ -486,7 +486,7 @@ module _ (net : Network) (switch : Switch) (flight : Flight) (on : IsOn net swit
       meets_above net switch flight on at (switch_row of_ip4)
       (three_there of_ip4 (one_later (passing at) (of_many ∷ of_ip4 ∷ []) of_ip4 (one_later of_many (of_ip4 ∷ []) of_ip4 (one_first of_ip4 [] of_ip4 refl)))) refl refl (held_ip4 ∙ ip4)
       (λ x of takes. same x takes (each_row x of))
-      ∙ first_notes net flight way
+      ∙ first_notes net switch.id flight way
     where
       same : (x : Row) → held x.matching ≡ true → IsOneOf x → (x.actions ≡ notes) ⊎ (x.priority < 100)
       same x takes (inl is) = inr (subst (λ (r : Row). r.priority < 100) (sym is) (omega arith))

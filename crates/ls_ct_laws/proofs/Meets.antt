@@ -24,10 +24,10 @@ use Rattle.ls_laws.proofs.Takers.{IsMet, met, lower_after}
 pub meets : (net : Network) (switch : Switch) (flight : Flight) → IsOn net switch flight.packet → (stage : Stage) (r : Row) → Contains (network_rows net) r → r.dp ≡ switch.id → r.stage ≡ stage
     → holds (names net) flight.packet r.matching ≡ true
     → ((x : Row) → IsRule net switch.id stage x → holds (names net) flight.packet x.matching ≡ true → (x.actions ≡ r.actions) ⊎ (is_gt (row_cmp x r) ≡ true))
-    → step (flows_at net switch.id) stage flight ≡ run_actions (names net) stage r.actions flight
+    → step (flows_at net switch.id) stage flight ≡ run_actions (names net) switch.id stage r.actions flight
 unfolding step
 meets net switch flight on stage r there of_dp of_stage takes others =
-    rw at.is (ap (λ actions. run_actions (names net) stage actions flight) (by (others at.row (table-gives net on.sound switch on.among stage at.row at.among at.in_table) at.takes)))
+    rw at.is (ap (λ actions. run_actions (names net) switch.id stage actions flight) (by (others at.row (table-gives net on.sound switch on.among stage at.row at.among at.in_table) at.takes)))
   where
     at : IsMet (names net) switch.id stage flight.packet (network_rows net) r
     at = met (names net) switch.id stage flight.packet r (in_table-from switch.id stage r of_dp of_stage) takes (network_rows net) (network_in_order net) there
@@ -40,10 +40,10 @@ meets net switch flight on stage r there of_dp of_stage takes others =
 pub meets_above : (net : Network) (switch : Switch) (flight : Flight) → IsOn net switch flight.packet → (stage : Stage) (r : Row) → Contains (network_rows net) r → r.dp ≡ switch.id → r.stage ≡ stage
     → holds (names net) flight.packet r.matching ≡ true
     → ((x : Row) → IsRule net switch.id stage x → holds (names net) flight.packet x.matching ≡ true → (x.actions ≡ r.actions) ⊎ (x.priority < r.priority))
-    → step (flows_at net switch.id) stage flight ≡ run_actions (names net) stage r.actions flight
+    → step (flows_at net switch.id) stage flight ≡ run_actions (names net) switch.id stage r.actions flight
 unfolding step
 meets_above net switch flight on stage r there of_dp of_stage takes others =
-    rw at.is (ap (λ actions. run_actions (names net) stage actions flight) (by (others at.row (table-gives net on.sound switch on.among stage at.row at.among at.in_table) at.takes)))
+    rw at.is (ap (λ actions. run_actions (names net) switch.id stage actions flight) (by (others at.row (table-gives net on.sound switch on.among stage at.row at.among at.in_table) at.takes)))
   where
     at : IsMet (names net) switch.id stage flight.packet (network_rows net) r
     at = met (names net) switch.id stage flight.packet r (in_table-from switch.id stage r of_dp of_stage) takes (network_rows net) (network_in_order net) there

@@ -33,9 +33,9 @@ pub plain_at : (flows : Flows) (stage : Stage) (flight : Flight) → ((row : Row
 unfolding step packets.step
 plain_at flows stage flight asks_none = by (acting flows stage flight.packet) refl
   where
-    by : (found : Option Row) → acting flows stage flight.packet ≡ found → acted flows.net stage flight found ≡ ended flight (packets.acted flows.net stage flight.packet found)
+    by : (found : Option Row) → acting flows stage flight.packet ≡ found → acted flows.net flows.dp stage flight found ≡ ended flight (packets.acted flows.net stage flight.packet found)
     by None none = refl
-    by (Some row) is = plain_actions flows.net stage row.actions flight (asks_none row is)
+    by (Some row) is = plain_actions flows.net flows.dp stage row.actions flight (asks_none row is)
 
 -- of a plain network, where a switch tracks no connections or the stage asks for none
 module _ (net : Network) (sound : IsSound net) (plain : IsPlain net) (switch : Switch) (among : Contains net.switches switch) (stage : Stage) (none : (tracks net switch.id && asks_for_connections stage) ≡ false) where

@@ -244,17 +244,17 @@ ending_run known To verdict.AllowStateless = refl
 ending_run known To verdict.Drop = refl
 ending_run known To verdict.Reject = refl
 
-module _ (net : Network) (w : Way) where
-  ends_with : (v : Verdict) (flight : Flight) → run_actions (names net) (stage_of w) (ending v) flight ≡ ended flight (decided (decision_of v) (next_of w) flight.packet)
-  ends_with v flight = plain_actions (names net) (stage_of w) (ending v) flight (ending_run (names net) w v) ∙ ap (ended flight) (does net w flight.packet v)
+module _ (net : Network) (dp : ObjId) (w : Way) where
+  ends_with : (v : Verdict) (flight : Flight) → run_actions (names net) dp (stage_of w) (ending v) flight ≡ ended flight (decided (decision_of v) (next_of w) flight.packet)
+  ends_with v flight = plain_actions (names net) dp (stage_of w) (ending v) flight (ending_run (names net) w v) ∙ ap (ended flight) (does net w flight.packet v)
 
-  keeps_on : (v : Way) (flight : Flight) → run_actions (names net) (stage_of v) (passes true) flight ≡ On (next_of v) (with_bit 1 flight)
+  keeps_on : (v : Way) (flight : Flight) → run_actions (names net) dp (stage_of v) (passes true) flight ≡ On (next_of v) (with_bit 1 flight)
   unfolding next_stage stage_at all_stages
   keeps_on From flight = refl
   keeps_on To flight = refl
 
   -- what an ACL does with a packet of no connection
-  does_fresh : (v : Verdict) (flight : Flight) → run_actions (names net) (stage_of w) (taken_actions v false) flight ≡ goes (not (is_stateless v)) (decision_of v) (next_of w) flight
+  does_fresh : (v : Verdict) (flight : Flight) → run_actions (names net) dp (stage_of w) (taken_actions v false) flight ≡ goes (not (is_stateless v)) (decision_of v) (next_of w) flight
   does_fresh verdict.Allow flight = keeps_on w flight
   does_fresh verdict.AllowRelated flight = keeps_on w flight
   does_fresh verdict.AllowStateless flight = ends_with verdict.AllowStateless flight
@@ -266,7 +266,7 @@ module _ (net : Network) (w : Way) where
     abbrev found_again : Flight → Flight
     found_again flight = record flight { look = Some (Found place Orig false blocked) }
 
-    does_found : (v : Verdict) (flight : Flight) → run_actions (names net) (stage_of w) (taken_actions v true) (found_again flight) ≡ goes_again (not (is_stateless v)) (decision_of v) place (next_of w) (found_again flight)
+    does_found : (v : Verdict) (flight : Flight) → run_actions (names net) dp (stage_of w) (taken_actions v true) (found_again flight) ≡ goes_again (not (is_stateless v)) (decision_of v) place (next_of w) (found_again flight)
     does_found verdict.Allow flight = keeps_on w (found_again flight)
     does_found verdict.AllowRelated flight = keeps_on w (found_again flight)
     does_found verdict.AllowStateless flight = ends_with verdict.AllowStateless (found_again flight)
@@ -274,9 +274,9 @@ module _ (net : Network) (w : Way) where
     does_found verdict.Reject flight = ends_with verdict.Reject (marking place true (found_again flight))
 
     does_again : (v : Verdict) (flight : Flight) → flight.look ≡ Some (Found place Orig false blocked)
-        → run_actions (names net) (stage_of w) (taken_actions v true) flight ≡ goes_again (not (is_stateless v)) (decision_of v) place (next_of w) flight
+        → run_actions (names net) dp (stage_of w) (taken_actions v true) flight ≡ goes_again (not (is_stateless v)) (decision_of v) place (next_of w) flight
     does_again v flight is =
-        subst (λ (f : Flight). run_actions (names net) (stage_of w) (taken_actions v true) f ≡ goes_again (not (is_stateless v)) (decision_of v) place (next_of w) f)
+        subst (λ (f : Flight). run_actions (names net) dp (stage_of w) (taken_actions v true) f ≡ goes_again (not (is_stateless v)) (decision_of v) place (next_of w) f)
         (sym (ap (λ l. record flight { look = l }) is)) (does_found v flight)
 
 -- ---- the stage
@@ -403,7 +403,7 @@ module _ (net : Network) (switch : Switch) (way : Way) (flight : Flight) (on : I
   lower says other x is stages less = inr (ap (λ (y : Row). is_gt (row_cmp y (row_at says))) is ∙ lower_after (row_at other) (row_at says) refl stages less)
 
   shut : is_refused found ≡ true → flight_step (flows_at net dp) stage flight ≡ Ends (Some (Drop acl_cause)) flight.state
-  shut is = meets net switch flight on stage (row_at (shut_rule stage)) shut_in refl refl (refused_is known packet found noted ∙ is) others ∙ ends_with net way verdict.Drop flight
+  shut is = meets net switch flight on stage (row_at (shut_rule stage)) shut_in refl refl (refused_is known packet found noted ∙ is) others ∙ ends_with net dp way verdict.Drop flight
     where
       switch_by : (x : Row) → (x ≡ row_at (keeping_rule stage)) ⊎ ((x ≡ row_at (shut_rule stage)) ⊎ (x ≡ row_at (answer_rule stage))) → IsOther (row_at (shut_rule stage)) x
       switch_by x (inl one) = lower (shut_rule stage) (keeping_rule stage) x one refl (omega arith)
@@ -421,7 +421,7 @@ module _ (net : Network) (switch : Switch) (way : Way) (flight : Flight) (on : I
     not_shut x one takes = false≢true (sym let_on ∙ sym (refused_is known packet found noted) ∙ sym (ap (λ (y : Row). holds known packet y.matching) one) ∙ takes)
 
     answered : is_answer found ≡ true → flight_step (flows_at net dp) stage flight ≡ On (next_of way) flight
-    answered is = meets net switch flight on stage (row_at (answer_rule stage)) answer_in refl refl (answer_is known packet found noted ∙ is) others ∙ ends_with net way verdict.AllowStateless flight
+    answered is = meets net switch flight on stage (row_at (answer_rule stage)) answer_in refl refl (answer_is known packet found noted ∙ is) others ∙ ends_with net dp way verdict.AllowStateless flight
       where
         switch_by : (x : Row) → holds known packet x.matching ≡ true → (x ≡ row_at (keeping_rule stage)) ⊎ ((x ≡ row_at (shut_rule stage)) ⊎ (x ≡ row_at (answer_rule stage))) → IsOther (row_at (answer_rule stage)) x
         switch_by x takes (inl one) = lower (answer_rule stage) (keeping_rule stage) x one refl (omega arith)
@@ -450,7 +450,7 @@ module _ (net : Network) (switch : Switch) (way : Way) (flight : Flight) (on : I
 
       -- where none holds, the packet goes on and is to be kept
       none_decides : holding ≡ [] → flight_step (flows_at net dp) stage flight ≡ On (next_of way) (with_bit 1 flight)
-      none_decides none = meets net switch flight on stage (row_at (keeping_rule stage)) keeping_in refl refl refl others ∙ keeps_on net way way flight
+      none_decides none = meets net switch flight on stage (row_at (keeping_rule stage)) keeping_in refl refl refl others ∙ keeps_on net dp way way flight
         where
           others : (x : Row) → IsRule net dp stage x → holds known packet x.matching ≡ true → IsOther (row_at (keeping_rule stage)) x
           others x (inl of) takes = same (row_at (keeping_rule stage)) x (switch_last x of takes)
@@ -509,11 +509,11 @@ module _ (net : Network) (switch : Switch) (way : Way) (flight : Flight) (on : I
             by (inr (inl less)) = inr (ap (λ (r : Row). is_gt (row_cmp r (row_for acl))) taking.is ∙ lower_after (row_for of.acl) (row_for acl) refl stages (omega (arith, less)))
             by (inr (inr level)) = inr (ap (λ (r : Row). is_gt (row_cmp r (row_for acl))) taking.is ∙ later_after (row_for of.acl) (row_for acl) refl stages (ap (λ n. n + 1000) level.0) level.1)
 
-        one_decides : flight_step (flows_at net dp) stage flight ≡ run_actions known stage (taken_actions acl.verdict (is_est found)) flight
+        one_decides : flight_step (flows_at net dp) stage flight ≡ run_actions known dp stage (taken_actions acl.verdict (is_est found)) flight
         one_decides = meets net switch flight on stage (row_for acl) acl_row refl its_stage takes_it others
 
       -- so the stage does what this says of the ACL that decides
-      module _ (says : Option Acl → StageEnd) (by_none : On (next_of way) (with_bit 1 flight) ≡ says None) (by_one : (a : Acl) → run_actions known stage (taken_actions a.verdict (is_est found)) flight ≡ says (Some a)) where
+      module _ (says : Option Acl → StageEnd) (by_none : On (next_of way) (with_bit 1 flight) ≡ says None) (by_one : (a : Acl) → run_actions known dp stage (taken_actions a.verdict (is_est found)) flight ≡ says (Some a)) where
         asked : flight_step (flows_at net dp) stage flight ≡ says (deciding net dp way packet)
         asked = by holding refl
           where
@@ -534,12 +534,12 @@ module _ (net : Network) (switch : Switch) (way : Way) (flight : Flight) (on : I
           → flight_step (flows_at net dp) stage flight ≡ goes (is_to_keep (deciding net dp way packet)) (decided_by (deciding net dp way packet)) (next_of way) flight
       fresh l is on_it asks begins =
           asked (ap is_refused is ∙ on_it) (ap is_answer is ∙ asks) (λ a. goes (is_to_keep a) (decided_by a) (next_of way) flight) refl
-          (λ a. ap (λ e. run_actions known stage (taken_actions a.verdict e) flight) (ap is_est is ∙ begins) ∙ does_fresh net way a.verdict flight)
+          (λ a. ap (λ e. run_actions known dp stage (taken_actions a.verdict e) flight) (ap is_est is ∙ begins) ∙ does_fresh net dp way a.verdict flight)
 
       again : (place : ℕ) (blocked : Bool) → found ≡ Some (Found place Orig false blocked) → To_be (Some (Found place Orig false blocked))
       again place blocked is =
           asked (ap is_refused is) (ap is_answer is) (λ a. goes_again (is_to_keep a) (decided_by a) place (next_of way) flight) refl
-          (λ a. ap (λ e. run_actions known stage (taken_actions a.verdict e) flight) (ap is_est is) ∙ does_again net way place blocked a.verdict flight is)
+          (λ a. ap (λ e. run_actions known dp stage (taken_actions a.verdict e) flight) (ap is_est is) ∙ does_again net dp way place blocked a.verdict flight is)
 
       by : (l : Option Look) → found ≡ l → To_be l
       by None is = fresh None is refl refl refl

@@ -3,11 +3,12 @@ use Rattle.std.proofs.Common.{◌≡◌, ℕ, zero, suc, true, List, [], ◌∷�
 use Rattle.std.proofs.lemmas.Bool.{false≢true, and_from, and_parts}
 use Rattle.pkt_core.specs.Packet.{Values}
 use Rattle.ct_core.specs.State.{State}
+use Rattle.nv_base.specs.declared.object.ObjId.{ObjId}
 use Rattle.expr_core.specs.Lookup.{Lookup}
 use Rattle.act_core.specs.declared.action.Action.{Action}
 use Rattle.act_core.specs.declared.action.Action.TheVariants as action
 use Rattle.act_core.specs.declared.step.Step.{Step}
-use Rattle.act_core.specs.declared.step.Step.TheVariants.{CtNext, CtCommit, PutArp, GetArp}
+use Rattle.act_core.specs.declared.step.Step.TheVariants.{CtNext, CtLb, CtLbTo, CtCommit, CtSnat, CtSnatTo, CtDnat, CtDnatTo, PutArp, GetArp}
 use Rattle.sb_model.specs.Stage.{stage_at}
 use Rattle.sb_model.specs.declared.row.Row.{Row}
 use Rattle.sb_model.specs.declared.stage.Pipeline.{Pipeline}
@@ -29,9 +30,9 @@ pub after_done : (flight : Flight) (e : packets.Effect) (f : Flight → StageEnd
 after_done flight (packets.Effect.Changed packet) f g alike = alike packet
 after_done flight (packets.Effect.Done end) f g alike = refl
 
-module _ (net : Lookup) (stage : Stage) where
+module _ (net : Lookup) (dp : ObjId) (stage : Stage) where
   -- an action that is run on packets asks for no connection
-  pub plain_effect : (step : Step) (flight : Flight) → (runs.is_change net step ≡ true) ⊎ (runs.may_end stage step ≡ true) → effect net stage step flight ≡ done flight (packets.effect net stage step flight.packet)
+  pub plain_effect : (step : Step) (flight : Flight) → (runs.is_change net step ≡ true) ⊎ (runs.may_end stage step ≡ true) → effect net dp stage step flight ≡ done flight (packets.effect net stage step flight.packet)
   plain_effect CtNext flight (inl is) = absurd (false≢true is)
   plain_effect CtNext flight (inr is) = absurd (false≢true is)
   plain_effect (CtCommit blocked) flight (inl is) = absurd (false≢true is)
@@ -40,17 +41,29 @@ module _ (net : Lookup) (stage : Stage) where
   plain_effect PutArp flight (inr is) = absurd (false≢true is)
   plain_effect GetArp flight (inl is) = absurd (false≢true is)
   plain_effect GetArp flight (inr is) = absurd (false≢true is)
+  plain_effect CtLb flight (inl is) = absurd (false≢true is)
+  plain_effect CtLb flight (inr is) = absurd (false≢true is)
+  plain_effect (CtLbTo targets) flight (inl is) = absurd (false≢true is)
+  plain_effect (CtLbTo targets) flight (inr is) = absurd (false≢true is)
+  plain_effect CtSnat flight (inl is) = absurd (false≢true is)
+  plain_effect CtSnat flight (inr is) = absurd (false≢true is)
+  plain_effect (CtSnatTo external) flight (inl is) = absurd (false≢true is)
+  plain_effect (CtSnatTo external) flight (inr is) = absurd (false≢true is)
+  plain_effect CtDnat flight (inl is) = absurd (false≢true is)
+  plain_effect CtDnat flight (inr is) = absurd (false≢true is)
+  plain_effect (CtDnatTo addr) flight (inl is) = absurd (false≢true is)
+  plain_effect (CtDnatTo addr) flight (inr is) = absurd (false≢true is)
   plain_effect _ flight is = refl
 
-  pub plain_actions : (actions : List Action) (flight : Flight) → steps.are_run net stage actions ≡ true → run_actions net stage actions flight ≡ ended flight (packets.run_actions net stage actions flight.packet)
+  pub plain_actions : (actions : List Action) (flight : Flight) → steps.are_run net stage actions ≡ true → run_actions net dp stage actions flight ≡ ended flight (packets.run_actions net stage actions flight.packet)
   plain_actions [] flight run = refl
   plain_actions (action.Step step ∷ []) flight run =
-      ap (λ e. after e (run_actions net stage [])) (plain_effect step flight (inr run))
-      ∙ after_done flight (packets.effect net stage step flight.packet) (run_actions net stage []) (packets.run_actions net stage []) (λ packet. refl)
+      ap (λ e. after e (run_actions net dp stage [])) (plain_effect step flight (inr run))
+      ∙ after_done flight (packets.effect net stage step flight.packet) (run_actions net dp stage []) (packets.run_actions net stage []) (λ packet. refl)
   plain_actions (action.Step step ∷ other ∷ others) flight run =
       let parts = and_parts (runs.is_change net step) (steps.are_run net stage (other ∷ others)) run in
-      ap (λ e. after e (run_actions net stage (other ∷ others))) (plain_effect step flight (inl parts.0))
-      ∙ after_done flight (packets.effect net stage step flight.packet) (run_actions net stage (other ∷ others)) (packets.run_actions net stage (other ∷ others))
+      ap (λ e. after e (run_actions net dp stage (other ∷ others))) (plain_effect step flight (inl parts.0))
+      ∙ after_done flight (packets.effect net stage step flight.packet) (run_actions net dp stage (other ∷ others)) (packets.run_actions net stage (other ∷ others))
       (λ packet. plain_actions (other ∷ others) (with_packet flight packet) parts.1)
   plain_actions (action.TcpReset block ∷ []) flight run = refl
   plain_actions (action.Icmp4 block ∷ []) flight run = refl
@@ -69,8 +82,22 @@ module _ (net : Lookup) (stage : Stage) where
   still_change GetArp is = refl
   still_change _ is = is
 
+  -- one action that may be the last is a list that is run
+  pub last_run : (last : Action) → runs.may_be_last net stage last ≡ true → steps.are_run net stage (last ∷ []) ≡ true
+  last_run (action.Step step) may = may
+  last_run (action.TcpReset block) may = may
+  last_run (action.Icmp4 block) may = may
+  last_run (action.Reject block) may = may
+  last_run (action.Arp block) may = may
+
   still_last : (last : Action) → runs.may_be_last net stage last ≡ true → may_be_last net stage last ≡ true
   still_last (action.Step CtNext) is = absurd (false≢true is)
+  still_last (action.Step CtLb) is = absurd (false≢true is)
+  still_last (action.Step (CtLbTo targets)) is = absurd (false≢true is)
+  still_last (action.Step CtSnat) is = absurd (false≢true is)
+  still_last (action.Step (CtSnatTo external)) is = absurd (false≢true is)
+  still_last (action.Step CtDnat) is = absurd (false≢true is)
+  still_last (action.Step (CtDnatTo addr)) is = absurd (false≢true is)
   still_last (action.Step _) is = is
   still_last (action.TcpReset block) is = is
   still_last (action.Icmp4 block) is = is
@@ -108,9 +135,9 @@ module _ (flows : Flows) (sound : IsRunnable flows) where
   unfolding step packets.step
   plain_step stage flight = by (acting flows stage flight.packet) refl
     where
-      by : (found : Option Row) → acting flows stage flight.packet ≡ found → acted flows.net stage flight found ≡ ended flight (packets.acted flows.net stage flight.packet found)
+      by : (found : Option Row) → acting flows stage flight.packet ≡ found → acted flows.net flows.dp stage flight found ≡ ended flight (packets.acted flows.net stage flight.packet found)
       by None none = refl
-      by (Some row) is = plain_actions flows.net stage row.actions flight (acting_run flows sound stage flight.packet row is)
+      by (Some row) is = plain_actions flows.net flows.dp stage row.actions flight (acting_run flows sound stage flight.packet row is)
 
   plain_run : (budget : ℕ) (stage : Stage) (flight : Flight) → run_from flows budget stage flight ≡ leaving flight.state (steps.run_from flows budget stage flight.packet)
   unfolding run_from steps.run_from

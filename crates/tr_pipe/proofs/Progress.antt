@@ -44,7 +44,7 @@ module _ (flows : Flows) (budget : ℕ) (stage : Stage) (flight : Flight) (old n
     pub row_there : whole.outcome ≢ None → acting flows stage flight.packet ≡ None → ⊥
     row_there runs none = runs (sym (progress-step some).same_end ∙ run-none flows (budget - 1) stage flight none)
 
-    module _ (row : Row) (ending : StageEnd) (items : List Hit) (is : acting flows stage flight.packet ≡ Some row) (ends : run_actions flows.net stage row.actions flight ≡ ending)
+    module _ (row : Row) (ending : StageEnd) (items : List Hit) (is : acting flows stage flight.packet ≡ Some row) (ends : run_actions flows.net flows.dp stage row.actions flight ≡ ending)
         (more : items ≡ now ++ hit_of flows.dp stage (Some row)) where
       -- a step that is taken
       pub step_taken : IsProgress old items whole (go_on (run_from flows (budget - 1)) ending)
@@ -67,7 +67,7 @@ progress-done old items whole outcome state on = record {
 
 -- a step after which the run is over
 pub run_ends : (flows : Flows) (budget : ℕ) (stage : Stage) (flight : Flight) (old now : List Hit) (whole : PipelineRun) → IsProgress old now whole (run_from flows budget stage flight) → 0 < budget
-    → (row : Row) (outcome : Option Outcome) (state : State) (items : List Hit) → acting flows stage flight.packet ≡ Some row → run_actions flows.net stage row.actions flight ≡ Ends outcome state
+    → (row : Row) (outcome : Option Outcome) (state : State) (items : List Hit) → acting flows stage flight.packet ≡ Some row → run_actions flows.net flows.dp stage row.actions flight ≡ Ends outcome state
     → items ≡ now ++ hit_of flows.dp stage (Some row) → IsOver old items whole outcome state
 run_ends flows budget stage flight old now whole on some row outcome state items is ends more =
     progress-done old items whole outcome state (step_taken flows budget stage flight old now whole on some row (Ends outcome state) items is ends more)

@@ -1,36 +1,49 @@
 -- On rows that the machine runs each packet comes to an outcome.
-use Rattle.std.proofs.Common.{◌≡◌, ◌≢◌, ℕ, zero, suc, ◌+◌, ◌-◌, ◌<◌, true, List, [], ◌∷◌, Option, Some, None, refl, sym, subst, arith}
+use Rattle.std.proofs.Common.{◌≡◌, ◌≢◌, ℕ, zero, suc, ◌+◌, ◌-◌, ◌<◌, Bool, true, false, cond, List, [], ◌∷◌, Option, Some, None, refl, sym, subst, arith}
 use Rattle.std.specs.Prelude.{not, is_some}
 use Rattle.std.specs.Bool.{IsTrue}
 use Rattle.std.specs.Option.{IsSome}
 use Rattle.std.proofs.lemmas.Bool.{false≢true, and_parts}
 use Rattle.std.proofs.lemmas.List.Elements.{All-contains}
+use Rattle.nv_base.specs.declared.ip4.Ip4.{Ip4}
+use Rattle.nv_base.specs.declared.object.ObjId.{ObjId}
 use Rattle.pkt_core.specs.Packet.{Values}
-use Rattle.ct_core.specs.State.{State}
+use Rattle.pkt_core.specs.Prerequisite.{is_ip4}
+use Rattle.pkt_core.specs.Tuple.{tuple, with_tuple}
+use Rattle.pkt_core.specs.declared.tuple.Tuple.{Tuple}
+use Rattle.ct_core.specs.Changes.{recorded}
+use Rattle.ct_core.specs.Look.{look}
+use Rattle.ct_core.specs.State.{State, with_conns}
+use Rattle.ct_core.specs.Translation.{begun_as, followed, forth, snat_port, with_source}
+use Rattle.ct_core.specs.declared.entry.Entry.{Entry}
+use Rattle.ct_core.specs.declared.look.Look.{Look}
+use Rattle.ct_core.specs.declared.look.Look.TheVariants.{Invalid, New, Found}
+use Rattle.ct_core.specs.declared.zone.Zone.{Zone}
+use Rattle.ct_core.specs.declared.zone.Zone.TheVariants.{Dnat, Snat}
 use Rattle.expr_core.specs.Lookup.{Lookup}
 use Rattle.act_core.specs.WellFormed.{is_well_formed}
 use Rattle.act_core.specs.declared.action.Action.{Action}
 use Rattle.act_core.specs.declared.action.Action.TheVariants as action
 use Rattle.act_core.specs.declared.step.Step.{Step}
-use Rattle.act_core.specs.declared.step.Step.TheVariants.{CtNext, CtCommit, PutArp, GetArp}
+use Rattle.act_core.specs.declared.step.Step.TheVariants.{CtNext, CtLb, CtLbTo, CtCommit, CtSnat, CtSnatTo, CtDnat, CtDnatTo, PutArp, GetArp}
 use Rattle.sb_model.specs.declared.stage.Pipeline.{Pipeline}
 use Rattle.sb_model.specs.declared.stage.Stage.{Stage}
 use Rattle.sb_model.specs.declared.row.Row.{Row}
-use Rattle.sb_model.specs.Stage.{stage_table, stage_place, stage_at, next_stage, pipeline_of, is_same_kind}
+use Rattle.sb_model.specs.Stage.{is_last, stage_table, stage_place, stage_at, next_stage, pipeline_of, is_same_kind}
 use Rattle.sb_model.proofs.Stages.{next_goes_up, place_below}
 use Rattle.tr_stage.specs.Machine as packets
 use Rattle.tr_stage.specs.Machine.{Flows, acting, kind_of}
 use Rattle.tr_stage.specs.Runnable as runs
 use Rattle.tr_stage.proofs.Found.{IsFound, IsFound-from_select, select_some}
-use Rattle.tr_stage.proofs.PacketRuns as steps
 use Rattle.tr_stage.proofs.Runs as leads
 use Rattle.tr_stage.proofs.Runs.{changes, actions_lead, same_kinds, at_is_of_kind}
-use Rattle.tr_pipe.specs.Machine.{StageEnd, after, acted, done, effect, ended, go_on, kept, on_to, run_actions, run_from, run_pipeline, step}
+use Rattle.tr_pipe.specs.Machine.{StageEnd, after, acted, bound, bound_if, done, effect, ended, go_on, hidden, hidden_by, kept, on_to, run_actions, run_from, run_pipeline, step, where_room, with_port}
 use Rattle.tr_pipe.specs.Machine.StageEnd.{On, Ends}
 use Rattle.tr_pipe.specs.Runnable.{is_change, may_be_last, are_run, IsRunnable}
 use Rattle.tr_pipe.specs.Learning.{resolved, with_sender}
 use Rattle.tr_pipe.specs.Tracking.{Flight, coming, committed, tracked, with_packet, zone_of}
-use Rattle.tr_pipe.proofs.Plain.{plain_actions}
+use Rattle.tr_pipe.specs.Translating.{balanced_to, redirected_to, tracked_by, unhidden, way_of, zone_at}
+use Rattle.tr_pipe.proofs.Plain.{last_run, plain_actions}
 use Rattle.tr_pipe.proofs.Steps.{pipeline_begins}
 
 -- a step that leads to the next stage, or to an outcome
@@ -39,7 +52,7 @@ LeadsOn stage (On later flight) = next_stage stage ≡ Some later
 LeadsOn stage (Ends (Some outcome) state) = Unit {0}
 LeadsOn stage (Ends None state) = ⊥
 
-module _ (net : Lookup) (stage : Stage) where
+module _ (net : Lookup) (dp : ObjId) (stage : Stage) where
   -- what leads any packet on leads on with connections
   lifted : (flight : Flight) (end : packets.StageEnd) → leads.LeadsOn stage end → LeadsOn stage (ended flight end)
   lifted flight (packets.StageEnd.On later packet) on = on
@@ -47,7 +60,7 @@ module _ (net : Lookup) (stage : Stage) where
   lifted flight (packets.StageEnd.Ends None) on = absurd on
 
   -- after a change the others lead on
-  change_leads : (step : Step) (flight : Flight) (others : Flight → StageEnd) → is_change net step ≡ true → ((later : Flight) → LeadsOn stage (others later)) → LeadsOn stage (after (effect net stage step flight) others)
+  change_leads : (step : Step) (flight : Flight) (others : Flight → StageEnd) → is_change net step ≡ true → ((later : Flight) → LeadsOn stage (others later)) → LeadsOn stage (after (effect net dp stage step flight) others)
   change_leads (CtCommit blocked) flight others is rest = by (committed (zone_of (pipeline_of stage) flight.packet) blocked flight.packet flight.state flight.look)
     where
       by : (left : Option State) → LeadsOn stage (after (kept flight left) others)
@@ -56,6 +69,12 @@ module _ (net : Lookup) (stage : Stage) where
   change_leads PutArp flight others is rest = rest (record flight { state = with_sender flight.packet flight.state })
   change_leads GetArp flight others is rest = rest (with_packet flight (resolved flight.state.nbrs flight.packet))
   change_leads CtNext flight others is rest = absurd (false≢true is)
+  change_leads CtLb flight others is rest = absurd (false≢true is)
+  change_leads (CtLbTo targets) flight others is rest = absurd (false≢true is)
+  change_leads CtSnat flight others is rest = absurd (false≢true is)
+  change_leads (CtSnatTo external) flight others is rest = absurd (false≢true is)
+  change_leads CtDnat flight others is rest = absurd (false≢true is)
+  change_leads (CtDnatTo addr) flight others is rest = absurd (false≢true is)
   change_leads step flight others is rest =
       let change = changes net stage step flight.packet is in
       subst (λ (e : packets.Effect). LeadsOn stage (after (done flight e) others)) (sym change.1) (rest (with_packet flight change.0))
@@ -66,19 +85,46 @@ module _ (net : Lookup) (stage : Stage) where
   next_leads flight None is may = absurd (false≢true may)
 
   -- a last action that asks for no connection
-  plain_leads : (last : Action) (flight : Flight) → runs.may_be_last net stage last ≡ true → LeadsOn stage (run_actions net stage (last ∷ []) flight)
+  plain_leads : (last : Action) (flight : Flight) → runs.may_be_last net stage last ≡ true → LeadsOn stage (run_actions net dp stage (last ∷ []) flight)
   plain_leads last flight may =
-      subst (LeadsOn stage) (sym (plain_actions net stage (last ∷ []) flight (one last may))) (lifted flight (packets.run_actions net stage (last ∷ []) flight.packet) (actions_lead net stage (last ∷ []) flight.packet (one last may)))
-    where
-      one : (last : Action) → runs.may_be_last net stage last ≡ true → steps.are_run net stage (last ∷ []) ≡ true
-      one (action.Step step) may = may
-      one (action.TcpReset block) may = may
-      one (action.Icmp4 block) may = may
-      one (action.Reject block) may = may
-      one (action.Arp block) may = may
+      subst (LeadsOn stage) (sym (plain_actions net dp stage (last ∷ []) flight (last_run net stage last may))) (lifted flight (packets.run_actions net stage (last ∷ []) flight.packet) (actions_lead net stage (last ∷ []) flight.packet (last_run net stage last may)))
 
-  last_leads : (last : Action) (flight : Flight) → may_be_last net stage last ≡ true → LeadsOn stage (run_actions net stage (last ∷ []) flight)
+  -- a packet that begins a connection, and one whose source may change
+  room_leads : (flight : Flight) (left : Option (List Entry)) → not (is_last stage) ≡ true → LeadsOn stage (where_room (next_stage stage) flight left)
+  room_leads flight (Some conns) may = next_leads (record flight { state = with_conns conns flight.state }) (next_stage stage) refl may
+  room_leads flight None may = tt
+
+  bound_leads : (zone : Zone) (t : Tuple) (flight : Flight) → not (is_last stage) ≡ true → LeadsOn stage (bound (next_stage stage) zone t flight)
+  bound_leads zone t flight may = room_leads (with_packet flight (with_tuple flight.packet t)) (recorded (begun_as zone t flight.packet) flight.state.conns) may
+
+  target_leads : (zone : Zone) (t : Option Tuple) (flight : Flight) → not (is_last stage) ≡ true → LeadsOn stage (bound_if (next_stage stage) zone t flight)
+  target_leads zone (Some t) flight may = bound_leads zone t flight may
+  target_leads zone None flight may = next_leads flight (next_stage stage) refl may
+
+  hidden_leads : (zone : Zone) (external : Ip4) (flight : Flight) → not (is_last stage) ≡ true → LeadsOn stage (hidden (next_stage stage) zone external flight)
+  hidden_leads zone external flight may = by (is_ip4 flight.packet)
+    where
+      by_port : (port : Option ℕ) → LeadsOn stage (with_port (next_stage stage) zone external port flight)
+      by_port (Some port) = bound_leads zone (with_source external port (tuple flight.packet)) flight may
+      by_port None = tt
+
+      by_look : (found : Look) → LeadsOn stage (hidden_by (next_stage stage) zone external flight found)
+      by_look New = by_port (snat_port flight.state.conns zone (tuple flight.packet) external)
+      by_look Invalid = next_leads (with_packet flight flight.packet) (next_stage stage) refl may
+      by_look (Found place side related blocked) = next_leads (with_packet flight (forth flight.state.conns flight.packet (Found place side related blocked))) (next_stage stage) refl may
+
+      by : (ip : Bool) → LeadsOn stage (cond ip (hidden_by (next_stage stage) zone external flight (look flight.state.conns zone flight.packet)) (on_to (next_stage stage) flight))
+      by true = by_look (look flight.state.conns zone flight.packet)
+      by false = next_leads flight (next_stage stage) refl may
+
+  last_leads : (last : Action) (flight : Flight) → may_be_last net stage last ≡ true → LeadsOn stage (run_actions net dp stage (last ∷ []) flight)
   last_leads (action.Step CtNext) flight may = next_leads (tracked (zone_of (pipeline_of stage) flight.packet) flight) (next_stage stage) refl may
+  last_leads (action.Step CtLb) flight may = next_leads (tracked_by followed (zone_at dp stage flight.packet) flight) (next_stage stage) refl may
+  last_leads (action.Step (CtLbTo targets)) flight may = target_leads (zone_at dp stage flight.packet) (balanced_to targets flight.packet) flight may
+  last_leads (action.Step CtSnat) flight may = next_leads (unhidden (Snat dp) flight) (next_stage stage) refl may
+  last_leads (action.Step (CtSnatTo external)) flight may = hidden_leads (Snat dp) external flight may
+  last_leads (action.Step CtDnat) flight may = next_leads (tracked_by (way_of (pipeline_of stage)) (Dnat dp) flight) (next_stage stage) refl may
+  last_leads (action.Step (CtDnatTo addr)) flight may = bound_leads (Dnat dp) (redirected_to addr flight.packet) flight may
   last_leads (action.Step step) flight may = plain_leads (action.Step step) flight may
   last_leads (action.TcpReset block) flight may = plain_leads (action.TcpReset block) flight may
   last_leads (action.Icmp4 block) flight may = plain_leads (action.Icmp4 block) flight may
@@ -86,7 +132,7 @@ module _ (net : Lookup) (stage : Stage) where
   last_leads (action.Arp block) flight may = plain_leads (action.Arp block) flight may
 
   -- so the actions that the machine runs lead on
-  run_leads : (actions : List Action) (flight : Flight) → are_run net stage actions ≡ true → LeadsOn stage (run_actions net stage actions flight)
+  run_leads : (actions : List Action) (flight : Flight) → are_run net stage actions ≡ true → LeadsOn stage (run_actions net dp stage actions flight)
   run_leads [] flight run = absurd (false≢true run)
   run_leads (action.Step step ∷ []) flight run = last_leads (action.Step step) flight run
   run_leads (action.TcpReset block ∷ []) flight run = last_leads (action.TcpReset block) flight run
@@ -95,7 +141,7 @@ module _ (net : Lookup) (stage : Stage) where
   run_leads (action.Arp block ∷ []) flight run = last_leads (action.Arp block) flight run
   run_leads (action.Step step ∷ other ∷ others) flight run =
       let parts = and_parts (is_change net step) (are_run net stage (other ∷ others)) run in
-      change_leads step flight (run_actions net stage (other ∷ others)) parts.0 (λ later. run_leads (other ∷ others) later parts.1)
+      change_leads step flight (run_actions net dp stage (other ∷ others)) parts.0 (λ later. run_leads (other ∷ others) later parts.1)
   run_leads (action.TcpReset block ∷ other ∷ others) flight run = absurd (false≢true run)
   run_leads (action.Icmp4 block ∷ other ∷ others) flight run = absurd (false≢true run)
   run_leads (action.Reject block ∷ other ∷ others) flight run = absurd (false≢true run)
@@ -133,9 +179,9 @@ module _ (flows : Flows) (sound : IsRunnable flows) where
   unfolding step
   step_leads stage flight has = by (acting flows stage flight.packet) refl
     where
-      by : (found : Option Row) → acting flows stage flight.packet ≡ found → LeadsOn stage (acted flows.net stage flight found)
+      by : (found : Option Row) → acting flows stage flight.packet ≡ found → LeadsOn stage (acted flows.net flows.dp stage flight found)
       by None none = absurd (select_some flows stage flight.packet (sound.takes_each stage has) none)
-      by (Some row) is = run_leads flows.net stage row.actions flight (acting_run stage flight.packet row is)
+      by (Some row) is = run_leads flows.net flows.dp stage row.actions flight (acting_run stage flight.packet row is)
 
   -- so does a run, with a step for each stage that is still to come
   never_stuck : (budget : ℕ) (stage : Stage) (flight : Flight) → HasStage stage → places_left stage < budget → (run_from flows budget stage flight).outcome ≢ None

@@ -23,7 +23,7 @@ run-spent flows stage flight = refl
 
 -- what a step makes of the rest of a run
 pub run-step : (flows : Flows) (budget : ℕ) (stage : Stage) (flight : Flight) (row : Row) (ending : StageEnd) → acting flows stage flight.packet ≡ Some row
-    → run_actions flows.net stage row.actions flight ≡ ending
+    → run_actions flows.net flows.dp stage row.actions flight ≡ ending
     → run_from flows (suc budget) stage flight ≡ after_hits (hit_of flows.dp stage (Some row)) (go_on (run_from flows budget) ending)
 unfolding run_from step hit_at
 run-step flows budget stage flight row ending is ends = rw (is, ends) refl

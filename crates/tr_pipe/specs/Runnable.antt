@@ -1,11 +1,11 @@
 -- The rows that the machine runs.
-use Rattle.std.specs.Prelude.{◌≡◌, Bool, true, false, not, ◌&&◌, IsTrue, List, [], ◌∷◌, All}
+use Rattle.std.specs.Prelude.{◌≡◌, Bool, true, false, not, ◌&&◌, if◌then◌else◌, IsTrue, List, [], ◌∷◌, All}
 use Rattle.expr_core.specs.Lookup.{Lookup}
 use Rattle.act_core.specs.WellFormed.{is_well_formed}
 use Rattle.act_core.specs.declared.action.Action.{Action}
 use Rattle.act_core.specs.declared.action.Action.TheVariants as action
 use Rattle.act_core.specs.declared.step.Step.{Step}
-use Rattle.act_core.specs.declared.step.Step.TheVariants.{CtNext, CtCommit, PutArp, GetArp}
+use Rattle.act_core.specs.declared.step.Step.TheVariants.{CtNext, CtLb, CtLbTo, CtCommit, CtSnat, CtSnatTo, CtDnat, CtDnatTo, PutArp, GetArp}
 use Rattle.sb_model.specs.declared.stage.Stage.{Stage}
 use Rattle.sb_model.specs.Stage.{stage_table, is_same_kind, is_last}
 use Rattle.tr_stage.specs.Machine.{Flows, kind_of}
@@ -19,9 +19,23 @@ is_change net PutArp = true
 is_change net GetArp = true
 is_change net step = packets.is_change net step
 
--- what may be a row's last action: one that asks for no connection, or a look-up where there is a next stage
+-- what looks a packet up or changes its addresses, after which it goes on
+abbrev pub is_tracking : Step → Bool
+is_tracking CtNext = true
+is_tracking CtLb = true
+is_tracking (CtLbTo targets) = true
+is_tracking CtSnat = true
+is_tracking (CtSnatTo external) = true
+is_tracking CtDnat = true
+is_tracking (CtDnatTo addr) = true
+is_tracking _ = false
+
+-- what may be a row's last action: where there is a next stage one that asks for a connection, else one that asks for none
+abbrev pub ends_row : Lookup → Stage → Step → Bool
+ends_row net stage step = if is_tracking step then not (is_last stage) else packets.may_end stage step
+
 abbrev pub may_be_last : Lookup → Stage → Action → Bool
-may_be_last net stage (action.Step CtNext) = not (is_last stage)
+may_be_last net stage (action.Step step) = ends_row net stage step
 may_be_last net stage last = packets.may_be_last net stage last
 
 -- changes, and then a last action

@@ -1,11 +1,12 @@
-//! The stage machine: what the rows of one pipeline do with a packet, the connections that it is tracked in, and the neighbours that are
-//! known.
+//! The stage machine: what the rows of one pipeline do with a packet, the connections that it is tracked in and that change its addresses,
+//! and the neighbours that are known.
 #![tactic(auto)]
 
 mod act;
 mod learn;
 mod machine;
 mod moving;
+mod nat;
 mod track;
 
 pub use machine::run_pipeline;

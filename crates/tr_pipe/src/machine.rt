@@ -57,7 +57,7 @@ pub fn run_pipeline<E: PortNames>(
             unreachable!()
         };
         hits.push(hit_of(dp, stage, row))?;
-        let ending = run_actions(env, stage, row.actions.as_slice(), &mut moving, work)?;
+        let ending = run_actions(env, dp, stage, row.actions.as_slice(), &mut moving, work)?;
         match after(ending, &moving.packet) {
             ControlFlow::Continue(next) => stage = next,
             ControlFlow::Break(outcome) => return Ok(outcome),

@@ -1,9 +1,10 @@
 //! Tracking: a packet is looked up among the connections, and a connection is recorded or marked.
-ghost use Rattle.std.specs.Prelude.{◌≡◌, IfOk};
+ghost use Rattle.std.specs.Prelude.{◌≡◌, true, IfOk};
 ghost use Rattle.pkt_core.specs.Prerequisite.{is_ip4};
 ghost use Rattle.sb_model.specs.Stage.{pipeline_of};
 ghost use Rattle.tr_pipe.specs.Machine.{kept};
-ghost use Rattle.tr_pipe.specs.Tracking.{begun, bit, committed, marked_by, tracked, zone_of};
+ghost use Rattle.ct_core.specs.Look.{look};
+ghost use Rattle.tr_pipe.specs.Tracking.{begun, bit, committed, marked_by, seen, tracked, zone_of};
 ghost use Rattle.tr_pipe.specs.inner.Moving.{effect_of, in_flight};
 
 use crate::moving::Moving;
@@ -19,13 +20,21 @@ use tr_stage::{Cause, Ending};
 pub(crate) fn track(stage: Stage, moving: &mut Moving, work: &Work)
     ensures { in_flight moving.new work.now.state ≡ tracked (zone_of (pipeline_of stage) moving.old.packet) (in_flight moving.old work.now.state) }
 {
-    if !moving.packet.meets(Prerequisite::Ip4) {
-        return;
+    if moving.packet.meets(Prerequisite::Ip4) {
+        see(zone_of(stage.pipeline(), &moving.packet), moving, work);
     }
-    let zone = zone_of(stage.pipeline(), &moving.packet);
+}
+
+/// Looks a packet of IPv4 up in a zone, and notes what is found in it and beside it.
+pub(crate) fn see(zone: Zone, moving: &mut Moving, work: &Work) -> Look
+    requires { is_ip4 moving.now.packet ≡ true }
+    ensures found { result ≡ look work.now.state.conns zone moving.old.packet }
+    ensures noted { in_flight moving.new work.now.state ≡ seen result (in_flight moving.old work.now.state) }
+{
     let found = work.classify(zone, &moving.packet);
     mark_by(&found, &mut moving.packet);
     moving.look = Some(found);
+    found
 }
 
 /// Records the connection that a packet begins, or marks the one that it is of. Where there is no room for another the packet is
@@ -63,8 +72,8 @@ pub(crate) fn commit(
     }
 }
 
-// The zone of the port that a packet came in by, and in egress of the port that it goes out by.
-fn zone_of(pipeline: Pipeline, packet: &Packet) -> Zone
+/// The zone of the port that a packet came in by, and in egress of the port that it goes out by.
+pub(crate) fn zone_of(pipeline: Pipeline, packet: &Packet) -> Zone
     ensures { result ≡ zone_of pipeline packet.now }
 {
     let port = match pipeline {

@@ -56,8 +56,8 @@ loop-budget-preserved g c =
     let flight = in_flight c.loop-budget.moving c.loop-budget.work.state in
     let later = in_flight c.run_actions.new.moving c.run_actions.new.work.state in
     let row = c.in-Some-select.row.now in
-    let ends : run_actions flows.net c.loop-budget.stage row.actions flight ≡ On c.in-Continue.next later =
-    ap (λ actions. run_actions flows.net c.loop-budget.stage actions flight) (sym c.as_slice.ensures)
+    let ends : run_actions flows.net flows.dp c.loop-budget.stage row.actions flight ≡ On c.in-Continue.next later =
+    ap (λ actions. run_actions flows.net flows.dp c.loop-budget.stage actions flight) (sym c.as_slice.ensures)
     ∙ c.in_ok-ending.ensures.end
     ∙ ap (ended later) c.after.ensures
     ∙ ap (λ (e : ControlFlow Outcome Stage). ended later (end_of e later.packet)) c.in-Continue.is in (
@@ -72,8 +72,8 @@ returns-in-Break-clause-hits g c =
     let flight = in_flight c.loop-budget.moving c.loop-budget.work.state in
     let later = in_flight c.run_actions.new.moving c.run_actions.new.work.state in
     let row = c.in-Some-select.row.now in
-    let ends : run_actions flows.net c.loop-budget.stage row.actions flight ≡ Ends (Some c.in-Break.outcome) later.state =
-    ap (λ actions. run_actions flows.net c.loop-budget.stage actions flight) (sym c.as_slice.ensures)
+    let ends : run_actions flows.net flows.dp c.loop-budget.stage row.actions flight ≡ Ends (Some c.in-Break.outcome) later.state =
+    ap (λ actions. run_actions flows.net flows.dp c.loop-budget.stage actions flight) (sym c.as_slice.ensures)
     ∙ c.in_ok-ending.ensures.end
     ∙ ap (ended later) c.after.ensures
     ∙ ap (λ (e : ControlFlow Outcome Stage). ended later (end_of e later.packet)) c.in-Break.is in
@@ -86,8 +86,8 @@ returns-in-Break-clause-outcome g c =
     let flight = in_flight c.loop-budget.moving c.loop-budget.work.state in
     let later = in_flight c.run_actions.new.moving c.run_actions.new.work.state in
     let row = c.in-Some-select.row.now in
-    let ends : run_actions flows.net c.loop-budget.stage row.actions flight ≡ Ends (Some c.in-Break.outcome) later.state =
-    ap (λ actions. run_actions flows.net c.loop-budget.stage actions flight) (sym c.as_slice.ensures)
+    let ends : run_actions flows.net flows.dp c.loop-budget.stage row.actions flight ≡ Ends (Some c.in-Break.outcome) later.state =
+    ap (λ actions. run_actions flows.net flows.dp c.loop-budget.stage actions flight) (sym c.as_slice.ensures)
     ∙ c.in_ok-ending.ensures.end
     ∙ ap (ended later) c.after.ensures
     ∙ ap (λ (e : ControlFlow Outcome Stage). ended later (end_of e later.packet)) c.in-Break.is in
@@ -100,8 +100,8 @@ returns-in-Break-clause-state g c =
     let flight = in_flight c.loop-budget.moving c.loop-budget.work.state in
     let later = in_flight c.run_actions.new.moving c.run_actions.new.work.state in
     let row = c.in-Some-select.row.now in
-    let ends : run_actions flows.net c.loop-budget.stage row.actions flight ≡ Ends (Some c.in-Break.outcome) later.state =
-    ap (λ actions. run_actions flows.net c.loop-budget.stage actions flight) (sym c.as_slice.ensures)
+    let ends : run_actions flows.net flows.dp c.loop-budget.stage row.actions flight ≡ Ends (Some c.in-Break.outcome) later.state =
+    ap (λ actions. run_actions flows.net flows.dp c.loop-budget.stage actions flight) (sym c.as_slice.ensures)
     ∙ c.in_ok-ending.ensures.end
     ∙ ap (ended later) c.after.ensures
     ∙ ap (λ (e : ControlFlow Outcome Stage). ended later (end_of e later.packet)) c.in-Break.is in

@@ -35,8 +35,10 @@ use Rattle.lr_laws.proofs.OwnRules.{binding_stage, is_of_hosts, is_of_routes, ne
 use Rattle.lr_laws.proofs.PortRules.{IsPortSays, admits-from, admitting_rule, port_has_net, port_rule-gives, stage_is, stage_said}
 use Rattle.lr_laws.proofs.Ports.{at_port-from, at_port-gives, same_port}
 use Rattle.lr_laws.proofs.StageLayers.{does, HasRow, have_rows, step_by_layers}
+use Rattle.nb_router.specs.Vocabulary.{dnats}
 use Rattle.lr_laws.proofs.Tables.{IsPortRule, IsRule, own_rules, rows-port_in, rows-router_in}
-use Rattle.lr_laws.proofs.Tables.IsRule.{OfRouter, OfPort, OfRoute, OfBinding, OfNeighbour}
+use Rattle.lr_laws.proofs.Tables.IsRule.{OfRouter, OfPort, OfRoute, OfBinding, OfNeighbour, OfTranslation}
+use Rattle.lr_laws.proofs.TranslationRules.{translation_stage}
 
 -- the rules of a router
 abbrev many_rule : Rule
@@ -45,9 +47,10 @@ many_rule = rule LrInAdmission 100 (bit EthSrc 40) drops
 abbrev last_rule : Rule
 last_rule = rule LrInAdmission 0 takes_each drops
 
-own : rules_at LrInAdmission own_rules ≡ many_rule ∷ last_rule ∷ []
+own : (dnats : Bool) → rules_at LrInAdmission (own_rules dnats) ≡ many_rule ∷ last_rule ∷ []
 unfolding router_nat_rules stage_place
-own = refl
+own true = refl
+own false = refl
 
 of_input : rules_at LrInAdmission router_in_rules ≡ many_rule ∷ last_rule ∷ []
 unfolding stage_place
@@ -169,11 +172,12 @@ module _ (net : Network) (router : Router) (flight : Flight) (on : IsOnRouter ne
           }
 
   taker : (row : Row) → IsRule net router.id LrInAdmission row → holds (names net) packet row.matching ≡ true → OfLayer row
-  taker row (OfRouter of) takes = by_own row of.says of.is takes (own_rule-gives LrInAdmission (many_rule ∷ last_rule ∷ []) of.says own of.in_rules of.of_stage)
+  taker row (OfRouter of) takes = by_own row of.says of.is takes (own_rule-gives LrInAdmission (many_rule ∷ last_rule ∷ []) of.says (dnats net router.id) own of.in_rules of.of_stage)
   taker row (OfPort of) takes = by_port row of takes
   taker row (OfRoute of) takes = absurd (false≢true (ap is_of_routes (sym of.of_stage) ∙ route_stage (static_route_input net of.route) of.says of.in_rules))
   taker row (OfBinding of) takes = absurd (false≢true (ap is_of_hosts (sym of.of_stage) ∙ binding_stage (binding_input of.port of.binding) of.says of.in_rules))
   taker row (OfNeighbour of) takes = absurd (false≢true (ap is_of_hosts (sym of.of_stage) ∙ neighbour_stage (neighbour_input net of.port of.other) of.says of.in_rules))
+  taker row (OfTranslation of) takes = absurd (false≢true (translation_stage net router.id LrInAdmission row of))
 
   -- ---- the rows
 

@@ -31,16 +31,19 @@ use Rattle.lr_laws.proofs.OwnRules.{binding_stage, is_of_hosts, is_of_routes, ne
 use Rattle.lr_laws.proofs.PortRules.{IsPortSays, delivers-from, delivery_rule, port_has_net, port_rule-gives, stage_is, stage_said}
 use Rattle.lr_laws.proofs.Ports.{at_port-from, at_port-gives, same_port}
 use Rattle.lr_laws.proofs.StageLayers.{does, HasRow, have_rows, step_by_layers}
+use Rattle.nb_router.specs.Vocabulary.{dnats}
 use Rattle.lr_laws.proofs.Tables.{IsPortRule, IsRule, own_rules, rows-port_route, rows-router_route}
-use Rattle.lr_laws.proofs.Tables.IsRule.{OfRouter, OfPort, OfRoute, OfBinding, OfNeighbour}
+use Rattle.lr_laws.proofs.Tables.IsRule.{OfRouter, OfPort, OfRoute, OfBinding, OfNeighbour, OfTranslation}
+use Rattle.lr_laws.proofs.TranslationRules.{translation_stage}
 
 -- the rule of a router
 abbrev last_rule : Rule
 last_rule = rule LrOutDelivery 0 takes_each drops
 
-own : rules_at LrOutDelivery own_rules ≡ last_rule ∷ []
+own : (dnats : Bool) → rules_at LrOutDelivery (own_rules dnats) ≡ last_rule ∷ []
 unfolding router_nat_rules stage_place
-own = refl
+own true = refl
+own false = refl
 
 of_routes : rules_at LrOutDelivery router_route_rules ≡ last_rule ∷ []
 unfolding stage_place
@@ -98,7 +101,7 @@ module _ (net : Network) (router : Router) (flight : Flight) (on : IsOnRouter ne
 
   taker : (row : Row) → IsRule net router.id LrOutDelivery row → holds (names net) flight.packet row.matching ≡ true → OfLayer row
   taker row (OfRouter of) takes =
-      let is = the_only last_rule of.says (own_rule-gives LrOutDelivery (last_rule ∷ []) of.says own of.in_rules of.of_stage) in
+      let is = the_only last_rule of.says (own_rule-gives LrOutDelivery (last_rule ∷ []) of.says (dnats net router.id) own of.in_rules of.of_stage) in
       let row_is : row ≡ row_of (unit_of_datapath router.id) last_rule = of.is ∙ ap (row_of (unit_of_datapath router.id)) is in
       record {
         layer = last_layer;
@@ -111,6 +114,7 @@ module _ (net : Network) (router : Router) (flight : Flight) (on : IsOnRouter ne
   taker row (OfRoute of) takes = absurd (false≢true (ap is_of_routes (sym of.of_stage) ∙ route_stage (static_route_input net of.route) of.says of.in_rules))
   taker row (OfBinding of) takes = absurd (false≢true (ap is_of_hosts (sym of.of_stage) ∙ binding_stage (binding_input of.port of.binding) of.says of.in_rules))
   taker row (OfNeighbour of) takes = absurd (false≢true (ap is_of_hosts (sym of.of_stage) ∙ neighbour_stage (neighbour_input net of.port of.other) of.says of.in_rules))
+  taker row (OfTranslation of) takes = absurd (false≢true (translation_stage net router.id LrOutDelivery row of))
 
   port_row : port.enabled ≡ true → HasRow net router flight on LrOutDelivery port_layer
   port_row enabled = record {

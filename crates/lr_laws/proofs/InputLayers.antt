@@ -17,7 +17,7 @@ use Rattle.nb_records.specs.declared.router.Router.{Router}
 use Rattle.nb_records.specs.declared.router.RouterPort.{RouterPort}
 use Rattle.nb_model.specs.Names.{names}
 use Rattle.nb_model.specs.Network.{Network}
-use Rattle.nb_router.specs.Vocabulary.{addresses_at}
+use Rattle.nb_router.specs.Vocabulary.{dnats, addresses_at}
 use Rattle.sb_model.specs.Make.{drops, goes_on, is_port, is_predicate, one_of, takes_each}
 use Rattle.sb_model.specs.Stage.{stage_place}
 use Rattle.sb_model.specs.declared.row.Row.{Row}
@@ -35,7 +35,7 @@ use Rattle.lr_units.specs.Words.{free_addresses}
 use Rattle.ls_laws.proofs.RuleStages.{rules_at}
 use Rattle.tr_pipe.specs.Machine.{StageEnd, run_actions}
 use Rattle.tr_pipe.specs.Tracking.{Flight}
-use Rattle.lr_laws.specs.Steps.{CameIn, HasMac, IsOnRouter, IsPortOf}
+use Rattle.lr_laws.specs.Steps.{CameIn, HasMac, IsOnRouter, IsPortOf, TranslatesNone}
 use Rattle.lr_laws.proofs.InputEnds.{dropped, echoes, expires, goes, is_unreachable, it_echoes, it_expires, it_goes, it_is_unreachable, it_replies, it_resets, replies, resets}
 use Rattle.lr_laws.proofs.InputMatches.{arp_match, echo_match, expiring_match, for_match, ip4_match, ip4_no_arp, many_match, own_arp_match, own_source_match, refused_match, reset_match, udp_no_tcp, unreachable_match}
 use Rattle.lr_laws.proofs.Layers.{IsOfLayer, Layer, layer}
@@ -45,8 +45,8 @@ use Rattle.lr_laws.proofs.OwnRules.{binding_stage, is_of_hosts, is_of_routes, ne
 use Rattle.lr_laws.proofs.PortRules.{IsPortSays, expiring_rule, port_has_net, port_rule-gives, refusing_rule, reset_rule, stage_is, stage_said, unreachable_rule}
 use Rattle.lr_laws.proofs.Ports.{at_port-gives, same_port}
 use Rattle.lr_laws.proofs.StageLayers.{does}
-use Rattle.lr_laws.proofs.Tables.{IsPortRule, IsRule, own_rules}
-use Rattle.lr_laws.proofs.Tables.IsRule.{OfRouter, OfPort, OfRoute, OfBinding, OfNeighbour}
+use Rattle.lr_laws.proofs.Tables.{IsPortRule, IsRule, own_rules, none_translates}
+use Rattle.lr_laws.proofs.Tables.IsRule.{OfRouter, OfPort, OfRoute, OfBinding, OfNeighbour, OfTranslation}
 
 -- ---- the rules of a router
 
@@ -65,9 +65,10 @@ ip4_rule = rule LrInIpInput 10 (is_predicate is.Ip4) goes_on
 abbrev pub last_rule : Rule
 last_rule = rule LrInIpInput 0 takes_each drops
 
-of_own : rules_at LrInIpInput own_rules ≡ input_rules
+of_own : (dnats : Bool) → rules_at LrInIpInput (own_rules dnats) ≡ input_rules
 unfolding router_nat_rules stage_place
-of_own = refl
+of_own true = refl
+of_own false = refl
 
 pub of_input : rules_at LrInIpInput router_in_rules ≡ input_rules
 unfolding stage_place
@@ -94,6 +95,7 @@ from_source ip4 fields own to is its = and_from ip4 (fields || own || to) is (or
 -- a packet that came in by a port of a router that translates nothing, with the port's MAC
 pub record Comes (net : Network) (router : Router) (flight : Flight) (port : RouterPort) : Type 0 where
   pub on : IsOnRouter net router flight.packet
+  pub none : TranslatesNone net router
   pub its : IsPortOf net router port
   pub at : CameIn port flight.packet
   pub has : HasMac port flight.packet
@@ -211,7 +213,7 @@ module _ (net : Network) (router : Router) (flight : Flight) (port : RouterPort)
       to_it is = own-from net router (value packet Ip4Dst) of.port its_own is
 
       to_free : is_among_ips (value packet Ip4Dst) (free_addresses net of.port) ≡ true → to_own ≡ true
-      to_free is = to_it (subst (λ (addrs : List Ip4). is_among_ips (value packet Ip4Dst) addrs ≡ true) (free_are net router here.on.no_nats here.on.no_lbs of.port of.of_router) is)
+      to_free is = to_it (subst (λ (addrs : List Ip4). is_among_ips (value packet Ip4Dst) addrs ≡ true) (free_are net router here.none.no_nats here.none.no_lbs of.port of.of_router) is)
 
       -- it is the port that the packet came in by
       same_one : holds (names net) packet (is_port Inport of.port.name) ≡ true → of.port ≡ port
@@ -304,10 +306,11 @@ module _ (net : Network) (router : Router) (flight : Flight) (port : RouterPort)
 
     -- each row of the table that takes the packet is of a layer
     pub taker : (row : Row) → IsRule net router.id LrInIpInput row → Takes row → OfLayer row
-    taker row (OfRouter of) takes = by_own row of.says of.is takes (own_rule-gives LrInIpInput input_rules of.says of_own of.in_rules of.of_stage)
+    taker row (OfRouter of) takes = by_own row of.says of.is takes (own_rule-gives LrInIpInput input_rules of.says (dnats net router.id) of_own of.in_rules of.of_stage)
     taker row (OfPort of) takes =
         let said = port_rule-gives net of.port (port_has_net net here.on.sound of.port of.among) of.says of.in_rules in
         by_port row of takes said (ap is_input (sym (stage_is net of.port of.says said) ∙ of.of_stage))
     taker row (OfRoute of) takes = absurd (false≢true (ap is_of_routes (sym of.of_stage) ∙ route_stage (static_route_input net of.route) of.says of.in_rules))
     taker row (OfBinding of) takes = absurd (false≢true (ap is_of_hosts (sym of.of_stage) ∙ binding_stage (binding_input of.port of.binding) of.says of.in_rules))
     taker row (OfNeighbour of) takes = absurd (false≢true (ap is_of_hosts (sym of.of_stage) ∙ neighbour_stage (neighbour_input net of.port of.other) of.says of.in_rules))
+    taker row (OfTranslation of) takes = absurd (none_translates net router.id here.none.no_nats here.none.no_lbs LrInIpInput row of)

@@ -124,7 +124,7 @@ module _ (net : Network) (router : Router) (flight : Flight) (port : RouterPort)
   to_port : to_own net router flight port ≡ true → IsTo
   to_port own =
       let found : HasAddress net router (value packet Ip4Dst) = own-gives net router (value packet Ip4Dst) own in
-      let has = ap (is_among_ips (value packet Ip4Dst)) (free_are net router here.on.no_nats here.on.no_lbs found.port found.its.1) ∙ found.has in
+      let has = ap (is_among_ips (value packet Ip4Dst)) (free_are net router here.none.no_nats here.none.no_lbs found.port found.its.1) ∙ found.has in
       record { owner = found.port; its = found.its; has = has; some = not_empty (value packet Ip4Dst) (free_addresses net found.port) has }
 
   service_row : (is_ip4 packet && to_own net router flight port && is_service net router flight port) ≡ true → Row_of (service_layer net router flight port)

@@ -24,4 +24,5 @@ pub mod RoutedPackets
 pub mod StageLayers
 pub mod Tables
 pub mod TakenIn
+pub mod TranslationRules
 pub mod Ways

@@ -21,8 +21,8 @@ use Rattle.lr_laws.proofs.PortRules.IsPortSays.{Admits, Learns, OwnAddress, ToNe
 use Rattle.lr_laws.proofs.Tables.{own_rules}
 
 -- where these are the rules of the router in a stage, each rule of it in the stage is among them
-pub own_rule-gives : (stage : Stage) (some : List Rule) (says : Rule) → rules_at stage own_rules ≡ some → Contains own_rules says → says.stage ≡ stage → Contains some says
-own_rule-gives stage some says are there of_stage = subst (λ rs. Contains rs says) are (among_rules_at stage own_rules says there of_stage)
+pub own_rule-gives : (stage : Stage) (some : List Rule) (says : Rule) (dnats : Bool) → ((dnats : Bool) → rules_at stage (own_rules dnats) ≡ some) → Contains (own_rules dnats) says → says.stage ≡ stage → Contains some says
+own_rule-gives stage some says dnats are there of_stage = subst (λ rs. Contains rs says) (are dnats) (among_rules_at stage (own_rules dnats) says there of_stage)
 
 -- the stages of rules of ports
 abbrev pub is_of_ports : Stage → Bool

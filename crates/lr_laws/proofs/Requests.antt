@@ -35,8 +35,10 @@ use Rattle.lr_laws.proofs.Members.{of_first, of_none}
 use Rattle.lr_laws.proofs.OwnRules.{binding_stage, is_of_hosts, is_of_ports, is_of_routes, neighbour_stage, own_rule-gives, port_stage, route_stage}
 use Rattle.lr_laws.proofs.PortRules.{port_has_net, port_rule-gives}
 use Rattle.lr_laws.proofs.StageLayers.{does, HasRow, have_rows, step_by_layers}
+use Rattle.nb_router.specs.Vocabulary.{dnats}
 use Rattle.lr_laws.proofs.Tables.{IsRule, own_rules, rows-router_route}
-use Rattle.lr_laws.proofs.Tables.IsRule.{OfRouter, OfPort, OfRoute, OfBinding, OfNeighbour}
+use Rattle.lr_laws.proofs.Tables.IsRule.{OfRouter, OfPort, OfRoute, OfBinding, OfNeighbour, OfTranslation}
+use Rattle.lr_laws.proofs.TranslationRules.{translation_stage}
 
 -- ---- the request
 
@@ -94,9 +96,10 @@ asking_rule = rule LrInArpRequest 100 (equals EthDst (as_mac 0)) (action.Arp ask
 abbrev last_rule : Rule
 last_rule = rule LrInArpRequest 0 takes_each goes_out
 
-own : rules_at LrInArpRequest own_rules ≡ asking_rule ∷ last_rule ∷ []
+own : (dnats : Bool) → rules_at LrInArpRequest (own_rules dnats) ≡ asking_rule ∷ last_rule ∷ []
 unfolding router_nat_rules stage_place
-own = refl
+own true = refl
+own false = refl
 
 of_routes : rules_at LrInArpRequest router_route_rules ≡ asking_rule ∷ last_rule ∷ []
 unfolding stage_place
@@ -156,12 +159,13 @@ module _ (net : Network) (router : Router) (flight : Flight) (on : IsOnRouter ne
       }) (of_none says))
 
   taker : (row : Row) → IsRule net router.id LrInArpRequest row → holds (names net) flight.packet row.matching ≡ true → OfLayer row
-  taker row (OfRouter of) takes = by_own row of.says of.is takes (own_rule-gives LrInArpRequest (asking_rule ∷ last_rule ∷ []) of.says own of.in_rules of.of_stage)
+  taker row (OfRouter of) takes = by_own row of.says of.is takes (own_rule-gives LrInArpRequest (asking_rule ∷ last_rule ∷ []) of.says (dnats net router.id) own of.in_rules of.of_stage)
   taker row (OfPort of) takes =
       absurd (false≢true (ap is_of_ports (sym of.of_stage) ∙ port_stage net of.port of.says (port_rule-gives net of.port (port_has_net net on.sound of.port of.among) of.says of.in_rules)))
   taker row (OfRoute of) takes = absurd (false≢true (ap is_of_routes (sym of.of_stage) ∙ route_stage (static_route_input net of.route) of.says of.in_rules))
   taker row (OfBinding of) takes = absurd (false≢true (ap is_of_hosts (sym of.of_stage) ∙ binding_stage (binding_input of.port of.binding) of.says of.in_rules))
   taker row (OfNeighbour of) takes = absurd (false≢true (ap is_of_hosts (sym of.of_stage) ∙ neighbour_stage (neighbour_input net of.port of.other) of.says of.in_rules))
+  taker row (OfTranslation of) takes = absurd (false≢true (translation_stage net router.id LrInArpRequest row of))
 
   own_row : (says : Rule) → Contains (asking_rule ∷ last_rule ∷ []) says → says.stage ≡ LrInArpRequest → holds (names net) flight.packet says.matching ≡ true → (l : Layer StageEnd) → says.priority ≡ l.priority
       → HasRow net router flight on LrInArpRequest l

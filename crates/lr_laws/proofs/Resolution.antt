@@ -52,16 +52,19 @@ use Rattle.lr_laws.proofs.OwnRules.{binding_rule-gives, is_of_ports, is_of_route
 use Rattle.lr_laws.proofs.PortRules.{port_has_net, port_rule-gives}
 use Rattle.lr_laws.proofs.Ports.{at_port-from, at_port-gives, same_port}
 use Rattle.lr_laws.proofs.StageLayers.{does, step_by_row}
+use Rattle.nb_router.specs.Vocabulary.{dnats}
 use Rattle.lr_laws.proofs.Tables.{IsRule, own_rules, rows-binding, rows-neighbour, rows-router_route}
-use Rattle.lr_laws.proofs.Tables.IsRule.{OfRouter, OfPort, OfRoute, OfBinding, OfNeighbour}
+use Rattle.lr_laws.proofs.Tables.IsRule.{OfRouter, OfPort, OfRoute, OfBinding, OfNeighbour, OfTranslation}
+use Rattle.lr_laws.proofs.TranslationRules.{translation_stage}
 
 -- the rule of a router
 abbrev last_rule : Rule
 last_rule = rule LrInArpResolve 0 takes_each (steps (act.GetArp ∷ act.Next ∷ []))
 
-of_router : rules_at LrInArpResolve own_rules ≡ last_rule ∷ []
+of_router : (dnats : Bool) → rules_at LrInArpResolve (own_rules dnats) ≡ last_rule ∷ []
 unfolding router_nat_rules stage_place
-of_router = refl
+of_router true = refl
+of_router false = refl
 
 of_routes : rules_at LrInArpResolve router_route_rules ≡ last_rule ∷ []
 unfolding stage_place
@@ -160,7 +163,7 @@ module _ (net : Network) (router : Router) (flight : Flight) (on : IsOnRouter ne
   taker : (row : Row) → IsRule net router.id LrInArpResolve row → holds (names net) packet row.matching ≡ true → IsTaker row
   unfolding neighbour_rules
   taker row (OfRouter of) takes =
-      let is = the_only last_rule of.says (own_rule-gives LrInArpResolve (last_rule ∷ []) of.says of_router of.in_rules of.of_stage) in
+      let is = the_only last_rule of.says (own_rule-gives LrInArpResolve (last_rule ∷ []) of.says (dnats net router.id) of_router of.in_rules of.of_stage) in
       let row_is : row ≡ row_of (unit_of_datapath router.id) last_rule = of.is ∙ ap (row_of (unit_of_datapath router.id)) is in
       ByLast (ap (λ (r : Row). r.priority) row_is) (ap its_does row_is ∙ last_does)
   taker row (OfPort of) takes =
@@ -177,6 +180,7 @@ module _ (net : Network) (router : Router) (flight : Flight) (on : IsOnRouter ne
       let row_is : row ≡ row_of (unit_of router.id of.other.id) (resolving_rule 100 of.port.name said.0) = of.is ∙ ap (row_of (unit_of router.id of.other.id)) said.2 in
       let gives = host_gives 100 of.port of.among said.0 (sym (ap (λ (r : Row). holds (names net) packet r.matching) row_is) ∙ takes) in
       by_neighbour of.port gives.0 of.other of.across_it said.0 said.1 gives.1 row (ap (λ (r : Row). r.priority) row_is) (ap (λ (r : Row). r.hint) row_is) (ap its_does row_is ∙ host_does 100 of.port.name said.0)
+  taker row (OfTranslation of) takes = absurd (false≢true (translation_stage net router.id LrInArpResolve row of))
 
   -- ---- the three cases
 

@@ -23,7 +23,7 @@ use Rattle.nb_records.specs.declared.router.RouterPort.{RouterPort}
 use Rattle.nb_model.specs.Belongs.{same_policy}
 use Rattle.nb_model.specs.Names.{names}
 use Rattle.nb_model.specs.Network.{Network, same}
-use Rattle.nb_router.specs.Vocabulary.{addresses_at, ports_of}
+use Rattle.nb_router.specs.Vocabulary.{dnats, addresses_at, ports_of}
 use Rattle.nv_table.proofs.Found.{found_there}
 use Rattle.sb_model.specs.Make.{drops, in_decimal, steps, takes_each}
 use Rattle.sb_model.specs.Stage.{all_stages, next_stage, stage_at, stage_place}
@@ -66,16 +66,18 @@ use Rattle.lr_laws.proofs.Ports.{number_of_port}
 use Rattle.lr_laws.proofs.RouteWays.{IsBy, IsCandidate, IsDirect, IsStatic, candidate-gives, candidates, candidates_pairs, direct-from, direct_candidate, kind_of, looked, rank_is, static-from, static-gives, static_candidate, ways_are}
 use Rattle.lr_laws.proofs.StageLayers.{does, step_by_row}
 use Rattle.lr_laws.proofs.Tables.{IsPortRule, IsRouteRule, IsRule, own_rules, rows-port_route, rows-route, rows-router_route}
-use Rattle.lr_laws.proofs.Tables.IsRule.{OfRouter, OfPort, OfRoute, OfBinding, OfNeighbour}
+use Rattle.lr_laws.proofs.Tables.IsRule.{OfRouter, OfPort, OfRoute, OfBinding, OfNeighbour, OfTranslation}
+use Rattle.lr_laws.proofs.TranslationRules.{translation_stage}
 use Rattle.lr_laws.proofs.Ways.{Before, Candidate, IsAfter, IsBest, best_of}
 
 -- the rule of a router
 abbrev last_rule : Rule
 last_rule = rule LrInIpRouting 0 takes_each drops
 
-of_router : rules_at LrInIpRouting own_rules ≡ last_rule ∷ []
+of_router : (dnats : Bool) → rules_at LrInIpRouting (own_rules dnats) ≡ last_rule ∷ []
 unfolding router_nat_rules stage_place
-of_router = refl
+of_router true = refl
+of_router false = refl
 
 of_routes : rules_at LrInIpRouting router_route_rules ≡ last_rule ∷ []
 unfolding stage_place
@@ -236,13 +238,14 @@ module _ (net : Network) (router : Router) (flight : Flight) (on : IsOnRouter ne
 
   taker : (row : Row) → IsRule net router.id LrInIpRouting row → holds (names net) packet row.matching ≡ true → IsTaker row
   taker row (OfRouter of) takes_it =
-      let is = the_only last_rule of.says (own_rule-gives LrInIpRouting (last_rule ∷ []) of.says of_router of.in_rules of.of_stage) in
+      let is = the_only last_rule of.says (own_rule-gives LrInIpRouting (last_rule ∷ []) of.says (dnats net router.id) of_router of.in_rules of.of_stage) in
       let row_is : row ≡ row_of (unit_of_datapath router.id) last_rule = of.is ∙ ap (row_of (unit_of_datapath router.id)) is in
       ByLast (ap (λ (r : Row). r.priority) row_is) (ap its_does row_is)
   taker row (OfPort of) takes_it = by_port_rule row of takes_it (routing-gives net of.port of.says (port_rule-gives net of.port (port_has_net net on.sound of.port of.among) of.says of.in_rules) of.of_stage)
   taker row (OfRoute of) takes_it = by_route_rule row of takes_it (meaning.exit_of net of.route) refl (static_rule-gives (static_route_input net of.route) of.says of.in_rules)
   taker row (OfBinding of) takes_it = absurd (false≢true (ap is_of_hosts (sym of.of_stage) ∙ binding_stage (binding_input of.port of.binding) of.says of.in_rules))
   taker row (OfNeighbour of) takes_it = absurd (false≢true (ap is_of_hosts (sym of.of_stage) ∙ neighbour_stage (neighbour_input net of.port of.other) of.says of.in_rules))
+  taker row (OfTranslation of) takes_it = absurd (false≢true (translation_stage net router.id LrInIpRouting row of))
 
   -- ---- the row of a way
 

@@ -1,12 +1,13 @@
 -- What a row of the table of a router and a stage is: what a rule of the router says in that stage, of one of its ports, of one of its static
--- routes, of a static binding of one of its ports, or of a port across one. The router has no NAT rule and no load balancer.
-use Rattle.std.proofs.Common.{◌≡◌, true, false, List, [], ◌++◌, map, sym, ap, refl, ◌∙◌, subst, ◌⊎◌, inl, inr, arith}
+-- routes, of a static binding of one of its ports, of a port across one, of a NAT rule of it, or of a load balancer that is attached to it.
+use Rattle.std.proofs.Common.{◌≡◌, Bool, true, false, List, [], ◌++◌, map, sym, ap, refl, ◌∙◌, subst, ◌⊎◌, inl, inr, arith}
 use Rattle.std.specs.Prelude.{◌↔◌, filter, ⊤}
 use Rattle.std.specs.List.{Contains, flat_map}
 use Rattle.std.proofs.lemmas.Bool.{eq-eqb, eqb-true}
 use Rattle.std.proofs.lemmas.List.Elements.{Contains-append_left, Contains-append_right, Contains-append_cases}
 use Rattle.nv_base.specs.declared.ip4.Ip4.{Ip4}
 use Rattle.nv_base.specs.declared.object.ObjId.{ObjId}
+use Rattle.nb_records.specs.declared.balancer.Frontend.{Frontend}
 use Rattle.nb_records.specs.declared.balancer.Lb.{Lb}
 use Rattle.nb_records.specs.declared.balancer.Vip.{Vip}
 use Rattle.nb_records.specs.declared.router.Binding.{Binding}
@@ -34,9 +35,12 @@ use Rattle.net_rows.proofs.Elements.{any_gives, one_of_none, Contains-filter, Co
 use Rattle.net_rows.proofs.Sound.{each_passes}
 use Rattle.net_rows.proofs.Units.{IsRow, all_rows-gives}
 use Rattle.lr_rows.specs.Input.{port_in_rules, router_in_rules}
-use Rattle.lr_rows.specs.Nat.{router_nat_rules}
+use Rattle.lr_rows.specs.Balancers.{vip_addr_rules, vip_router_rules}
+use Rattle.lr_rows.specs.Nat.{nat_rules, router_nat_rules}
 use Rattle.lr_rows.specs.declared.inputs.BindingInput.{BindingInput}
 use Rattle.lr_rows.specs.declared.inputs.NeighbourInput.{NeighbourInput}
+use Rattle.lr_rows.specs.declared.inputs.VipAddrInput.{VipAddrInput}
+use Rattle.lr_rows.specs.declared.inputs.VipRouterInput.{VipRouterInput}
 use Rattle.lr_rows.specs.Neighbours.{binding_rules, neighbour_rules}
 use Rattle.lr_rows.specs.Routes.{port_route_rules, router_route_rules, static_route_rules}
 use Rattle.lr_units.specs.Build.{router_rows, rows_of, rows_of_input, rows_of_nat, rows_of_routes, router_in_rows, port_in_rows, router_route_rows, port_route_rows, static_route_rows, binding_rows, neighbour_rows, router_nat_rows, nat_rule_rows, vip_router_rows, vip_addr_rows}
@@ -49,8 +53,9 @@ use Rattle.lr_laws.specs.Steps.{IsOnRouter}
 
 -- ---- the rules of a router, and of a port of it
 
-abbrev pub own_rules : List Rule
-own_rules = router_in_rules ++ (router_route_rules ++ router_nat_rules (record { dnats = false }))
+-- those of the router, which changes destinations or changes none
+abbrev pub own_rules : Bool → List Rule
+own_rules dnats = router_in_rules ++ (router_route_rules ++ router_nat_rules (record { dnats = dnats }))
 
 abbrev pub port_rules : Network → RouterPort → List Rule
 port_rules net port = port_in_rules (port_in_input net port) ++ port_route_rules (port_route_input port)
@@ -93,9 +98,9 @@ module _ {K I : Type 0} (unit_for : K → I → Unit) (rules_of : I → List Rul
 -- ---- where a row of a router comes from
 
 -- a rule of the router itself
-pub record IsOwnRule (stage : Stage) (dp : ObjId) (row : Row) : Type 0 where
+pub record IsOwnRule (net : Network) (dp : ObjId) (stage : Stage) (row : Row) : Type 0 where
   pub says : Rule
-  pub in_rules : Contains own_rules says
+  pub in_rules : Contains (own_rules (dnats net dp)) says
   pub of_stage : says.stage ≡ stage
   pub is : row ≡ row_of (unit_of_datapath dp) says
 
@@ -143,18 +148,62 @@ pub record IsNeighbourRule (net : Network) (dp : ObjId) (stage : Stage) (row : R
   pub of_stage : says.stage ≡ stage
   pub is : row ≡ row_of (unit_of dp other.id) says
 
+-- of a NAT rule
+pub record IsNatRule (net : Network) (dp : ObjId) (stage : Stage) (row : Row) : Type 0 where
+  pub nat : Nat
+  pub among : Contains (nats_of net dp) nat
+  pub says : Rule
+  pub in_rules : Contains (nat_rules (nat_rule_input nat)) says
+  pub of_stage : says.stage ≡ stage
+  pub is : row ≡ row_of (unit_of dp nat.id) says
+
+-- of a VIP of a load balancer
+pub record IsVipRule (net : Network) (dp : ObjId) (stage : Stage) (row : Row) : Type 0 where
+  pub lb : Lb
+  pub among : Contains (lbs_of net dp) lb
+  pub vip : Vip
+  pub in_lb : Contains lb.vips vip
+  pub says : Rule
+  pub in_rules : Contains (vip_router_rules (vip_router_input lb vip)) says
+  pub of_stage : says.stage ≡ stage
+  pub is : row ≡ row_of (unit_of dp lb.id) says
+
+-- and of an address of its VIPs
+pub record IsVipAddrRule (net : Network) (dp : ObjId) (stage : Stage) (row : Row) : Type 0 where
+  pub lb : Lb
+  pub among : Contains (lbs_of net dp) lb
+  pub addr : Ip4
+  pub in_lb : Contains (addresses_once lb.vips) addr
+  pub says : Rule
+  pub in_rules : Contains (vip_addr_rules (vip_addr_input addr)) says
+  pub of_stage : says.stage ≡ stage
+  pub is : row ≡ row_of (unit_of dp lb.id) says
+
+-- of what a router translates by
+pub data Translates (net : Network) (dp : ObjId) (stage : Stage) (row : Row) : Type 0 where
+  OfNat : IsNatRule net dp stage row → Translates net dp stage row
+  OfVip : IsVipRule net dp stage row → Translates net dp stage row
+  OfVipAddr : IsVipAddrRule net dp stage row → Translates net dp stage row
+
 pub data IsRule (net : Network) (dp : ObjId) (stage : Stage) (row : Row) : Type 0 where
-  OfRouter : IsOwnRule stage dp row → IsRule net dp stage row
+  OfRouter : IsOwnRule net dp stage row → IsRule net dp stage row
   OfPort : IsPortRule net dp stage row → IsRule net dp stage row
   OfRoute : IsRouteRule net dp stage row → IsRule net dp stage row
   OfBinding : IsBindingRule net dp stage row → IsRule net dp stage row
   OfNeighbour : IsNeighbourRule net dp stage row → IsRule net dp stage row
+  OfTranslation : Translates net dp stage row → IsRule net dp stage row
 
--- the router changes no destinations
+-- with no NAT rule and no load balancer the router changes no destinations
 pub none_changed : (net : Network) (router : Router) → nats_of net router.id ≡ [] → lbs_of net router.id ≡ [] → dnats net router.id ≡ false
 none_changed net router no_nats no_lbs = rw (no_nats, no_lbs) refl
 
-module _ (net : Network) (router : Router) (no_nats : nats_of net router.id ≡ []) (no_lbs : lbs_of net router.id ≡ []) (stage : Stage) (row : Row) (of : (row.dp ≡ router.id) × (row.stage ≡ stage)) where
+-- and translates by none
+pub none_translates : (net : Network) (dp : ObjId) → nats_of net dp ≡ [] → lbs_of net dp ≡ [] → (stage : Stage) (row : Row) → Translates net dp stage row → ⊥
+none_translates net dp no_nats no_lbs stage row (OfNat of) = one_of_none of.nat (subst (λ ns. Contains ns of.nat) no_nats of.among)
+none_translates net dp no_nats no_lbs stage row (OfVip of) = one_of_none of.lb (subst (λ bs. Contains bs of.lb) no_lbs of.among)
+none_translates net dp no_nats no_lbs stage row (OfVipAddr of) = one_of_none of.lb (subst (λ bs. Contains bs of.lb) no_lbs of.among)
+
+module _ (net : Network) (router : Router) (stage : Stage) (row : Row) (of : (row.dp ≡ router.id) × (row.stage ≡ stage)) where
   abbrev dp : ObjId
   dp = router.id
 
@@ -170,21 +219,21 @@ module _ (net : Network) (router : Router) (no_nats : nats_of net router.id ≡ 
 
   -- ---- rules of the router
 
-  from_own : (unit : Unit) (says : Rule) → unit.hint ≡ record { 0 = 0 } → Contains own_rules says → row_of unit says ≡ row → IsRule net dp stage row
+  from_own : (unit : Unit) (says : Rule) → unit.hint ≡ record { 0 = 0 } → Contains (own_rules (dnats net dp)) says → row_of unit says ≡ row → IsRule net dp stage row
   from_own unit says no_hint there is =
       OfRouter (record { says = says; in_rules = there; of_stage = at_stage unit says is; is = as_row unit says is ∙ ap (λ h. row_of (unit_of dp h) says) no_hint })
 
   by_router_in : Contains (router_in_rows net) row → IsRule net dp stage row
   by_router_in there =
       let at = said_gives (λ (r : ObjId) (i : ⊤). unit_of_datapath r) (λ i. router_in_rules) (router_units net) row there in
-      from_own (unit_of_datapath at.unit.0) at.says refl (Contains-append_left router_in_rules (router_route_rules ++ router_nat_rules (record { dnats = false })) at.says at.in_rules) at.is
+      from_own (unit_of_datapath at.unit.0) at.says refl (Contains-append_left router_in_rules (router_route_rules ++ router_nat_rules (record { dnats = dnats net dp })) at.says at.in_rules) at.is
 
   by_router_route : Contains (router_route_rows net) row → IsRule net dp stage row
   by_router_route there =
       let at = said_gives (λ (r : ObjId) (i : ⊤). unit_of_datapath r) (λ i. router_route_rules) (router_units net) row there in
       from_own (unit_of_datapath at.unit.0) at.says refl
-      (Contains-append_right router_in_rules (router_route_rules ++ router_nat_rules (record { dnats = false })) at.says
-      (Contains-append_left router_route_rules (router_nat_rules (record { dnats = false })) at.says at.in_rules)) at.is
+      (Contains-append_right router_in_rules (router_route_rules ++ router_nat_rules (record { dnats = dnats net dp })) at.says
+      (Contains-append_left router_route_rules (router_nat_rules (record { dnats = dnats net dp })) at.says at.in_rules)) at.is
 
   by_router_nat : Contains (router_nat_rows net) row → IsRule net dp stage row
   by_router_nat there =
@@ -192,11 +241,11 @@ module _ (net : Network) (router : Router) (no_nats : nats_of net router.id ≡ 
       let from = Contains-from_map (λ (r : Router). (r.id, router_nat_input net r)) net.routers at.unit at.among in
       let own : at.unit.0 ≡ dp = on_dp (unit_of_datapath at.unit.0) at.says at.is in
       let its : from.0.id ≡ dp = ap (λ u. u.0) from.2 ∙ own in
-      let none : at.unit.1.dnats ≡ false = sym (ap (λ u. u.1.dnats) from.2) ∙ ap (dnats net) its ∙ none_changed net router no_nats no_lbs in
-      let there_too : Contains (router_nat_rules (record { dnats = false })) at.says = subst (λ b. Contains (router_nat_rules (record { dnats = b })) at.says) none at.in_rules in
+      let same_way : at.unit.1.dnats ≡ dnats net dp = sym (ap (λ u. u.1.dnats) from.2) ∙ ap (dnats net) its in
+      let there_too : Contains (router_nat_rules (record { dnats = dnats net dp })) at.says = subst (λ b. Contains (router_nat_rules (record { dnats = b })) at.says) same_way at.in_rules in
       from_own (unit_of_datapath at.unit.0) at.says refl
-      (Contains-append_right router_in_rules (router_route_rules ++ router_nat_rules (record { dnats = false })) at.says
-      (Contains-append_right router_route_rules (router_nat_rules (record { dnats = false })) at.says there_too)) at.is
+      (Contains-append_right router_in_rules (router_route_rules ++ router_nat_rules (record { dnats = dnats net dp })) at.says
+      (Contains-append_right router_route_rules (router_nat_rules (record { dnats = dnats net dp })) at.says there_too)) at.is
 
   -- ---- rules of its ports
 
@@ -280,19 +329,20 @@ module _ (net : Network) (router : Router) (no_nats : nats_of net router.id ≡ 
           OfNeighbour
           (record { port = port; among = among; of_router = on_dp unit says is; other = other; across_it = across_it; says = says; in_rules = there_in; of_stage = at_stage unit says is; is = as_row unit says is })
 
-  -- ---- there are no others
+  -- ---- rules of what it translates by
 
   by_nat : Contains (nat_rule_rows net) row → IsRule net dp stage row
   by_nat there =
       let at = said_gives _ _ (nat_rule_units net) row there in
       let from = Contains-from_map (λ (n : Nat). (n.id, nat_rule_input n)) net.nats at.unit at.among in
-      let on : from.0.router ≡ dp = ap (λ u. u.1.dp) from.2 ∙ on_dp (unit_of at.unit.1.dp at.unit.0) at.says at.is in
-      let its : Contains (nats_of net router.id) from.0 = Contains-filter (λ (n : Nat). same router.id n.router) net.nats from.0 from.1 (eq-eqb router.id.0 from.0.router.0 (ap (λ (o : ObjId). o.0) (sym on))) in
-      absurd (one_of_none from.0 (subst (λ ns. Contains ns from.0) no_nats its))
-
-  -- no load balancer is attached to a router of this number
-  none_attached : (other : Router) (lb : Lb) → Contains (lbs_of net other.id) lb → other.id ≡ dp → ⊥
-  none_attached other lb there same_one = one_of_none lb (subst (λ bs. Contains bs lb) no_lbs (subst (λ d. Contains (lbs_of net d) lb) same_one there))
+      by from.0 from.1 at.says (subst (λ u. Contains (nat_rules u.1) at.says) (sym from.2) at.in_rules) (ap (λ u. row_of (unit_of u.1.dp u.0) at.says) from.2 ∙ at.is)
+    where
+      by : (nat : Nat) → Contains net.nats nat → (says : Rule) → Contains (nat_rules (nat_rule_input nat)) says → row_of (unit_of nat.router nat.id) says ≡ row → IsRule net dp stage row
+      by nat among says there_in is =
+          let unit = unit_of nat.router nat.id in
+          let own = eq-eqb router.id.0 nat.router.0 (ap (λ (o : ObjId). o.0) (sym (on_dp unit says is))) in
+          OfTranslation (OfNat
+          (record { nat = nat; among = Contains-filter (λ (n : Nat). same router.id n.router) net.nats nat among own; says = says; in_rules = there_in; of_stage = at_stage unit says is; is = as_row unit says is }))
 
   by_vip : Contains (vip_router_rows net) row → IsRule net dp stage row
   by_vip there =
@@ -300,7 +350,14 @@ module _ (net : Network) (router : Router) (no_nats : nats_of net router.id ≡ 
       let of_router = Contains-from_flat_map (λ (r : Router). flat_map (λ (lb : Lb). map (λ (vip : Vip). ((lb.id, vip.at, r.id), vip_router_input lb vip)) lb.vips) (lbs_of net r.id)) net.routers at.unit at.among in
       let of_lb = Contains-from_flat_map (λ (lb : Lb). map (λ (vip : Vip). ((lb.id, vip.at, of_router.0.id), vip_router_input lb vip)) lb.vips) (lbs_of net of_router.0.id) at.unit of_router.2 in
       let from = Contains-from_map (λ (vip : Vip). ((of_lb.0.id, vip.at, of_router.0.id), vip_router_input of_lb.0 vip)) of_lb.0.vips at.unit of_lb.2 in
-      absurd (none_attached of_router.0 of_lb.0 of_lb.1 (ap (λ u. u.0.2) from.2 ∙ on_dp (unit_of at.unit.0.2 at.unit.0.0) at.says at.is))
+      by of_router.0 of_lb.0 of_lb.1 from.0 from.1 at.says (subst (λ u. Contains (vip_router_rules u.1) at.says) (sym from.2) at.in_rules) (ap (λ u. row_of (unit_of u.0.2 u.0.0) at.says) from.2 ∙ at.is)
+    where
+      by : (other : Router) (lb : Lb) → Contains (lbs_of net other.id) lb → (vip : Vip) → Contains lb.vips vip → (says : Rule) → Contains (vip_router_rules (vip_router_input lb vip)) says
+          → row_of (unit_of other.id lb.id) says ≡ row → IsRule net dp stage row
+      by other lb attached vip in_lb says there_in is =
+          let unit = unit_of other.id lb.id in
+          let own = subst (λ d. Contains (lbs_of net d) lb) (on_dp unit says is) attached in
+          OfTranslation (OfVip (record { lb = lb; among = own; vip = vip; in_lb = in_lb; says = says; in_rules = there_in; of_stage = at_stage unit says is; is = as_row unit says is }))
 
   by_vip_addr : Contains (vip_addr_rows net) row → IsRule net dp stage row
   by_vip_addr there =
@@ -308,7 +365,14 @@ module _ (net : Network) (router : Router) (no_nats : nats_of net router.id ≡ 
       let of_router = Contains-from_flat_map (λ (r : Router). flat_map (λ (lb : Lb). map (λ (addr : Ip4). ((lb.id, addr, r.id), vip_addr_input addr)) (addresses_once lb.vips)) (lbs_of net r.id)) net.routers at.unit at.among in
       let of_lb = Contains-from_flat_map (λ (lb : Lb). map (λ (addr : Ip4). ((lb.id, addr, of_router.0.id), vip_addr_input addr)) (addresses_once lb.vips)) (lbs_of net of_router.0.id) at.unit of_router.2 in
       let from = Contains-from_map (λ (addr : Ip4). ((of_lb.0.id, addr, of_router.0.id), vip_addr_input addr)) (addresses_once of_lb.0.vips) at.unit of_lb.2 in
-      absurd (none_attached of_router.0 of_lb.0 of_lb.1 (ap (λ u. u.0.2) from.2 ∙ on_dp (unit_of at.unit.0.2 at.unit.0.0) at.says at.is))
+      by of_router.0 of_lb.0 of_lb.1 from.0 from.1 at.says (subst (λ u. Contains (vip_addr_rules u.1) at.says) (sym from.2) at.in_rules) (ap (λ u. row_of (unit_of u.0.2 u.0.0) at.says) from.2 ∙ at.is)
+    where
+      by : (other : Router) (lb : Lb) → Contains (lbs_of net other.id) lb → (addr : Ip4) → Contains (addresses_once lb.vips) addr → (says : Rule) → Contains (vip_addr_rules (vip_addr_input addr)) says
+          → row_of (unit_of other.id lb.id) says ≡ row → IsRule net dp stage row
+      by other lb attached addr in_lb says there_in is =
+          let unit = unit_of other.id lb.id in
+          let own = subst (λ d. Contains (lbs_of net d) lb) (on_dp unit says is) attached in
+          OfTranslation (OfVipAddr (record { lb = lb; among = own; addr = addr; in_lb = in_lb; says = says; in_rules = there_in; of_stage = at_stage unit says is; is = as_row unit says is }))
 
   -- ---- each row of routers
 
@@ -365,8 +429,8 @@ table-gives net router packet on stage row there in_it = by (Contains-append_cas
     of = in_table-gives router.id stage row in_it
 
     by : Contains (all_rows net) row ⊎ Contains (router_rows net) row → IsRule net router.id stage row
-    by (inl at) = absurd (no_switch_row net router on.no_nats on.no_lbs stage row of on.sound on.among at)
-    by (inr at) = from_router_rows net router on.no_nats on.no_lbs stage row of at
+    by (inl at) = absurd (no_switch_row net router stage row of on.sound on.among at)
+    by (inr at) = from_router_rows net router stage row of at
 
 -- ---- and each rule has its row
 
@@ -453,3 +517,41 @@ module _ (net : Network) where
       (Contains-flat_map (λ (p : RouterPort). map (λ (o : Port). ((p.id, o.id), neighbour_input net p o)) (filter (has_hosts net) (across net p))) net.router_ports port unit there
       (Contains-map (λ (o : Port). ((port.id, o.id), neighbour_input net port o)) (filter (has_hosts net) (across net port)) other (Contains-filter (has_hosts net) (across net port) other across_it hosts)))
       in_it)))))
+
+  -- those of translation
+  from_translation : (row : Row) → Contains (nat_rule_rows net ++ (vip_router_rows net ++ vip_addr_rows net)) row → Contains (network_rows net) row
+  from_translation row there =
+      from_routers row (Contains-append_right (rows_of_input net) (rows_of_routes net ++ rows_of_nat net) row
+      (Contains-append_right (rows_of_routes net) (rows_of_nat net) row (Contains-append_right (router_nat_rows net) (nat_rule_rows net ++ (vip_router_rows net ++ vip_addr_rows net)) row there)))
+
+  pub rows-nat : (nat : Nat) (says : Rule) → Contains net.nats nat → Contains (nat_rules (nat_rule_input nat)) says → Contains (network_rows net) (row_of (unit_of nat.router nat.id) says)
+  rows-nat nat says there in_it =
+      let row = row_of (unit_of nat.router nat.id) says in
+      from_translation row (Contains-append_left (nat_rule_rows net) (vip_router_rows net ++ vip_addr_rows net) row
+      (said_from _ _ (nat_rule_units net) (nat.id, nat_rule_input nat) says (Contains-map (λ (n : Nat). (n.id, nat_rule_input n)) net.nats nat there) in_it))
+
+  pub rows-vip : (router : Router) (lb : Lb) (vip : Vip) (says : Rule) → Contains net.routers router → Contains (lbs_of net router.id) lb → Contains lb.vips vip → Contains (vip_router_rules (vip_router_input lb vip)) says
+      → Contains (network_rows net) (row_of (unit_of router.id lb.id) says)
+  rows-vip router lb vip says there attached in_lb in_it =
+      let row = row_of (unit_of router.id lb.id) says in
+      let unit : (ObjId × Frontend × ObjId) × VipRouterInput = ((lb.id, vip.at, router.id), vip_router_input lb vip) in
+      from_translation row (Contains-append_right (nat_rule_rows net) (vip_router_rows net ++ vip_addr_rows net) row
+      (Contains-append_left (vip_router_rows net) (vip_addr_rows net) row
+      (said_from _ _ (vip_router_units net) unit says
+      (Contains-flat_map (λ (r : Router). flat_map (λ (b : Lb). map (λ (v : Vip). ((b.id, v.at, r.id), vip_router_input b v)) b.vips) (lbs_of net r.id)) net.routers router unit there
+      (Contains-flat_map (λ (b : Lb). map (λ (v : Vip). ((b.id, v.at, router.id), vip_router_input b v)) b.vips) (lbs_of net router.id) lb unit attached
+      (Contains-map (λ (v : Vip). ((lb.id, v.at, router.id), vip_router_input lb v)) lb.vips vip in_lb)))
+      in_it)))
+
+  pub rows-vip_addr : (router : Router) (lb : Lb) (addr : Ip4) (says : Rule) → Contains net.routers router → Contains (lbs_of net router.id) lb → Contains (addresses_once lb.vips) addr → Contains (vip_addr_rules (vip_addr_input addr)) says
+      → Contains (network_rows net) (row_of (unit_of router.id lb.id) says)
+  rows-vip_addr router lb addr says there attached in_lb in_it =
+      let row = row_of (unit_of router.id lb.id) says in
+      let unit : (ObjId × Ip4 × ObjId) × VipAddrInput = ((lb.id, addr, router.id), vip_addr_input addr) in
+      from_translation row (Contains-append_right (nat_rule_rows net) (vip_router_rows net ++ vip_addr_rows net) row
+      (Contains-append_right (vip_router_rows net) (vip_addr_rows net) row
+      (said_from _ _ (vip_addr_units net) unit says
+      (Contains-flat_map (λ (r : Router). flat_map (λ (b : Lb). map (λ (a : Ip4). ((b.id, a, r.id), vip_addr_input a)) (addresses_once b.vips)) (lbs_of net r.id)) net.routers router unit there
+      (Contains-flat_map (λ (b : Lb). map (λ (a : Ip4). ((b.id, a, router.id), vip_addr_input a)) (addresses_once b.vips)) (lbs_of net router.id) lb unit attached
+      (Contains-map (λ (a : Ip4). ((lb.id, a, router.id), vip_addr_input a)) (addresses_once lb.vips) addr in_lb)))
+      in_it)))

@@ -115,7 +115,7 @@ module _ (net : Network) (router : Router) (flight : Flight) (port : RouterPort)
     own_router = sym here.its.1
 
     nothing_external : (ip : ℕ) → false ≡ is_external net port.router ip
-    nothing_external ip = sym (ap (λ others. is_among_ips ip others) (ap (external_addresses net) here.its.1 ∙ no_external net router here.on.no_nats here.on.no_lbs))
+    nothing_external ip = sym (ap (λ others. is_among_ips ip others) (ap (external_addresses net) here.its.1 ∙ no_external net router here.none.no_nats here.none.no_lbs))
 
     ip4_same : is_ip4 packet ≡ is_ip4 turned
     ip4_same = λ i. eqb (same EthType refl i) 0x800
@@ -172,4 +172,4 @@ module _ (net : Network) (router : Router) (flight : Flight) (port : RouterPort)
         ∙ layers_are ∙ ap (λ o. taken_or_passed o flight) meaning_is
 
 pub takes_in : TakesIn
-takes_in net router flight on port its at has = by_layers net router flight port (record { on = on; its = its; at = at; has = has })
+takes_in net router flight on none port its at has = by_layers net router flight port (record { on = on; none = none; its = its; at = at; has = has })

@@ -1,5 +1,5 @@
 -- What a packet's step through the stages of a router does, said of the network's objects, of the packet and of the state:
--- the stage laws. They are of routers that translate no addresses.
+-- the stage laws.
 use Rattle.std.specs.Prelude.{◌≡◌, ℕ, ◌-◌, ◌==◌, true, if◌then◌else◌, [], ◌∷◌, Contains, Option, Some, None}
 use Rattle.nv_base.specs.Ip4.{address}
 use Rattle.nv_base.specs.declared.object.ObjId.{ObjId}
@@ -36,13 +36,16 @@ use Rattle.tr_pipe.specs.Tracking.{Flight, with_packet}
 abbrev pub flows_at : Network → ObjId → Flows
 flows_at net dp = flows_of (network_rows net) (names net) dp
 
--- the networks and the packets of which the laws speak: on one of the network's routers, which has no NAT rule and no load balancer
+-- the networks and the packets of which the laws speak: on one of the network's routers
 pub record IsOnRouter (net : Network) (router : Router) (packet : Values) : Type 0 where
   pub sound : IsSound net
   pub among : Contains net.routers router
+  pub formed : IsPacket packet
+
+-- the router has no NAT rule and no load balancer
+pub record TranslatesNone (net : Network) (router : Router) : Type 0 where
   pub no_nats : nats_of net router.id ≡ []
   pub no_lbs : lbs_of net router.id ≡ []
-  pub formed : IsPacket packet
 
 -- the port is one of the router's
 abbrev pub IsPortOf : Network → Router → RouterPort → Type 0
@@ -59,9 +62,10 @@ CameIn port packet = value packet Inport ≡ port.id.0
 abbrev pub GoesOut : RouterPort → Values → Type 0
 GoesOut port packet = value packet Outport ≡ port.id.0
 
--- each packet goes on at the next stage
+-- where no addresses are translated each packet goes on at the next stage
 abbrev pub Passes : Stage → Stage → Type 0
-Passes stage next = (net : Network) (router : Router) (flight : Flight) → IsOnRouter net router flight.packet → Does net router stage flight (On next flight)
+Passes stage next =
+    (net : Network) (router : Router) (flight : Flight) → IsOnRouter net router flight.packet → TranslatesNone net router → Does net router stage flight (On next flight)
 
 -- ---- what comes in by a port
 
@@ -110,11 +114,12 @@ going_back port packet = with_value packet Outport port.id.0
 abbrev pub HasMac : RouterPort → Values → Type 0
 HasMac port packet = value packet Reg6 ≡ port.mac
 
--- what the meaning does not pass on is dropped or answered as it says, of the packet that is to go back; the rest goes on as it is
+-- where no addresses are translated what the meaning does not pass on is dropped or answered as it says, of the packet that is to go back; the
+-- rest goes on as it is
 abbrev pub TakesIn : Type 0
 TakesIn =
-    (net : Network) (router : Router) (flight : Flight) → IsOnRouter net router flight.packet → (port : RouterPort) → IsPortOf net router port → CameIn port flight.packet
-    → HasMac port flight.packet → Does net router LrInIpInput flight (taken_or_passed (taken_in net port (going_back port flight.packet)) flight)
+    (net : Network) (router : Router) (flight : Flight) → IsOnRouter net router flight.packet → TranslatesNone net router → (port : RouterPort) → IsPortOf net router port
+    → CameIn port flight.packet → HasMac port flight.packet → Does net router LrInIpInput flight (taken_or_passed (taken_in net port (going_back port flight.packet)) flight)
 
 -- ---- routing
 

@@ -26,11 +26,11 @@ use Rattle.tr_pipe.specs.Machine.{PipelineRun, go_on, run_from, run_pipeline}
 use Rattle.tr_pipe.specs.Machine.StageEnd.{On, Ends}
 use Rattle.tr_pipe.specs.Tracking.{Flight, coming}
 use Rattle.tr_pipe.proofs.Steps.{pipeline_begins}
-use Rattle.lr_laws.specs.Steps.{IsOnRouter, IsPortOf, delivered, flows_at, late}
+use Rattle.lr_laws.specs.Steps.{IsOnRouter, IsPortOf, TranslatesNone, delivered, flows_at, late}
 use Rattle.lr_laws.proofs.Delivery.{delivers}
 use Rattle.lr_laws.proofs.PassingStages.{passes-LrOutUndnat, passes-LrOutSnat}
 use Rattle.tr_router.specs.Parts.{DoLeave, DoLeaveLate, DoesPart, Leaves}
-use Rattle.tr_router.proofs.Networks.{of_router, on_router, router_there}
+use Rattle.tr_router.proofs.Networks.{of_router, on_router, router_there, translates_none}
 use Rattle.tr_router.proofs.Plain.{changed_out_is}
 use Rattle.tr_router.proofs.Runs.{after_step}
 
@@ -45,7 +45,10 @@ module _ (net : Network) (sound : IsSound net) (plain : IsPlain net) (router : R
   does = DoesPart Leaves
 
   on : IsOnRouter net router packet
-  on = on_router net sound plain router among packet formed
+  on = on_router net sound router among packet formed
+
+  translates_nothing : TranslatesNone net router
+  translates_nothing = translates_none net sound plain router
 
   -- the last step
   delivered_is : (budget : ℕ) → does (run_from flows (suc budget) LrOutDelivery flight) (leaving_late port packet state)
@@ -74,8 +77,8 @@ module _ (net : Network) (sound : IsSound net) (plain : IsPlain net) (router : R
   egress_is =
       subst (does (run_pipeline flows Egress 0 packet state)) (sym meant)
       (subst (λ run. does run (leaving_late port packet state)) (sym begins)
-      (after_step Leaves flows (leaving_late port packet state) 127 LrOutUndnat flight (On LrOutSnat flight) (passes-LrOutUndnat net router flight on)
-      (after_step Leaves flows (leaving_late port packet state) 126 LrOutSnat flight (On LrOutDelivery flight) (passes-LrOutSnat net router flight on)
+      (after_step Leaves flows (leaving_late port packet state) 127 LrOutUndnat flight (On LrOutSnat flight) (passes-LrOutUndnat net router flight on translates_nothing)
+      (after_step Leaves flows (leaving_late port packet state) 126 LrOutSnat flight (On LrOutDelivery flight) (passes-LrOutSnat net router flight on translates_nothing)
       (delivered_is 125))))
 
 module _ (net : Network) (sound : IsSound net) (plain : IsPlain net) where

@@ -35,6 +35,7 @@ use Rattle.lr_laws.specs.Steps.{flows_at}
 use Rattle.lr_laws.proofs.Tables.{rows-router_in, rows-router_nat, rows-router_route, table-gives}
 use Rattle.tr_router.specs.Parts.{AreRunnable}
 use Rattle.tr_router.proofs.Networks.{of_router, on_router}
+use Rattle.tr_router.proofs.Plain.{no_lbs, no_nats}
 use Rattle.tr_router.proofs.Routed.{zero_at}
 use Rattle.tr_router.proofs.RuleRuns.{row_runs}
 
@@ -88,4 +89,4 @@ runnable net sound plain router there = record {
   where
     runs : (row : Row) → Contains (network_rows net) row → row.dp ≡ router.id → IsTrue (is_well_formed row.actions) × IsTrue (are_run (names net) row.stage row.actions)
     runs row at of_dp =
-        row_runs net sound router.id row (table-gives net router zero_packet (on_router net sound plain router there zero_packet zero_is) row.stage row at (in_table-from router.id row.stage row of_dp refl))
+        row_runs net sound router.id (no_nats net plain router.id) (no_lbs net plain router.id) row (table-gives net router zero_packet (on_router net sound router there zero_packet zero_is) row.stage row at (in_table-from router.id row.stage row of_dp refl))

@@ -31,7 +31,7 @@ use Rattle.tr_pipe.specs.Machine.StageEnd.{On, Ends}
 use Rattle.tr_pipe.specs.Tracking.{Flight, coming}
 use Rattle.tr_pipe.proofs.Steps.{pipeline_begins}
 use Rattle.ls_laws.proofs.Packets.{fits_with, other_value, set_value}
-use Rattle.lr_laws.specs.Steps.{IsOnRouter, IsPortOf, admitted, flows_at, going_back, taken_or_passed}
+use Rattle.lr_laws.specs.Steps.{IsOnRouter, IsPortOf, TranslatesNone, admitted, flows_at, going_back, taken_or_passed}
 use Rattle.lr_laws.proofs.Admission.{admits}
 use Rattle.lr_laws.proofs.Changes.{number_after}
 use Rattle.lr_laws.proofs.Learning.{learns}
@@ -40,7 +40,7 @@ use Rattle.lr_laws.proofs.TakenIn.{takes_in}
 use Rattle.tr_router.specs.Parts.{Arrives, DoArrive, DoesPart, KnowsMacs}
 use Rattle.tr_router.proofs.Alike.{StandsFor, both_given, goes_on as goes_along, same_ip4}
 use Rattle.tr_router.proofs.Formed.{learning_macs}
-use Rattle.tr_router.proofs.Networks.{mac_fits, of_router, on_router, router_there}
+use Rattle.tr_router.proofs.Networks.{mac_fits, of_router, on_router, router_there, translates_none}
 use Rattle.tr_router.proofs.Plain.{dnatted_is, unsnatted_is}
 use Rattle.tr_router.proofs.Routed.{routed_is}
 use Rattle.tr_router.proofs.Runs.{after_step}
@@ -55,7 +55,10 @@ module _ (net : Network) (sound : IsSound net) (plain : IsPlain net) (router : R
   does = DoesPart Arrives
 
   on : (k : Values) → IsPacket k → IsOnRouter net router k
-  on k is = on_router net sound plain router among k is
+  on k is = on_router net sound router among k is
+
+  translates_nothing : TranslatesNone net router
+  translates_nothing = translates_none net sound plain router
 
   -- ---- the packet that is admitted
 
@@ -114,15 +117,15 @@ module _ (net : Network) (sound : IsSound net) (plain : IsPlain net) (router : R
       let end = routed net port packet later in
       let passed = passed_on_is net port later (run_from flows 125) (going_back port own) packet back none in
       subst (does (run_from flows 125 LrInUnsnat (flight later))) (sym meant)
-      (after_step Arrives flows end 124 LrInUnsnat (flight later) (On LrInDefrag (flight later)) (passes-LrInUnsnat net router (flight later) (on own own_is))
-      (after_step Arrives flows end 123 LrInDefrag (flight later) (On LrInDnat (flight later)) (passes-LrInDefrag net router (flight later) (on own own_is))
-      (after_step Arrives flows end 122 LrInDnat (flight later) (On LrInIpRouting (flight later)) (passes-LrInDnat net router (flight later) (on own own_is))
+      (after_step Arrives flows end 124 LrInUnsnat (flight later) (On LrInDefrag (flight later)) (passes-LrInUnsnat net router (flight later) (on own own_is) translates_nothing)
+      (after_step Arrives flows end 123 LrInDefrag (flight later) (On LrInDnat (flight later)) (passes-LrInDefrag net router (flight later) (on own own_is) translates_nothing)
+      (after_step Arrives flows end 122 LrInDnat (flight later) (On LrInIpRouting (flight later)) (passes-LrInDnat net router (flight later) (on own own_is) translates_nothing)
       (routed_is net sound plain router among port its (flight later) own_is (learning_macs port packet state formed knows) came_own packet stands (same_ip ∙ passed.0)))))
 
   input_is : does (run_from flows 126 LrInIpInput (flight later)) (taken_by net port packet later)
   input_is =
       after_step Arrives flows (taken_by net port packet later) 125 LrInIpInput (flight later) (taken_or_passed (taken_in net port (going_back port own)) (flight later))
-      (takes_in net router (flight later) (on own own_is) port its came_own (set_value packet Reg6 port.mac formed.count))
+      (takes_in net router (flight later) (on own own_is) translates_nothing port its came_own (set_value packet Reg6 port.mac formed.count))
       (by (taken_in net port (going_back port own)) (taken_in net port packet) refl (taken_as net port later (run_from flows 125) (going_back port own) packet back))
     where
       by : (of_rows of_router : Option Passed) → taken_in net port packet ≡ of_router → TakenAs net port later (run_from flows 125) of_rows of_router

@@ -21,7 +21,7 @@ use Rattle.net_rows.proofs.Sound.{each_passes}
 use Rattle.lr_units.proofs.Numbers.{switch_is_no_router}
 use Rattle.lr_units.proofs.SoundRouters.{router_port_is_sound}
 use Rattle.tr_stage.specs.Machine.{kind_of}
-use Rattle.lr_laws.specs.Steps.{IsOnRouter, flows_at}
+use Rattle.lr_laws.specs.Steps.{IsOnRouter, TranslatesNone, flows_at}
 use Rattle.tr_router.proofs.Plain.{no_lbs, no_nats}
 
 -- a number that none has is that of no switch
@@ -58,5 +58,9 @@ module _ (net : Network) (sound : IsSound net) where
       omega (arith, below, sound.numbered.room)
 
   -- what the laws of the stages ask
-  pub on_router : IsPlain net → (router : Router) → Contains net.routers router → (packet : Values) → IsPacket packet → IsOnRouter net router packet
-  on_router plain router there packet formed = record { sound = sound; among = there; no_nats = no_nats net plain router.id; no_lbs = no_lbs net plain router.id; formed = formed }
+  pub on_router : (router : Router) → Contains net.routers router → (packet : Values) → IsPacket packet → IsOnRouter net router packet
+  on_router router there packet formed = record { sound = sound; among = there; formed = formed }
+
+  -- a router of a plain network translates no addresses
+  pub translates_none : IsPlain net → (router : Router) → TranslatesNone net router
+  translates_none plain router = record { no_nats = no_nats net plain router.id; no_lbs = no_lbs net plain router.id }

@@ -71,7 +71,7 @@ module _ (net : Network) (sound : IsSound net) (plain : IsPlain net) (router : R
   does = DoesPart Arrives
 
   on : (k : Values) → IsPacket k → IsOnRouter net router k
-  on k is = on_router net sound plain router among k is
+  on k is = on_router net sound router among k is
 
   module _ (hop : Hop) (of : IsHop net router.id hop) where
     abbrev numbers : ℕ → List (Field × ℕ)

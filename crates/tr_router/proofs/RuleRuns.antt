@@ -1,5 +1,5 @@
 -- The machine runs the rules of the routers of a plain network.
-use Rattle.std.proofs.Common.{◌≡◌, ℕ, ◌<◌, ◌^◌, Bool, true, List, [], ◌∷◌, sym, ap, refl, subst, ◌∙◌}
+use Rattle.std.proofs.Common.{◌≡◌, ℕ, ◌<◌, ◌^◌, Bool, true, false, List, [], ◌∷◌, sym, ap, refl, subst, ◌∙◌}
 use Rattle.std.specs.Prelude.{◌&&◌, Option, Some, None, is_some, nat_lt}
 use Rattle.std.specs.Bool.{IsTrue}
 use Rattle.std.specs.List.{AllByRecursion, Contains, list_all}
@@ -21,7 +21,7 @@ use Rattle.nb_model.specs.Network.{Network, same}
 use Rattle.nb_model.specs.Readable.{is_ip4, is_mac}
 use Rattle.nb_model.specs.Sound.{IsSound}
 use Rattle.nb_model.proofs.Readable.{of_binding}
-use Rattle.nb_router.specs.Vocabulary.{ports_of}
+use Rattle.nb_router.specs.Vocabulary.{dnats, lbs_of, nats_of, ports_of}
 use Rattle.nv_table.proofs.Found.{found_there}
 use Rattle.sb_model.specs.Stage.{all_stages, next_stage, pipeline_of, stage_at}
 use Rattle.sb_model.specs.declared.row.Row.{Row}
@@ -51,8 +51,8 @@ use Rattle.lr_laws.proofs.OwnRules.{IsStaticRule, binding_rule-gives, static_rul
 use Rattle.lr_laws.proofs.PortRules.{IsPortSays, admitting_rule, delivery_rule, expiring_rule, own_address_rule, port_has_net, port_rule-gives, refusing_rule, reset_rule, unreachable_rule}
 use Rattle.lr_laws.proofs.PortRules.IsPortSays.{Admits, Learns, OwnSource, OwnArp, Echoes, Resets, Unreachable, Refuses, Expires, OwnAddress, ToNetwork, DeliversTo}
 use Rattle.lr_laws.proofs.Ports.{number_of_port}
-use Rattle.lr_laws.proofs.Tables.{IsRule, own_rules}
-use Rattle.lr_laws.proofs.Tables.IsRule.{OfRouter, OfPort, OfRoute, OfBinding, OfNeighbour}
+use Rattle.lr_laws.proofs.Tables.{IsRule, none_translates, own_rules}
+use Rattle.lr_laws.proofs.Tables.IsRule.{OfRouter, OfPort, OfRoute, OfBinding, OfNeighbour, OfTranslation}
 use Rattle.tr_router.proofs.Hops.{asking_fits, block_of, nexthop_fits}
 use Rattle.tr_router.proofs.Macs.{at_fits, mac_is}
 use Rattle.tr_router.proofs.Networks.{mac_fits}
@@ -75,9 +75,10 @@ module _ (known : Lookup) where
 
   -- ---- the rules of each router
 
-  own_run : AllByRecursion (IsRun known) own_rules
+  own_run : (dnats : Bool) → AllByRecursion (IsRun known) (own_rules dnats)
   unfolding router_nat_rules next_stage stage_at all_stages pipeline_of
-  own_run = all_run own_rules refl
+  own_run true = all_run (own_rules true) refl
+  own_run false = all_run (own_rules false) refl
 
   -- ---- those of ports
 
@@ -216,18 +217,19 @@ module _ (net : Network) (sound : IsSound net) where
       (subst (λ done. IsTrue (is_well_formed done)) actions is.formed, subst (λ s. IsTrue (are_run (names net) s row.actions)) stage (subst (λ done. IsTrue (are_run (names net) says.stage done)) actions is.run))
 
   -- the machine runs the actions of each row of a router, which are well-formed
-  pub row_runs : (router : ObjId) (row : Row) → IsRule net router row.stage row → IsTrue (is_well_formed row.actions) × IsTrue (are_run (names net) row.stage row.actions)
+  pub row_runs : (router : ObjId) → nats_of net router ≡ [] → lbs_of net router ≡ [] → (row : Row) → IsRule net router row.stage row → IsTrue (is_well_formed row.actions) × IsTrue (are_run (names net) row.stage row.actions)
   unfolding neighbour_rules
-  row_runs router row (OfRouter of) =
-      said of.says row (every_member (IsRun (names net)) own_rules of.says (own_run (names net)) of.in_rules) of.of_stage (ap (λ (r : Row). r.actions) (sym of.is))
-  row_runs router row (OfPort of) =
+  row_runs router no_nats no_lbs row (OfRouter of) =
+      said of.says row (every_member (IsRun (names net)) (own_rules (dnats net router)) of.says (own_run (names net) (dnats net router)) of.in_rules) of.of_stage (ap (λ (r : Row). r.actions) (sym of.is))
+  row_runs router no_nats no_lbs row (OfPort of) =
       said of.says row (of_port of.port of.among of.says (port_rule-gives net of.port (port_has_net net sound of.port of.among) of.says of.in_rules)) of.of_stage (ap (λ (r : Row). r.actions) (sym of.is))
-  row_runs router row (OfRoute of) =
+  row_runs router no_nats no_lbs row (OfRoute of) =
       said of.says row (of_route of.route of.among of.says (static_rule-gives (static_route_input net of.route) of.says of.in_rules)) of.of_stage (ap (λ (r : Row). r.actions) (sym of.is))
-  row_runs router row (OfBinding of) =
+  row_runs router no_nats no_lbs row (OfBinding of) =
       said of.says row
       (of_binding_run of.port of.binding (Contains-from_filter (λ (b : Binding). same of.port.id b.port) net.bindings of.binding of.in_port) of.says (binding_rule-gives (binding_input of.port of.binding) of.says of.in_rules))
       of.of_stage (ap (λ (r : Row). r.actions) (sym of.is))
-  row_runs router row (OfNeighbour of) =
+  row_runs router no_nats no_lbs row (OfNeighbour of) =
       let from = Contains-from_map (resolving_rule 100 of.port.name) (hosts_at net of.other) of.says of.in_rules in
       said of.says row (of_neighbour_run of.port of.other (across_there net of.port of.other of.across_it) from.0 from.1 of.says (sym from.2)) of.of_stage (ap (λ (r : Row). r.actions) (sym of.is))
+  row_runs router no_nats no_lbs row (OfTranslation of) = absurd (none_translates net router no_nats no_lbs row.stage row of)

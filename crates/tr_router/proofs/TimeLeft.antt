@@ -31,7 +31,7 @@ use Rattle.tr_pipe.specs.Machine.{StageEnd, run_from, step}
 use Rattle.tr_pipe.specs.Machine.StageEnd.{On, Ends}
 use Rattle.tr_pipe.specs.Tracking.{Flight, coming, with_packet}
 use Rattle.ls_laws.proofs.Packets.{fits_with, set_value}
-use Rattle.lr_laws.specs.Steps.{IsOnRouter, IsPortOf, admitted, asked, asking, flows_at, going_back, resolved, sent_by, taken, taken_or_passed}
+use Rattle.lr_laws.specs.Steps.{IsOnRouter, IsPortOf, TranslatesNone, admitted, asked, asking, flows_at, going_back, resolved, sent_by, taken, taken_or_passed}
 use Rattle.lr_laws.proofs.Admission.{admits}
 use Rattle.lr_laws.proofs.Learning.{learns}
 use Rattle.lr_laws.proofs.PassingStages.{passes-LrInUnsnat, passes-LrInDefrag, passes-LrInDnat}
@@ -45,7 +45,7 @@ use Rattle.tr_router.proofs.Formed.{learning_macs}
 use Rattle.tr_router.proofs.Hops.{IsHop, hop_is}
 use Rattle.tr_router.proofs.Ingress as ingress
 use Rattle.tr_router.proofs.Macs.{mac_for_fits}
-use Rattle.tr_router.proofs.Networks.{on_router, router_there}
+use Rattle.tr_router.proofs.Networks.{on_router, router_there, translates_none}
 use Rattle.tr_router.proofs.Routed as routed
 use Rattle.tr_router.proofs.Taken.{TakenAs, passed_on_is, taken_as}
 
@@ -95,7 +95,10 @@ module _ (net : Network) (sound : IsSound net) (plain : IsPlain net) (router : R
   Left = IsLeft flows
 
   on : (k : Values) → IsPacket k → IsOnRouter net router k
-  on k is = on_router net sound plain router among k is
+  on k is = on_router net sound router among k is
+
+  translates_nothing : TranslatesNone net router
+  translates_nothing = translates_none net sound plain router
 
   -- the packet that is admitted, and the state after what it tells of a neighbour
   abbrev own : Values
@@ -175,14 +178,14 @@ module _ (net : Network) (sound : IsSound net) (plain : IsPlain net) (router : R
 
   passed_left : taken_in net port packet ≡ None → Left (On LrInUnsnat (flight later))
   passed_left none =
-      further flows LrInUnsnat (flight later) (On LrInDefrag (flight later)) refl (passes-LrInUnsnat net router (flight later) (on own own_is))
-      (further flows LrInDefrag (flight later) (On LrInDnat (flight later)) refl (passes-LrInDefrag net router (flight later) (on own own_is))
-      (further flows LrInDnat (flight later) (On LrInIpRouting (flight later)) refl (passes-LrInDnat net router (flight later) (on own own_is)) (routed_left none)))
+      further flows LrInUnsnat (flight later) (On LrInDefrag (flight later)) refl (passes-LrInUnsnat net router (flight later) (on own own_is) translates_nothing)
+      (further flows LrInDefrag (flight later) (On LrInDnat (flight later)) refl (passes-LrInDefrag net router (flight later) (on own own_is) translates_nothing)
+      (further flows LrInDnat (flight later) (On LrInIpRouting (flight later)) refl (passes-LrInDnat net router (flight later) (on own own_is) translates_nothing) (routed_left none)))
 
   input_left : Left (On LrInIpInput (flight later))
   input_left =
       further flows LrInIpInput (flight later) (taken_or_passed (taken_in net port (going_back port own)) (flight later)) refl
-      (takes_in net router (flight later) (on own own_is) port its came_own (set_value packet Reg6 port.mac formed.count))
+      (takes_in net router (flight later) (on own own_is) translates_nothing port its came_own (set_value packet Reg6 port.mac formed.count))
       (by (taken_in net port (going_back port own)) (taken_in net port packet) refl
       (taken_as net port later (run_from flows 125) (going_back port own) packet back))
     where

@@ -29,6 +29,7 @@ use Rattle.lr_rows.specs.Routes.{router_route_rules}
 use Rattle.lr_units.specs.Network.{network_rows}
 use Rattle.lr_units.specs.Units.{router_nat_input}
 use Rattle.sb_rows.proofs.Tables.{in_table-from}
+use Rattle.tr_stage.specs.Machine.{kind_of}
 use Rattle.tr_stage.specs.Runnable.{TakesEach}
 use Rattle.tr_pipe.specs.Runnable.{are_run}
 use Rattle.lr_laws.specs.Steps.{flows_at}
@@ -63,26 +64,30 @@ module _ (net : Network) (router : Router) (there : Contains net.routers router)
       let input = router_nat_input net router in
       (row_of (unit_of_datapath router.id) says, rows-router_nat net router says there (Contains-append_left passing_rules (connection_rules input.dnats) says in_it), refl, refl, refl)
 
-  -- each stage of the router takes each packet
-  by_stage : (stage : Stage) → IsTrue (is_same_kind (stage_table stage).kind kinds.Router) → Takes stage
-  by_stage LrInAdmission _ = by_input LrInAdmission drops (1, omega arith, refl)
-  by_stage LrInLearnNeighbor _ = by_input LrInLearnNeighbor goes_on (2, omega arith, refl)
-  by_stage LrInIpInput _ = by_input LrInIpInput drops (7, omega arith, refl)
-  by_stage LrInUnsnat _ = by_passing LrInUnsnat (0, omega arith, refl)
-  by_stage LrInDefrag _ = by_passing LrInDefrag (1, omega arith, refl)
-  by_stage LrInDnat _ = by_passing LrInDnat (2, omega arith, refl)
-  by_stage LrInIpRouting _ = by_routes LrInIpRouting drops (0, omega arith, refl)
-  by_stage LrInArpResolve _ = by_routes LrInArpResolve (steps (act.GetArp ∷ act.Next ∷ [])) (1, omega arith, refl)
-  by_stage LrInArpRequest _ = by_routes LrInArpRequest goes_out (3, omega arith, refl)
-  by_stage LrOutUndnat _ = by_passing LrOutUndnat (3, omega arith, refl)
-  by_stage LrOutSnat _ = by_passing LrOutSnat (4, omega arith, refl)
-  by_stage LrOutDelivery _ = by_routes LrOutDelivery drops (4, omega arith, refl)
-  by_stage _ of_it = absurd (false≢true of_it)
+  -- each stage of a router takes each packet
+  pub router_takes_each : (stage : Stage) → IsTrue (is_same_kind (stage_table stage).kind kinds.Router) → Takes stage
+  router_takes_each LrInAdmission _ = by_input LrInAdmission drops (1, omega arith, refl)
+  router_takes_each LrInLearnNeighbor _ = by_input LrInLearnNeighbor goes_on (2, omega arith, refl)
+  router_takes_each LrInIpInput _ = by_input LrInIpInput drops (7, omega arith, refl)
+  router_takes_each LrInUnsnat _ = by_passing LrInUnsnat (0, omega arith, refl)
+  router_takes_each LrInDefrag _ = by_passing LrInDefrag (1, omega arith, refl)
+  router_takes_each LrInDnat _ = by_passing LrInDnat (2, omega arith, refl)
+  router_takes_each LrInIpRouting _ = by_routes LrInIpRouting drops (0, omega arith, refl)
+  router_takes_each LrInArpResolve _ = by_routes LrInArpResolve (steps (act.GetArp ∷ act.Next ∷ [])) (1, omega arith, refl)
+  router_takes_each LrInArpRequest _ = by_routes LrInArpRequest goes_out (3, omega arith, refl)
+  router_takes_each LrOutUndnat _ = by_passing LrOutUndnat (3, omega arith, refl)
+  router_takes_each LrOutSnat _ = by_passing LrOutSnat (4, omega arith, refl)
+  router_takes_each LrOutDelivery _ = by_routes LrOutDelivery drops (4, omega arith, refl)
+  router_takes_each _ of_it = absurd (false≢true of_it)
+
+  -- so does each of the datapath, which is a router in a sound network
+  pub takes_each_there : IsSound net → (stage : Stage) → IsTrue (is_same_kind (stage_table stage).kind (kind_of (flows_at net router.id))) → Takes stage
+  takes_each_there sound stage of_it = router_takes_each stage (subst (λ kind. IsTrue (is_same_kind (stage_table stage).kind kind)) (of_router net sound router there) of_it)
 
 -- so each packet comes to an end, on each router
 pub runnable : (net : Network) → IsSound net → IsPlain net → AreRunnable net
 runnable net sound plain router there = record {
-  takes_each = λ stage of_it. by_stage net router there stage (subst (λ kind. IsTrue (is_same_kind (stage_table stage).kind kind)) (of_router net sound router there) of_it);
+  takes_each = takes_each_there net router there sound;
   formed = All-from_members (λ (row : Row). row.dp ≡ router.id → IsTrue (is_well_formed row.actions)) (network_rows net) (λ row at of_dp. (runs row at of_dp).0);
   run = All-from_members (λ (row : Row). row.dp ≡ router.id → IsTrue (are_run (names net) row.stage row.actions)) (network_rows net) (λ row at of_dp. (runs row at of_dp).1);
 }

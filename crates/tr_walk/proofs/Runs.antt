@@ -41,6 +41,7 @@ use Rattle.ls_laws.specs.Steps.{flows_at}
 use Rattle.tr_router.proofs.Networks.{router_there}
 use Rattle.tr_walk.specs.inner.Telling.{AreRowsOf}
 use Rattle.tr_walk.proofs.Datapaths.{switch_there}
+use Rattle.tr_walk.proofs.Ends.{router_runs, switch_runs}
 use Rattle.tr_walk.proofs.NetworkPorts.{find_gives, none_passes}
 
 -- ---- where no row is
@@ -133,12 +134,12 @@ module _ (net : Network) (all : List Row) (are : AreRowsOf net all) where
   on_switch : (port : Port) → Contains net.ports port → Runs port.switch
   on_switch port there =
       let own = switch_there net port are.sound there in
-      of_rows port.switch (subst (λ (d : ObjId). IsRunnable (flows_at net d)) own.2 (are.run.switches own.0 own.1))
+      of_rows port.switch (subst (λ (d : ObjId). IsRunnable (flows_at net d)) own.2 (switch_runs net are.sound own.0 own.1 (are.run.switches own.0 own.1)))
 
   on_router : (port : RouterPort) → Contains net.router_ports port → Runs port.router
   on_router port there =
       let own = router_there net are.sound port there in
-      of_rows port.router (subst (λ (d : ObjId). IsRunnable (flows_at net d)) (sym own.2) (are.run.routers own.0 own.1))
+      of_rows port.router (subst (λ (d : ObjId). IsRunnable (flows_at net d)) (sym own.2) (router_runs net are.sound own.0 own.1 (are.run.routers own.0 own.1)))
 
   -- so do those of the datapath of a port, if there is one
   pub datapath_runs : (number : ObjId) → ((datapath_at net number).0 ≡ 0 → ⊥) → Runs (datapath_at net number)

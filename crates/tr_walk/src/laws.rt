@@ -1,13 +1,18 @@
-ghost use Rattle.std.specs.Prelude.{◌≡◌, List, map};
+ghost use Rattle.std.specs.Prelude.{◌≡◌, List, map, Contains};
+ghost use Rattle.nb_records.specs.declared.router.Router.{Router};
+ghost use Rattle.nb_records.specs.declared.switch.Switch.{Switch};
 ghost use Rattle.nb_model.specs.Network.{Network};
 ghost use Rattle.nb_model.specs.Sound.{IsSound};
 ghost use Rattle.nb_model.specs.Plain.{IsPlain};
 ghost use Rattle.net_meaning.specs.Walk.{Told, events};
+ghost use Rattle.sb_model.specs.declared.stage.DatapathKind.TheVariants as kinds;
 ghost use Rattle.tr_stage.specs.declared.outcome.Hit.{Hit};
+ghost use Rattle.tr_pipe.specs.Runnable.{IsRunnable};
+ghost use Rattle.ls_laws.specs.Steps.{flows_at};
 ghost use Rattle.tr_walk.specs.Events.{event_of, without_hits};
 ghost use Rattle.tr_walk.specs.Reads.{FindWhatTheyRead};
 ghost use Rattle.tr_walk.specs.Refined.{IsIngress, IsEgress, IsLate, IsRefined, KeepsMacs};
-ghost use Rattle.tr_walk.specs.Runnable.{AreRunnable};
+ghost use Rattle.tr_walk.specs.Runnable.{AreRunnable, StagesTakeEach};
 
 /// The pipelines of a switch do what the switch does with a packet that arrives, leaves, or leaves late, in each sound plain network.
 pub fn pipelines_do_their_parts()
@@ -22,9 +27,19 @@ pub fn plain_networks_are_refined()
     ensures macs { (net : Network) → IsSound net → IsPlain net → KeepsMacs net }
 {}
 
-/// In the rows of each sound plain network each packet comes to an end, on each of its switches and routers.
+/// In the rows of each network each stage takes each packet: those of a switch on each of its switches, and those of a router on each of
+/// its routers.
+pub fn each_stage_takes_each_packet()
+    ensures switches { (net : Network) (switch : Switch) → Contains net.switches switch → StagesTakeEach kinds.Switch (flows_at net switch.id) }
+    ensures routers { (net : Network) (router : Router) → Contains net.routers router → StagesTakeEach kinds.Router (flows_at net router.id) }
+{}
+
+/// In the rows of each sound plain network each packet comes to an end, on each of its switches and routers: they are as `run_pipeline` of
+/// `tr_pipe` and as `trace` ask for.
 pub fn rows_of_plain_networks_are_runnable()
-    ensures { (net : Network) → IsSound net → IsPlain net → AreRunnable net }
+    ensures switches { (net : Network) → IsSound net → IsPlain net → (switch : Switch) → Contains net.switches switch → IsRunnable (flows_at net switch.id) }
+    ensures routers { (net : Network) → IsSound net → IsPlain net → (router : Router) → Contains net.routers router → IsRunnable (flows_at net router.id) }
+    ensures walks { (net : Network) → IsSound net → IsPlain net → AreRunnable net }
 {}
 
 /// In the rows of each sound network no action reads a field that the packet does not have.

@@ -10,7 +10,7 @@ mod walk;
 
 pub use event::Event;
 pub use laws::{
-    hits_are_left_out, pipelines_do_their_parts, plain_networks_are_refined,
-    rows_find_what_they_read, rows_of_plain_networks_are_runnable,
+    each_stage_takes_each_packet, hits_are_left_out, pipelines_do_their_parts,
+    plain_networks_are_refined, rows_find_what_they_read, rows_of_plain_networks_are_runnable,
 };
 pub use walk::trace;

@@ -35,8 +35,8 @@ const FEW: usize = 32;
 
 /// What is told of a packet that comes in by a port and may take so many hops: a hit for each row that acts, and what becomes of the
 /// packet and of its copies and answers, each to its end before the next (ovn-trace(8)); and the state becomes the one that they leave.
-/// The network is sound, and the rows are its own, such that each packet comes to an end in them. Where memory runs out the answer is
-/// `OutOfMemory`, and the state is as before.
+/// The network is sound, and the rows are its own, whose actions the machine runs, so that each packet comes to an end in them. Where
+/// memory runs out the answer is `OutOfMemory`, and the state is as before.
 pub fn trace(
     alloc: Global,
     rows: &Rows,

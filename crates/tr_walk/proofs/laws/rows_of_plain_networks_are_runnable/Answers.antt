@@ -1,5 +1,12 @@
-use Rattle.tr_walk.proofs.Ends.{runnable}
+use Rattle.tr_router.proofs.Ends as routers
+use Rattle.tr_walk.proofs.Ends.{runnable, switch_runs}
 use Rattle.tr_walk.proofs.laws.rows_of_plain_networks_are_runnable.Goals as goal
 
-pub returns : goal.returns
-returns c = runnable
+pub returns-clause-switches : goal.returns-clause-switches
+returns-clause-switches c net sound plain switch there = switch_runs net sound switch there ((runnable net sound plain).switches switch there)
+
+pub returns-clause-routers : goal.returns-clause-routers
+returns-clause-routers c net sound plain router there = routers.runnable net sound plain router there
+
+pub returns-clause-walks : goal.returns-clause-walks
+returns-clause-walks c = runnable

@@ -1,4 +1,4 @@
--- On the rows of the routers of a sound plain network each packet comes to an end.
+-- On the rows of the routers of a sound network each packet comes to an end.
 use Rattle.std.proofs.Common.{◌≡◌, List, [], ◌∷◌, refl, subst, arith}
 use Rattle.std.specs.Bool.{IsTrue}
 use Rattle.std.specs.List.{Contains}
@@ -12,7 +12,6 @@ use Rattle.act_core.specs.declared.action.Action.{Action}
 use Rattle.nb_records.specs.declared.router.Router.{Router}
 use Rattle.nb_model.specs.Names.{names}
 use Rattle.nb_model.specs.Network.{Network}
-use Rattle.nb_model.specs.Plain.{IsPlain}
 use Rattle.nb_model.specs.Sound.{IsSound}
 use Rattle.sb_model.specs.Make.{takes_each, goes_on, goes_out, drops, steps}
 use Rattle.sb_model.specs.Stage.{is_same_kind, stage_table}
@@ -36,7 +35,6 @@ use Rattle.lr_laws.specs.Steps.{flows_at}
 use Rattle.lr_laws.proofs.Tables.{rows-router_in, rows-router_nat, rows-router_route, table-gives}
 use Rattle.tr_router.specs.Parts.{AreRunnable}
 use Rattle.tr_router.proofs.Networks.{of_router, on_router}
-use Rattle.tr_router.proofs.Plain.{no_lbs, no_nats}
 use Rattle.tr_router.proofs.Routed.{zero_at}
 use Rattle.tr_router.proofs.RuleRuns.{row_runs}
 
@@ -85,8 +83,8 @@ module _ (net : Network) (router : Router) (there : Contains net.routers router)
   takes_each_there sound stage of_it = router_takes_each stage (subst (λ kind. IsTrue (is_same_kind (stage_table stage).kind kind)) (of_router net sound router there) of_it)
 
 -- so each packet comes to an end, on each router
-pub runnable : (net : Network) → IsSound net → IsPlain net → AreRunnable net
-runnable net sound plain router there = record {
+pub runnable : (net : Network) → IsSound net → AreRunnable net
+runnable net sound router there = record {
   takes_each = takes_each_there net router there sound;
   formed = All-from_members (λ (row : Row). row.dp ≡ router.id → IsTrue (is_well_formed row.actions)) (network_rows net) (λ row at of_dp. (runs row at of_dp).0);
   run = All-from_members (λ (row : Row). row.dp ≡ router.id → IsTrue (are_run (names net) row.stage row.actions)) (network_rows net) (λ row at of_dp. (runs row at of_dp).1);
@@ -94,4 +92,4 @@ runnable net sound plain router there = record {
   where
     runs : (row : Row) → Contains (network_rows net) row → row.dp ≡ router.id → IsTrue (is_well_formed row.actions) × IsTrue (are_run (names net) row.stage row.actions)
     runs row at of_dp =
-        row_runs net sound router.id (no_nats net plain router.id) (no_lbs net plain router.id) row (table-gives net router zero_packet (on_router net sound router there zero_packet zero_is) row.stage row at (in_table-from router.id row.stage row of_dp refl))
+        row_runs net sound router.id row (table-gives net router zero_packet (on_router net sound router there zero_packet zero_is) row.stage row at (in_table-from router.id row.stage row of_dp refl))

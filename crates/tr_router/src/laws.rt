@@ -10,9 +10,9 @@ pub fn pipelines_of_routers_do_their_parts()
     ensures late { (net : Network) → IsSound net → IsPlain net → DoLeaveLate net }
 {}
 
-/// In the rows of each sound plain network each packet comes to an end, on each of its routers.
+/// In the rows of each sound network each packet comes to an end, on each of its routers.
 pub fn rows_of_routers_are_runnable()
-    ensures { (net : Network) → IsSound net → IsPlain net → AreRunnable net }
+    ensures { (net : Network) → IsSound net → AreRunnable net }
 {}
 
 /// In each sound plain network a packet that comes to routing has two hops or more to live, so that taking one away leaves one.

@@ -113,7 +113,7 @@ router_runs net sound router there ends = record {
 pub runnable : (net : Network) → IsSound net → IsPlain net → AreRunnable net
 runnable net sound plain = record {
   switches = λ switch there. of_switch net switch there sound plain;
-  routers = λ router there. of_router (routers.runnable net sound plain router there);
+  routers = λ router there. of_router (routers.runnable net sound router there);
 }
   where
     of_router : {flows : Flows} → IsRunnable flows → EndWell flows

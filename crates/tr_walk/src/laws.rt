@@ -34,11 +34,11 @@ pub fn each_stage_takes_each_packet()
     ensures routers { (net : Network) (router : Router) → Contains net.routers router → StagesTakeEach kinds.Router (flows_at net router.id) }
 {}
 
-/// In the rows of each sound plain network each packet comes to an end, on each of its switches and routers: they are as `run_pipeline` of
-/// `tr_pipe` and as `trace` ask for.
+/// In the rows of each sound network each packet comes to an end on each of its routers, and in those of each sound plain one on each of its
+/// switches too: they are as `run_pipeline` of `tr_pipe` asks for, and those of a plain one as `trace` does.
 pub fn rows_of_plain_networks_are_runnable()
     ensures switches { (net : Network) → IsSound net → IsPlain net → (switch : Switch) → Contains net.switches switch → IsRunnable (flows_at net switch.id) }
-    ensures routers { (net : Network) → IsSound net → IsPlain net → (router : Router) → Contains net.routers router → IsRunnable (flows_at net router.id) }
+    ensures routers { (net : Network) → IsSound net → (router : Router) → Contains net.routers router → IsRunnable (flows_at net router.id) }
     ensures walks { (net : Network) → IsSound net → IsPlain net → AreRunnable net }
 {}
 

@@ -6,7 +6,7 @@ pub returns-clause-switches : goal.returns-clause-switches
 returns-clause-switches c net sound plain switch there = switch_runs net sound switch there ((runnable net sound plain).switches switch there)
 
 pub returns-clause-routers : goal.returns-clause-routers
-returns-clause-routers c net sound plain router there = routers.runnable net sound plain router there
+returns-clause-routers c net sound router there = routers.runnable net sound router there
 
 pub returns-clause-walks : goal.returns-clause-walks
 returns-clause-walks c = runnable

@@ -18,6 +18,7 @@ use Rattle.sb_model.specs.Make.{is_port, is_predicate, one_of}
 use Rattle.net_meaning.specs.Switches.{is_among_ips, is_request}
 use Rattle.net_router.specs.Input.{is_echo_request, is_multicast_ip, is_of_no_host}
 use Rattle.lr_rows.specs.Input.{echo_rule, eight_bits, is_for, is_from_many, is_from_no_host, is_to_no_host, own_arp_rule, own_source_rule}
+use Rattle.lr_rows.specs.Make.{arp_rule_for}
 use Rattle.lr_units.specs.Units.{port_in_input}
 use Rattle.lr_laws.proofs.Networks.{addresses_item, addresses_of_item, prefix_tells}
 use Rattle.lr_laws.proofs.PortRules.{expiring_rule, reset_rule, unreachable_rule}
@@ -119,6 +120,10 @@ module _ (known : Lookup) (packet : Values) (formed : IsPacket packet) where
         (λ i. (is_ip4 packet && addresses_of_item known (value packet Ip4Dst) port.nets i)
         && ((meets packet needs.Icmp4 && eqb (value packet Icmp4Type) 8) && ((meets packet needs.Icmp4 && eqb (value packet Icmp4Code) 0) && true)))
         ∙ echo_terms (is_ip4 packet) (is_among_ips (value packet Ip4Dst) (addresses_at port)) (eqb (value packet IpProto) 1) (eqb (value packet Icmp4Type) 8) (eqb (value packet Icmp4Code) 0)
+
+  -- of an external address
+  pub asking_match : (addr : Ip4) → holds known packet (arp_rule_for addr).matching ≡ (is_request packet && eqb (value packet ArpTpa) addr.0)
+  asking_match addr = request_terms (meets packet needs.Arp) (eqb (value packet ArpOp) 1) (eqb (value packet ArpTpa) addr.0)
 
   -- for one of these addresses
   pub for_match : (addrs : List Ip4) → holds known packet (is_for addrs) ≡ (is_ip4 packet && is_among_ips (value packet Ip4Dst) addrs)

@@ -2,6 +2,7 @@ pub mod Admission
 pub mod Changes
 pub mod Delivery
 pub mod Exits
+pub mod ExternalAddresses
 pub mod Hosts
 pub mod InputEnds
 pub mod InputLayers
@@ -14,7 +15,6 @@ pub mod Members
 pub mod Networks
 pub mod OwnAddresses
 pub mod OwnRules
-pub mod PassingStages
 pub mod PortRules
 pub mod Ports
 pub mod Requests

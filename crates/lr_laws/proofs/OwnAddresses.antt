@@ -1,6 +1,6 @@
--- The addresses of a router: which ports have them, and that none is external where the router translates none.
-use Rattle.std.proofs.Common.{◌≡◌, ℕ, true, false, List, [], ◌∷◌, eqb, sym, ap, refl, ◌∙◌}
-use Rattle.std.specs.Prelude.{not, filter}
+-- The addresses of a router: which ports have them, and which of them are free.
+use Rattle.std.proofs.Common.{◌≡◌, ℕ, Bool, true, false, List, [], ◌∷◌, eqb, sym, ap, refl, ◌∙◌}
+use Rattle.std.specs.Prelude.{not}
 use Rattle.std.specs.List.{flat_map}
 use Rattle.std.proofs.lemmas.Bool.{eq-eqb, eqb-true, false≢true}
 use Rattle.nv_base.specs.declared.ip4.Ip4.{Ip4}
@@ -9,9 +9,9 @@ use Rattle.nb_records.specs.declared.router.Router.{Router}
 use Rattle.nb_records.specs.declared.router.RouterPort.{RouterPort}
 use Rattle.nb_model.specs.Applies.{is_empty}
 use Rattle.nb_model.specs.Network.{Network, same}
-use Rattle.nb_router.specs.Vocabulary.{addresses_at, external_addresses, is_address, lbs_of, nats_of, ports_of}
+use Rattle.nb_router.specs.Vocabulary.{addresses_at, external_addresses, is_address, ports_of}
 use Rattle.net_meaning.specs.Switches.{is_among_ips}
-use Rattle.net_router.specs.Input.{is_own}
+use Rattle.net_router.specs.Input.{is_external, is_own}
 use Rattle.net_rows.proofs.Elements.{any_from, any_gives, Contains-filter, Contains-flat_map, Contains-from_filter, Contains-from_flat_map}
 use Rattle.ls_laws.proofs.Tables.{filter_passes}
 use Rattle.lr_units.specs.Words.{free_addresses}
@@ -43,18 +43,26 @@ module _ (net : Network) (router : Router) where
         has = any_from (λ (a : Ip4). eqb a.0 ip) (addresses_at at.0) found.0 at.2 found.2;
       }
 
-  module _ (no_nats : nats_of net router.id ≡ []) (no_lbs : lbs_of net router.id ≡ []) where
-    -- no address is external
-    pub no_external : external_addresses net router.id ≡ []
-    no_external = rw (no_nats, no_lbs) refl
+  module _ (ip : ℕ) (port : RouterPort) (its : port.router ≡ router.id) where
+    -- the address is not external
+    abbrev is_free : Ip4 → Bool
+    is_free addr = not (is_address addr (external_addresses net port.router))
 
-    -- and so a port's addresses are free
-    pub free_are : (port : RouterPort) → port.router ≡ router.id → free_addresses net port ≡ addresses_at port
-    free_are port its = ap (λ others. filter (λ addr. not (is_address addr others)) (addresses_at port)) (ap (external_addresses net) its ∙ no_external) ∙ all_of (addresses_at port)
-      where
-        all_of : (addrs : List Ip4) → filter (λ addr. not (is_address addr [])) addrs ≡ addrs
-        all_of [] = refl
-        all_of (addr ∷ addrs) = ap (λ rest. addr ∷ rest) (all_of addrs)
+    -- an address of a port that is free is not external
+    pub free-gives : is_among_ips ip (free_addresses net port) ≡ true → (is_among_ips ip (addresses_at port) ≡ true) × (not (is_external net router.id ip) ≡ true)
+    free-gives is =
+        let found = any_gives (λ (a : Ip4). eqb a.0 ip) (free_addresses net port) is in
+        let apart : not (is_external net port.router found.0.0) ≡ true = filter_passes is_free (addresses_at port) found.0 found.1 in (
+          any_from (λ (a : Ip4). eqb a.0 ip) (addresses_at port) found.0 (Contains-from_filter is_free (addresses_at port) found.0 found.1) found.2,
+          (λ i. not (is_external net (sym its i) (sym (eqb-true found.0.0 ip found.2) i))) ∙ apart,
+        )
+
+    -- and one that is not external is free
+    pub free-from : is_among_ips ip (addresses_at port) ≡ true → not (is_external net router.id ip) ≡ true → is_among_ips ip (free_addresses net port) ≡ true
+    free-from is apart =
+        let found = any_gives (λ (a : Ip4). eqb a.0 ip) (addresses_at port) is in
+        let free : is_free found.0 ≡ true = (λ i. not (is_external net (its i) (eqb-true found.0.0 ip found.2 i))) ∙ apart in
+        any_from (λ (a : Ip4). eqb a.0 ip) (free_addresses net port) found.0 (Contains-filter is_free (addresses_at port) found.0 found.1 free) found.2
 
 -- a list with such an address is not empty
 pub not_empty : (ip : ℕ) (addrs : List Ip4) → is_among_ips ip addrs ≡ true → is_empty addrs ≡ false

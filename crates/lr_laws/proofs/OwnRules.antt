@@ -81,3 +81,9 @@ binding_stage input says there = ap (λ (r : Rule). is_of_hosts r.stage) (bindin
 pub neighbour_stage : (input : NeighbourInput) (says : Rule) → Contains (neighbour_rules input) says → is_of_hosts says.stage ≡ true
 unfolding neighbour_rules
 neighbour_stage input says there = let at = Contains-from_map (resolving_rule 100 input.name) input.hosts says there in ap (λ (r : Rule). is_of_hosts r.stage) (sym at.2)
+
+-- ports, routes and hosts have no rule in a stage
+pub record HasNoOther (stage : Stage) : Type 0 where
+  pub port : is_of_ports stage ≡ false
+  pub route : is_of_routes stage ≡ false
+  pub host : is_of_hosts stage ≡ false

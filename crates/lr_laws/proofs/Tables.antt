@@ -1,6 +1,6 @@
 -- What a row of the table of a router and a stage is: what a rule of the router says in that stage, of one of its ports, of one of its static
 -- routes, of a static binding of one of its ports, of a port across one, of a NAT rule of it, or of a load balancer that is attached to it.
-use Rattle.std.proofs.Common.{◌≡◌, Bool, true, false, List, [], ◌++◌, map, sym, ap, refl, ◌∙◌, subst, ◌⊎◌, inl, inr, arith}
+use Rattle.std.proofs.Common.{◌≡◌, Bool, true, List, [], ◌++◌, map, sym, ap, refl, ◌∙◌, subst, ◌⊎◌, inl, inr, arith}
 use Rattle.std.specs.Prelude.{◌↔◌, filter, ⊤}
 use Rattle.std.specs.List.{Contains, flat_map}
 use Rattle.std.proofs.lemmas.Bool.{eq-eqb, eqb-true}
@@ -48,6 +48,7 @@ use Rattle.lr_units.specs.Units.{binding_input, binding_units, bindings_of, has_
 use Rattle.lr_units.specs.Words.{across, addresses_once}
 use Rattle.lr_units.proofs.Numbers.{switch_is_no_router}
 use Rattle.nb_router.specs.Vocabulary.{dnats, lbs_of, nats_of}
+use Rattle.ls_laws.proofs.Tables.{filter_passes}
 use Rattle.lr_units.specs.Network.{network_rows}
 use Rattle.lr_laws.specs.Steps.{IsOnRouter}
 
@@ -193,15 +194,11 @@ pub data IsRule (net : Network) (dp : ObjId) (stage : Stage) (row : Row) : Type 
   OfNeighbour : IsNeighbourRule net dp stage row → IsRule net dp stage row
   OfTranslation : Translates net dp stage row → IsRule net dp stage row
 
--- with no NAT rule and no load balancer the router changes no destinations
-pub none_changed : (net : Network) (router : Router) → nats_of net router.id ≡ [] → lbs_of net router.id ≡ [] → dnats net router.id ≡ false
-none_changed net router no_nats no_lbs = rw (no_nats, no_lbs) refl
-
--- and translates by none
-pub none_translates : (net : Network) (dp : ObjId) → nats_of net dp ≡ [] → lbs_of net dp ≡ [] → (stage : Stage) (row : Row) → Translates net dp stage row → ⊥
-none_translates net dp no_nats no_lbs stage row (OfNat of) = one_of_none of.nat (subst (λ ns. Contains ns of.nat) no_nats of.among)
-none_translates net dp no_nats no_lbs stage row (OfVip of) = one_of_none of.lb (subst (λ bs. Contains bs of.lb) no_lbs of.among)
-none_translates net dp no_nats no_lbs stage row (OfVipAddr of) = one_of_none of.lb (subst (λ bs. Contains bs of.lb) no_lbs of.among)
+-- a NAT rule of a router is one of the network, and names the router
+pub nat_of : (net : Network) (dp : ObjId) (nat : Nat) → Contains (nats_of net dp) nat → Contains net.nats nat × (nat.router ≡ dp)
+nat_of net dp nat there =
+    let number = eqb-true dp.0 nat.router.0 (filter_passes (λ (n : Nat). same dp n.router) net.nats nat there) in
+    (Contains-from_filter (λ (n : Nat). same dp n.router) net.nats nat there, λ i. record { 0 = sym number i })
 
 module _ (net : Network) (router : Router) (stage : Stage) (row : Row) (of : (row.dp ≡ router.id) × (row.stage ≡ stage)) where
   abbrev dp : ObjId

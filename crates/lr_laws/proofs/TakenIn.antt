@@ -12,7 +12,7 @@ use Rattle.pkt_core.specs.declared.replies.IcmpReason.TheVariants.{PortUnreachab
 use Rattle.nb_records.specs.declared.router.Router.{Router}
 use Rattle.nb_records.specs.declared.router.RouterPort.{RouterPort}
 use Rattle.nb_model.specs.Network.{Network}
-use Rattle.nb_router.specs.Vocabulary.{addresses_at, external_addresses}
+use Rattle.nb_router.specs.Vocabulary.{addresses_at}
 use Rattle.sb_model.specs.declared.stage.Stage.TheVariants.{LrInIpInput}
 use Rattle.net_meaning.specs.Switches.{is_among_ips, turned_back}
 use Rattle.net_meaning.specs.Walk.{Passed}
@@ -27,12 +27,11 @@ use Rattle.tr_pipe.specs.Machine.StageEnd.{Ends}
 use Rattle.tr_pipe.specs.Tracking.{Flight}
 use Rattle.lr_laws.specs.Steps.{TakesIn, flows_at, going_back, late, taken_or_passed}
 use Rattle.lr_laws.proofs.InputEnds.{dropped, echoes, goes, replies}
-use Rattle.lr_laws.proofs.InputLayers.{Comes, echo_asked, last_layer, layers, taker, to_own}
+use Rattle.lr_laws.proofs.InputLayers.{Comes, echo_asked, is_for_it, last_layer, layers, stands_for, taker, to_own}
 use Rattle.lr_laws.proofs.InputMatches.{arp_no_ip4}
 use Rattle.lr_laws.proofs.InputPackets.{kept}
 use Rattle.lr_laws.proofs.InputRows.{rows_are}
 use Rattle.lr_laws.proofs.Layers.{any_holds, any_holds-from, first_end}
-use Rattle.lr_laws.proofs.OwnAddresses.{no_external}
 use Rattle.lr_laws.proofs.StageLayers.{step_by_layers}
 
 module _ (net : Network) (router : Router) (flight : Flight) (port : RouterPort) where
@@ -47,17 +46,17 @@ module _ (net : Network) (router : Router) (flight : Flight) (port : RouterPort)
   abbrev answered : Values → Passed
   answered answer = Makes Reject port.id (turned_back (with_value answer EthSrc port.mac))
 
-  -- of what is no ARP, is not refused and asks for no echo; some addresses may be external
-  abbrev passed_on : (ip4 own external may tcp udp all many expired : Bool) → Option Passed
-  passed_on ip4 own external may tcp udp all many expired =
-      cond (ip4 && own && not external) (Some (cond (may && (tcp || udp)) (answered (cond tcp (reset turned) (icmp_error turned PortUnreachable))) (Drops IpInput)))
+  -- of what is no ARP, is not refused and asks for no echo
+  abbrev passed_on : (for_it ip4 may tcp udp all many expired : Bool) → Option Passed
+  passed_on for_it ip4 may tcp udp all many expired =
+      cond for_it (Some (cond (may && (tcp || udp)) (answered (cond tcp (reset turned) (icmp_error turned PortUnreachable))) (Drops IpInput)))
       (cond (not ip4 || all || many) (Some (Drops IpInput))
       (cond expired (Some (cond may (answered (with_value (icmp_error turned TtlExceeded) Ip4Src (first_address port).0)) (Drops IpInput))) None))
 
-  abbrev decided : (refused arp op own external echo : Bool) → Option Passed → Option Passed
-  decided refused arp op own external echo rest =
+  abbrev decided : (refused arp op stands echo : Bool) → Option Passed → Option Passed
+  decided refused arp op stands echo rest =
       cond refused (Some (Drops IpInput))
-      (cond arp (Some (cond (arp && op && (own || external)) (GoesOn (OnePort port.id) (turned_back (arp_reply turned port.mac))) (Drops IpInput)))
+      (cond arp (Some (cond (arp && op && stands) (GoesOn (OnePort port.id) (turned_back (arp_reply turned port.mac))) (Drops IpInput)))
       (cond echo (Some (GoesOn (Late port.id) (turned_back (echo_reply port turned)))) rest))
 
   -- ---- and what the layers say
@@ -68,42 +67,42 @@ module _ (net : Network) (router : Router) (flight : Flight) (port : RouterPort)
   abbrev if_answerable : Bool → Values → StageEnd
   if_answerable may answer = cond may (made answer) (dropped port flight)
 
-  abbrev passed_by_layers : (ip4 own may tcp udp all many expired : Bool) → StageEnd
-  passed_by_layers ip4 own may tcp udp all many expired =
-      cond (ip4 && own && (tcp || udp)) (cond tcp (if_answerable may (reset turned)) (if_answerable may (icmp_error turned PortUnreachable)))
-      (cond (ip4 && own) (dropped port flight)
+  abbrev passed_by_layers : (for_it ip4 may tcp udp all many expired : Bool) → StageEnd
+  passed_by_layers for_it ip4 may tcp udp all many expired =
+      cond (for_it && (tcp || udp)) (cond tcp (if_answerable may (reset turned)) (if_answerable may (icmp_error turned PortUnreachable)))
+      (cond for_it (dropped port flight)
       (cond (all || (ip4 && many)) (dropped port flight)
       (cond (ip4 && expired) (if_answerable may (with_value (icmp_error turned TtlExceeded) Ip4Src (first_address port).0)) (cond ip4 (goes port flight) (dropped port flight)))))
 
-  passed_alike : (ip4 own may tcp udp all many expired : Bool) → passed_by_layers ip4 own may tcp udp all many expired ≡ taken_or_passed (passed_on ip4 own false may tcp udp all many expired) flight
-  passed_alike false own may tcp udp true many expired = refl
-  passed_alike false own may tcp udp false many expired = refl
-  passed_alike true true true true udp all many expired = refl
-  passed_alike true true false true udp all many expired = refl
-  passed_alike true true true false true all many expired = refl
-  passed_alike true true false false true all many expired = refl
-  passed_alike true true true false false all many expired = refl
-  passed_alike true true false false false all many expired = refl
-  passed_alike true false may tcp udp true many expired = refl
-  passed_alike true false may tcp udp false true expired = refl
-  passed_alike true false true tcp udp false false true = refl
-  passed_alike true false false tcp udp false false true = refl
-  passed_alike true false may tcp udp false false false = refl
+  passed_alike : (for_it ip4 may tcp udp all many expired : Bool) → passed_by_layers for_it ip4 may tcp udp all many expired ≡ taken_or_passed (passed_on for_it ip4 may tcp udp all many expired) flight
+  passed_alike true ip4 true true udp all many expired = refl
+  passed_alike true ip4 false true udp all many expired = refl
+  passed_alike true ip4 true false true all many expired = refl
+  passed_alike true ip4 false false true all many expired = refl
+  passed_alike true ip4 true false false all many expired = refl
+  passed_alike true ip4 false false false all many expired = refl
+  passed_alike false false may tcp udp true many expired = refl
+  passed_alike false false may tcp udp false many expired = refl
+  passed_alike false true may tcp udp true many expired = refl
+  passed_alike false true may tcp udp false true expired = refl
+  passed_alike false true true tcp udp false false true = refl
+  passed_alike false true false tcp udp false false true = refl
+  passed_alike false true may tcp udp false false false = refl
 
   -- an ARP packet asks for no echo
-  abbrev decided_by_layers : (refused arp op own echo : Bool) → StageEnd → StageEnd
-  decided_by_layers refused arp op own echo rest =
-      cond refused (dropped port flight) (cond (arp && op && own || echo) (cond (arp && op && own) (replies port flight) (echoes port flight)) (cond arp (dropped port flight) rest))
+  abbrev decided_by_layers : (refused arp op stands echo : Bool) → StageEnd → StageEnd
+  decided_by_layers refused arp op stands echo rest =
+      cond refused (dropped port flight) (cond (arp && op && stands || echo) (cond (arp && op && stands) (replies port flight) (echoes port flight)) (cond arp (dropped port flight) rest))
 
-  decided_alike : (refused arp op own echo : Bool) (rest : StageEnd) (then : Option Passed) → (arp ≡ true → echo ≡ false) → rest ≡ taken_or_passed then flight
-      → decided_by_layers refused arp op own echo rest ≡ taken_or_passed (decided refused arp op own false echo then) flight
-  decided_alike true arp op own echo rest then apart alike = refl
-  decided_alike false true op own true rest then apart alike = absurd (false≢true (sym (apart refl)))
+  decided_alike : (refused arp op stands echo : Bool) (rest : StageEnd) (then : Option Passed) → (arp ≡ true → echo ≡ false) → rest ≡ taken_or_passed then flight
+      → decided_by_layers refused arp op stands echo rest ≡ taken_or_passed (decided refused arp op stands echo then) flight
+  decided_alike true arp op stands echo rest then apart alike = refl
+  decided_alike false true op stands true rest then apart alike = absurd (false≢true (sym (apart refl)))
   decided_alike false true true true false rest then apart alike = refl
   decided_alike false true true false false rest then apart alike = refl
-  decided_alike false true false own false rest then apart alike = refl
-  decided_alike false false op own true rest then apart alike = refl
-  decided_alike false false op own false rest then apart alike = alike
+  decided_alike false true false stands false rest then apart alike = refl
+  decided_alike false false op stands true rest then apart alike = refl
+  decided_alike false false op stands false rest then apart alike = alike
 
   module _ (here : Comes net router flight port) where
     -- ---- the tests of the packet are those of the packet that is to go out by the port
@@ -113,9 +112,6 @@ module _ (net : Network) (router : Router) (flight : Flight) (port : RouterPort)
 
     own_router : router.id ≡ port.router
     own_router = sym here.its.1
-
-    nothing_external : (ip : ℕ) → false ≡ is_external net port.router ip
-    nothing_external ip = sym (ap (λ others. is_among_ips ip others) (ap (external_addresses net) here.its.1 ∙ no_external net router here.none.no_nats here.none.no_lbs))
 
     ip4_same : is_ip4 packet ≡ is_ip4 turned
     ip4_same = λ i. eqb (same EthType refl i) 0x800
@@ -136,14 +132,15 @@ module _ (net : Network) (router : Router) (flight : Flight) (port : RouterPort)
     -- the meaning, by the tests of the packet
     abbrev meant : Option Passed
     meant =
-        decided (is_refused net router.id packet) (meets packet needs.Arp) (eqb (value packet ArpOp) 1) (is_among_ips (value packet ArpTpa) (addresses_at port)) false (echo_asked net router flight port)
-        (passed_on (is_ip4 packet) (to_own net router flight port) false (is_answerable packet) (meets packet needs.Tcp) (meets packet needs.Udp) (eqb (value packet EthDst) 0xffff_ffff_ffff)
+        decided (is_refused net router.id packet) (meets packet needs.Arp) (eqb (value packet ArpOp) 1) (stands_for net router flight port) (echo_asked net router flight port)
+        (passed_on (is_for_it net router flight port) (is_ip4 packet) (is_answerable packet) (meets packet needs.Tcp) (meets packet needs.Udp) (eqb (value packet EthDst) 0xffff_ffff_ffff)
         (is_multicast_ip (value packet Ip4Dst)) (nat_lt (value packet IpTtl) 2))
 
     meaning_is : meant ≡ taken_in net port turned
     meaning_is =
-        λ i. decided (refused_same i) (eqb (same EthType refl i) 0x806) (eqb (same ArpOp refl i) 1) (is_among_ips (same ArpTpa refl i) (addresses_at port)) (nothing_external (value turned ArpTpa) i) (echo_same i)
-        (passed_on (ip4_same i) (is_own net (own_router i) (same Ip4Dst refl i)) (nothing_external (value turned Ip4Dst) i) (answerable_same i) (carries_same 6 i) (carries_same 17 i) (eqb (same EthDst refl i) 0xffff_ffff_ffff)
+        λ i. decided (refused_same i) (eqb (same EthType refl i) 0x806) (eqb (same ArpOp refl i) 1)
+        (is_among_ips (same ArpTpa refl i) (addresses_at port) || is_external net (own_router i) (same ArpTpa refl i)) (echo_same i)
+        (passed_on (ip4_same i && is_own net (own_router i) (same Ip4Dst refl i) && not (is_external net (own_router i) (same Ip4Dst refl i))) (ip4_same i) (answerable_same i) (carries_same 6 i) (carries_same 17 i) (eqb (same EthDst refl i) 0xffff_ffff_ffff)
         (is_multicast_ip (same Ip4Dst refl i)) (nat_lt (same IpTtl refl i) 2))
 
     -- ---- the stage
@@ -154,13 +151,13 @@ module _ (net : Network) (router : Router) (flight : Flight) (port : RouterPort)
 
     layers_are : first_end (layers net router flight port) (dropped port flight) ≡ taken_or_passed meant flight
     layers_are =
-        decided_alike (is_refused net router.id packet) (meets packet needs.Arp) (eqb (value packet ArpOp) 1) (is_among_ips (value packet ArpTpa) (addresses_at port)) (echo_asked net router flight port)
-        (passed_by_layers (is_ip4 packet) (to_own net router flight port) (is_answerable packet) (meets packet needs.Tcp) (meets packet needs.Udp) (eqb (value packet EthDst) 0xffff_ffff_ffff)
+        decided_alike (is_refused net router.id packet) (meets packet needs.Arp) (eqb (value packet ArpOp) 1) (stands_for net router flight port) (echo_asked net router flight port)
+        (passed_by_layers (is_for_it net router flight port) (is_ip4 packet) (is_answerable packet) (meets packet needs.Tcp) (meets packet needs.Udp) (eqb (value packet EthDst) 0xffff_ffff_ffff)
         (is_multicast_ip (value packet Ip4Dst)) (nat_lt (value packet IpTtl) 2))
-        (passed_on (is_ip4 packet) (to_own net router flight port) false (is_answerable packet) (meets packet needs.Tcp) (meets packet needs.Udp) (eqb (value packet EthDst) 0xffff_ffff_ffff)
+        (passed_on (is_for_it net router flight port) (is_ip4 packet) (is_answerable packet) (meets packet needs.Tcp) (meets packet needs.Udp) (eqb (value packet EthDst) 0xffff_ffff_ffff)
         (is_multicast_ip (value packet Ip4Dst)) (nat_lt (value packet IpTtl) 2))
         no_echo
-        (passed_alike (is_ip4 packet) (to_own net router flight port) (is_answerable packet) (meets packet needs.Tcp) (meets packet needs.Udp) (eqb (value packet EthDst) 0xffff_ffff_ffff)
+        (passed_alike (is_for_it net router flight port) (is_ip4 packet) (is_answerable packet) (meets packet needs.Tcp) (meets packet needs.Udp) (eqb (value packet EthDst) 0xffff_ffff_ffff)
         (is_multicast_ip (value packet Ip4Dst)) (nat_lt (value packet IpTtl) 2))
 
     some_holds : any_holds (layers net router flight port) ≡ true
@@ -172,4 +169,4 @@ module _ (net : Network) (router : Router) (flight : Flight) (port : RouterPort)
         ∙ layers_are ∙ ap (λ o. taken_or_passed o flight) meaning_is
 
 pub takes_in : TakesIn
-takes_in net router flight on none port its at has = by_layers net router flight port (record { on = on; none = none; its = its; at = at; has = has })
+takes_in net router flight on port its at has = by_layers net router flight port (record { on = on; its = its; at = at; has = has })

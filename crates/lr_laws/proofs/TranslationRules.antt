@@ -125,6 +125,10 @@ pub vip_addr_rule-gives : (input : VipAddrInput) (says : Rule) → Contains (vip
 unfolding vip_addr_rules
 vip_addr_rule-gives input says there = of_first (arp_rule_for input.addr) [] says (λ same. same) (of_none says) there
 
+pub vip_addr_rule-from : (input : VipAddrInput) → Contains (vip_addr_rules input) (arp_rule_for input.addr)
+unfolding vip_addr_rules
+vip_addr_rule-from input = one_first (arp_rule_for input.addr) [] (arp_rule_for input.addr) refl
+
 -- ---- the stages
 
 abbrev pub is_of_translation : Stage → Bool

@@ -2,16 +2,13 @@
 -- the stage laws.
 use Rattle.std.specs.Prelude.{◌≡◌, ℕ, ◌-◌, ◌==◌, true, if◌then◌else◌, [], ◌∷◌, Contains, Option, Some, None}
 use Rattle.nv_base.specs.Ip4.{address}
-use Rattle.nv_base.specs.declared.object.ObjId.{ObjId}
 use Rattle.nv_base.specs.declared.field.Field.TheVariants.{Inport, Outport, FlagsLoopback, EthSrc, EthDst, EthType, IpTtl, Ip4Src, Ip4Dst, ArpOp, ArpSpa, ArpSha, ArpTpa, Reg0, Reg1, Reg6}
 use Rattle.pkt_core.specs.Packet.{Values, IsPacket, value, with_value, with_values, workings}
 use Rattle.pkt_core.specs.Prerequisite.{is_ip4}
 use Rattle.nb_records.specs.declared.router.Router.{Router}
 use Rattle.nb_records.specs.declared.router.RouterPort.{RouterPort}
-use Rattle.nb_model.specs.Names.{names}
 use Rattle.nb_model.specs.Network.{Network}
 use Rattle.nb_model.specs.Sound.{IsSound}
-use Rattle.nb_router.specs.Vocabulary.{lbs_of, nats_of}
 use Rattle.sb_model.specs.declared.stage.Stage.{Stage}
 use Rattle.sb_model.specs.declared.stage.Stage.TheVariants.{LrInAdmission, LrInLearnNeighbor, LrInIpInput, LrInUnsnat, LrInIpRouting, LrInArpResolve, LrInArpRequest, LrOutDelivery}
 use Rattle.net_meaning.specs.declared.answer.Answer.TheVariants as answer
@@ -25,27 +22,17 @@ use Rattle.ct_core.specs.State.{State}
 use Rattle.net_router.specs.Input.{after_learning, is_admitted, taken_in}
 use Rattle.net_router.specs.Resolution.{mac_for}
 use Rattle.net_router.specs.Routing.{Hop, hop_for}
-use Rattle.lr_units.specs.Network.{network_rows}
-use Rattle.tr_stage.specs.Machine.{Flows, flows_of}
+pub use Rattle.ls_laws.specs.Steps.{flows_at}
 use Rattle.tr_stage.specs.declared.outcome.Outcome.TheVariants as outcomes
 use Rattle.tr_pipe.specs.Machine.{StageEnd, step}
 use Rattle.tr_pipe.specs.Machine.StageEnd.{On, Ends}
 use Rattle.tr_pipe.specs.Tracking.{Flight, with_packet}
-
--- the flows of a network at one of its datapaths
-abbrev pub flows_at : Network → ObjId → Flows
-flows_at net dp = flows_of (network_rows net) (names net) dp
 
 -- the networks and the packets of which the laws speak: on one of the network's routers
 pub record IsOnRouter (net : Network) (router : Router) (packet : Values) : Type 0 where
   pub sound : IsSound net
   pub among : Contains net.routers router
   pub formed : IsPacket packet
-
--- the router has no NAT rule and no load balancer
-pub record TranslatesNone (net : Network) (router : Router) : Type 0 where
-  pub no_nats : nats_of net router.id ≡ []
-  pub no_lbs : lbs_of net router.id ≡ []
 
 -- the port is one of the router's
 abbrev pub IsPortOf : Network → Router → RouterPort → Type 0
@@ -61,11 +48,6 @@ CameIn port packet = value packet Inport ≡ port.id.0
 
 abbrev pub GoesOut : RouterPort → Values → Type 0
 GoesOut port packet = value packet Outport ≡ port.id.0
-
--- where no addresses are translated each packet goes on at the next stage
-abbrev pub Passes : Stage → Stage → Type 0
-Passes stage next =
-    (net : Network) (router : Router) (flight : Flight) → IsOnRouter net router flight.packet → TranslatesNone net router → Does net router stage flight (On next flight)
 
 -- ---- what comes in by a port
 
@@ -114,11 +96,10 @@ going_back port packet = with_value packet Outport port.id.0
 abbrev pub HasMac : RouterPort → Values → Type 0
 HasMac port packet = value packet Reg6 ≡ port.mac
 
--- where no addresses are translated what the meaning does not pass on is dropped or answered as it says, of the packet that is to go back; the
--- rest goes on as it is
+-- what the meaning does not pass on is dropped or answered as it says, of the packet that is to go back; the rest goes on as it is
 abbrev pub TakesIn : Type 0
 TakesIn =
-    (net : Network) (router : Router) (flight : Flight) → IsOnRouter net router flight.packet → TranslatesNone net router → (port : RouterPort) → IsPortOf net router port
+    (net : Network) (router : Router) (flight : Flight) → IsOnRouter net router flight.packet → (port : RouterPort) → IsPortOf net router port
     → CameIn port flight.packet → HasMac port flight.packet → Does net router LrInIpInput flight (taken_or_passed (taken_in net port (going_back port flight.packet)) flight)
 
 -- ---- routing

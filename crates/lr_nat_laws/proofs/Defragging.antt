@@ -35,7 +35,7 @@ use Rattle.lr_nat_laws.specs.Steps.{Defrags, Undnats}
 use Rattle.lr_laws.proofs.InputMatches.{ip4_match}
 use Rattle.lr_laws.proofs.Layers.{IsOfLayer, Layer, layer}
 use Rattle.lr_laws.proofs.Members.{of_first, of_none}
-use Rattle.lr_laws.proofs.PassingStages.{HasNoOther}
+use Rattle.lr_laws.proofs.OwnRules.{HasNoOther}
 use Rattle.lr_laws.proofs.StageLayers.{does, HasRow, have_rows, step_by_layers}
 use Rattle.lr_laws.proofs.Tables.{IsOwnRule, IsRule, own_rules}
 use Rattle.lr_laws.proofs.TranslationRules.{is_of_translation, translation_stage}

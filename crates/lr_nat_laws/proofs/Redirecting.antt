@@ -67,10 +67,10 @@ use Rattle.lr_nat_laws.proofs.ChosenVips.{IsChosen, chosen, has_backend, has_bac
 use Rattle.lr_nat_laws.proofs.Firsts.{find-first}
 use Rattle.lr_laws.proofs.OwnRules.{own_rule-gives}
 use Rattle.lr_laws.proofs.StageLayers.{does, step_by_row}
-use Rattle.lr_laws.proofs.Tables.{IsNatRule, IsOwnRule, IsRule, IsVipRule, Translates, own_rules, rows-nat, rows-router_nat, rows-vip}
+use Rattle.lr_laws.proofs.Tables.{IsNatRule, IsOwnRule, IsRule, IsVipRule, Translates, nat_of, own_rules, rows-nat, rows-router_nat, rows-vip}
 use Rattle.lr_laws.proofs.Tables.Translates.{OfNat, OfVip, OfVipAddr}
 use Rattle.lr_laws.proofs.TranslationRules.{IsNatSays, nat_rule-gives, redirecting-from, redirecting_rule, vip_addr_rule-gives, vip_rule-from, vip_rule-gives}
-use Rattle.lr_nat_laws.proofs.TranslationStages.{by_origin, goes_to, nat_of}
+use Rattle.lr_nat_laws.proofs.TranslationStages.{by_origin, goes_to}
 
 -- the rule of a router
 abbrev last_rule : Rule

@@ -2,42 +2,31 @@
 use Rattle.std.proofs.Common.{◌≡◌, true, sym, ap, refl, ◌∙◌}
 use Rattle.std.specs.Prelude.{Some}
 use Rattle.std.specs.List.{Contains}
-use Rattle.std.proofs.lemmas.Bool.{false≢true, eqb-true}
-use Rattle.nv_base.specs.declared.object.ObjId.{ObjId}
+use Rattle.std.proofs.lemmas.Bool.{false≢true}
 use Rattle.expr_eval.specs.MatchMeaning.{holds}
-use Rattle.nb_records.specs.declared.router.Nat.{Nat}
 use Rattle.nb_records.specs.declared.router.Router.{Router}
 use Rattle.nb_model.specs.Names.{names}
-use Rattle.nb_model.specs.Network.{Network, same}
-use Rattle.nb_router.specs.Vocabulary.{dnats, nats_of}
+use Rattle.nb_model.specs.Network.{Network}
+use Rattle.nb_router.specs.Vocabulary.{dnats}
 use Rattle.sb_model.specs.Make.{goes_on}
 use Rattle.sb_model.specs.Stage.{next_stage}
 use Rattle.sb_model.specs.declared.row.Row.{Row}
 use Rattle.sb_model.specs.declared.stage.Stage.{Stage}
 use Rattle.net_rows.specs.Unit.{row_of, unit_of_datapath}
 use Rattle.net_rows.specs.declared.rule.Rule.{Rule}
-use Rattle.net_rows.proofs.Elements.{Contains-from_filter}
 use Rattle.lr_rows.specs.Nat.{router_nat_rules}
 use Rattle.lr_units.specs.Units.{binding_input, neighbour_input, static_route_input}
-use Rattle.ls_laws.proofs.Tables.{filter_passes}
 use Rattle.tr_pipe.specs.Machine.{StageEnd, ended, run_actions}
 use Rattle.tr_pipe.specs.Machine.StageEnd.{On}
 use Rattle.tr_pipe.specs.Tracking.{Flight}
 use Rattle.tr_stage.specs.Machine as packets
 use Rattle.lr_laws.specs.Steps.{IsOnRouter}
 use Rattle.lr_laws.proofs.Layers.{Layer}
-use Rattle.lr_laws.proofs.OwnRules.{binding_stage, is_of_hosts, is_of_ports, is_of_routes, neighbour_stage, port_stage, route_stage}
-use Rattle.lr_laws.proofs.PassingStages.{HasNoOther}
+use Rattle.lr_laws.proofs.OwnRules.{HasNoOther, binding_stage, is_of_hosts, is_of_ports, is_of_routes, neighbour_stage, port_stage, route_stage}
 use Rattle.lr_laws.proofs.PortRules.{port_has_net, port_rule-gives}
 use Rattle.lr_laws.proofs.StageLayers.{HasRow}
 use Rattle.lr_laws.proofs.Tables.{IsOwnRule, IsRule, Translates, rows-router_nat}
 use Rattle.lr_laws.proofs.Tables.IsRule.{OfRouter, OfPort, OfRoute, OfBinding, OfNeighbour, OfTranslation}
-
--- a NAT rule of a router is one of the network, and names the router
-pub nat_of : (net : Network) (dp : ObjId) (nat : Nat) → Contains (nats_of net dp) nat → Contains net.nats nat × (nat.router ≡ dp)
-nat_of net dp nat there =
-    let number = eqb-true dp.0 nat.router.0 (filter_passes (λ (n : Nat). same dp n.router) net.nats nat there) in
-    (Contains-from_filter (λ (n : Nat). same dp n.router) net.nats nat there, λ i. record { 0 = sym number i })
 
 module _ (net : Network) (router : Router) (flight : Flight) (on : IsOnRouter net router flight.packet) (stage : Stage) where
   -- by where a row of the stage comes from, where ports, routes and neighbours have no rules in it

@@ -37,11 +37,11 @@ use Rattle.lr_nat_laws.specs.Steps.{Unsnats}
 use Rattle.lr_laws.proofs.Layers.{IsOfLayer, Layer, layer}
 use Rattle.lr_laws.proofs.OwnRules.{own_rule-gives}
 use Rattle.lr_laws.proofs.StageLayers.{does, HasRow, have_rows, step_by_layers}
-use Rattle.lr_laws.proofs.Tables.{IsNatRule, IsOwnRule, IsRule, Translates, own_rules, rows-nat}
+use Rattle.lr_laws.proofs.Tables.{IsNatRule, IsOwnRule, IsRule, Translates, nat_of, own_rules, rows-nat}
 use Rattle.lr_laws.proofs.Tables.Translates.{OfNat, OfVip, OfVipAddr}
 use Rattle.lr_laws.proofs.TranslationRules.{IsNatSays, back-from, back_rule, nat_rule-gives, vip_addr_rule-gives, vip_rule-gives}
 use Rattle.lr_laws.proofs.TranslationRules.IsNatSays.{Answers, GivesBack, Hides, Redirects}
-use Rattle.lr_nat_laws.proofs.TranslationStages.{by_origin, goes_to, nat_of, own_row}
+use Rattle.lr_nat_laws.proofs.TranslationStages.{by_origin, goes_to, own_row}
 
 -- the rule of a router
 abbrev last_rule : Rule

@@ -7,7 +7,6 @@ use Rattle.nb_records.specs.declared.switch.Switch.{Switch}
 use Rattle.nb_model.specs.Applies.{tracks}
 use Rattle.nb_model.specs.Names.{names}
 use Rattle.nb_model.specs.Network.{Network}
-use Rattle.nb_model.specs.Plain.{IsPlain}
 use Rattle.nb_model.specs.Sound.{IsSound}
 use Rattle.net_rows.specs.Acls.{acl_on_rules}
 use Rattle.net_rows.specs.Build.{acl_on_input, port_rules, switch_rules}
@@ -23,7 +22,7 @@ use Rattle.tr_stage.proofs.PacketRuns as steps
 use Rattle.tr_pipe.specs.Machine.{acted, ended, step}
 use Rattle.tr_pipe.specs.Tracking.{Flight}
 use Rattle.tr_pipe.proofs.Plain.{plain_actions}
-use Rattle.ls_laws.specs.Steps.{flows_at}
+use Rattle.ls_laws.specs.Steps.{BalancesNone, flows_at}
 use Rattle.ls_laws.proofs.Tables.{IsRule, table-gives}
 use Rattle.ls_ct_laws.proofs.RuleRuns.{IsRun, acl_rules_run, asks_for_connections, port_rules_run, switch_rules_run}
 
@@ -38,7 +37,7 @@ plain_at flows stage flight asks_none = by (acting flows stage flight.packet) re
     by (Some row) is = plain_actions flows.net flows.dp stage row.actions flight (asks_none row is)
 
 -- of a plain network, where a switch tracks no connections or the stage asks for none
-module _ (net : Network) (sound : IsSound net) (plain : IsPlain net) (switch : Switch) (among : Contains net.switches switch) (stage : Stage) (none : (tracks net switch.id && asks_for_connections stage) ≡ false) where
+module _ (net : Network) (sound : IsSound net) (plain : BalancesNone net) (switch : Switch) (among : Contains net.switches switch) (stage : Stage) (none : (tracks net switch.id && asks_for_connections stage) ≡ false) where
   said : (says : Rule) (row : Row) → IsTrue (steps.are_run (names net) says.stage says.actions) → says.stage ≡ stage → row.actions ≡ says.actions → IsTrue (steps.are_run (names net) stage row.actions)
   said says row run of_stage actions =
       subst (λ done. IsTrue (steps.are_run (names net) stage done)) (sym actions) (subst (λ s. IsTrue (steps.are_run (names net) s says.actions)) of_stage run)
@@ -66,7 +65,7 @@ module _ (net : Network) (sound : IsSound net) (plain : IsPlain net) (switch : S
           of_row row (table-gives net sound switch among stage row of.among (in_table-from switch.id stage row of.of_dp of.of_stage))
 
 -- at each switch, a stage that asks for none
-pub plain_stage_of : (net : Network) → IsSound net → IsPlain net → (switch : Switch) → Contains net.switches switch → (stage : Stage) → asks_for_connections stage ≡ false → (flight : Flight)
+pub plain_stage_of : (net : Network) → IsSound net → BalancesNone net → (switch : Switch) → Contains net.switches switch → (stage : Stage) → asks_for_connections stage ≡ false → (flight : Flight)
     → step (flows_at net switch.id) stage flight ≡ ended flight (packets.step (flows_at net switch.id) stage flight.packet)
 plain_stage_of net sound plain switch among stage asks_none = plain_stage net sound plain switch among stage (by (tracks net switch.id))
   where
@@ -75,6 +74,6 @@ plain_stage_of net sound plain switch among stage asks_none = plain_stage net so
     by false = refl
 
 -- and each stage of a switch that tracks none
-pub plain_where_untracked : (net : Network) → IsSound net → IsPlain net → (switch : Switch) → Contains net.switches switch → (stage : Stage) → tracks net switch.id ≡ false → (flight : Flight)
+pub plain_where_untracked : (net : Network) → IsSound net → BalancesNone net → (switch : Switch) → Contains net.switches switch → (stage : Stage) → tracks net switch.id ≡ false → (flight : Flight)
     → step (flows_at net switch.id) stage flight ≡ ended flight (packets.step (flows_at net switch.id) stage flight.packet)
 plain_where_untracked net sound plain switch among stage untracked = plain_stage net sound plain switch among stage (ap (λ b. b && asks_for_connections stage) untracked)

@@ -24,7 +24,6 @@ use Rattle.nb_model.specs.Applies.{balances, is_empty, tracks}
 use Rattle.nb_model.specs.Belongs.{is_router_kind}
 use Rattle.nb_model.specs.Names.{names}
 use Rattle.nb_model.specs.Network.{Network, same}
-use Rattle.nb_model.specs.Plain.{IsPlain}
 use Rattle.nb_model.specs.Readable.{are_addresses, are_apart, are_guards, ips_of, is_ip4, is_mac, is_priority, macs_of, may_name, same_number}
 use Rattle.nb_model.specs.Sound.{IsSound}
 use Rattle.nb_model.proofs.Readable.{of_port}
@@ -49,6 +48,7 @@ use Rattle.sb_model.specs.declared.stage.Stage.{Stage}
 use Rattle.sb_model.specs.declared.stage.Stage.TheVariants.{LsInCheckPortSec, LsInPreStateful, LsInAclEval, LsInStateful, LsOutPreStateful, LsOutAclEval, LsOutStateful, LsOutCheckPortSec}
 use Rattle.tr_stage.specs.Machine.{number_of}
 use Rattle.tr_stage.proofs.PacketRuns as steps
+use Rattle.ls_laws.specs.Steps.{BalancesNone}
 use Rattle.tr_pipe.specs.Runnable.{are_run}
 use Rattle.ls_laws.proofs.PortNames.{number_of_port}
 use Rattle.ls_laws.proofs.RuleStages.{later_rules, rules_where, rules_where_tracked, untracked_rule}
@@ -251,10 +251,10 @@ none_attached dp (switch ∷ switches) all = by (same switch.id dp) (none_attach
     by true rest = rw all.0 rest
     by false rest = rest
 
-pub none_balances : (net : Network) → IsPlain net → (dp : ObjId) → balances net dp ≡ false
-none_balances net plain dp = none_attached dp net.switches plain.switches
+pub none_balances : (net : Network) → BalancesNone net → (dp : ObjId) → balances net dp ≡ false
+none_balances net plain dp = none_attached dp net.switches plain
 
-pub switch_rules_run : (net : Network) → IsPlain net → (dp : ObjId) → AreRun (names net) (tracks net dp) (switch_rules net dp)
+pub switch_rules_run : (net : Network) → BalancesNone net → (dp : ObjId) → AreRun (names net) (tracks net dp) (switch_rules net dp)
 switch_rules_run net plain dp =
     subst (λ (b : Bool). AreRun (names net) (tracks net dp) (rules_where (tracks net dp) b (has_unknown net dp))) (sym (none_balances net plain dp)) (of_switch (names net) (tracks net dp) (has_unknown net dp))
 
@@ -280,7 +280,7 @@ port_rules_run net sound port there =
 
 -- ---- its rows
 
-module _ (net : Network) (sound : IsSound net) (plain : IsPlain net) (row : Row) where
+module _ (net : Network) (sound : IsSound net) (plain : BalancesNone net) (row : Row) where
   said : (tracking : Bool) (says : Rule) → IsRun (names net) tracking says → says.stage ≡ row.stage → says.actions ≡ row.actions → IsTrue (is_well_formed row.actions) × IsTrue (are_run (names net) row.stage row.actions)
   said tracking says is stage actions =
       (subst (λ done. IsTrue (is_well_formed done)) actions is.formed, subst (λ s. IsTrue (are_run (names net) s row.actions)) stage (subst (λ done. IsTrue (are_run (names net) says.stage done)) actions is.run))
@@ -297,6 +297,6 @@ module _ (net : Network) (sound : IsSound net) (plain : IsPlain net) (row : Row)
       said (tracks net dp) at.says (every_member (IsRun (names net) (tracks net dp)) (acl_on_rules (acl_on_input net at.acl dp)) at.says (acl_rules_run net at.acl dp) at.in_rules) (ap (λ (r : Row). r.stage) at.is) (ap (λ (r : Row). r.actions) at.is)
 
 -- so does it run the actions of each row of the network at a switch
-pub row_at_switch_runs : (net : Network) → IsSound net → IsPlain net → (switch : Switch) → Contains net.switches switch → (row : Row) → Contains (network_rows net) row → row.dp ≡ switch.id
+pub row_at_switch_runs : (net : Network) → IsSound net → BalancesNone net → (switch : Switch) → Contains net.switches switch → (row : Row) → Contains (network_rows net) row → row.dp ≡ switch.id
     → IsTrue (is_well_formed row.actions) × IsTrue (are_run (names net) row.stage row.actions)
 row_at_switch_runs net sound plain switch among row there of_dp = row_runs net sound plain row (at_switch-gives net sound switch among row there of_dp)

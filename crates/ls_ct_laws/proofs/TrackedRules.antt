@@ -16,7 +16,6 @@ use Rattle.nb_records.specs.declared.switch.Port.{Port}
 use Rattle.nb_records.specs.declared.switch.Switch.{Switch}
 use Rattle.nb_model.specs.Applies.{balances, is_empty, tracks}
 use Rattle.nb_model.specs.Network.{Network, same}
-use Rattle.nb_model.specs.Plain.{IsPlain}
 use Rattle.nb_model.specs.Readable.{is_priority}
 use Rattle.sb_model.specs.Make.{takes_each, goes_on, is_port}
 use Rattle.sb_model.specs.declared.stage.Stage.{Stage}
@@ -33,6 +32,7 @@ use Rattle.net_rows.specs.declared.rule.Rule.{Rule}
 use Rattle.net_rows.proofs.Elements.{one_first, one_later, one_of, one_of_none}
 use Rattle.ls_laws.proofs.RuleStages.{acl_rules_of_port-gives, each_of, is_first, is_of_addresses, is_of_security, later_rules, of_port_l2, of_port_sec, the_only}
 use Rattle.ls_ct_laws.specs.Tracking.{port_field}
+use Rattle.ls_laws.specs.Steps.{BalancesNone}
 
 -- ---- the rules of a switch
 
@@ -54,10 +54,10 @@ no_balancer switch (own ∷ list) all = rw (all.0, no_balancer switch list all.1
     never true = refl
     never false = refl
 
-pub balances_none : (net : Network) → IsPlain net → (switch : ObjId) → balances net switch ≡ false
-balances_none net plain switch = no_balancer switch net.switches plain.switches
+pub balances_none : (net : Network) → BalancesNone net → (switch : ObjId) → balances net switch ≡ false
+balances_none net plain switch = no_balancer switch net.switches plain
 
-pub switch_rules-tracked : (net : Network) (switch : ObjId) → IsPlain net → tracks net switch ≡ true → switch_rules net switch ≡ tracked_switch_rules (has_unknown net switch)
+pub switch_rules-tracked : (net : Network) (switch : ObjId) → BalancesNone net → tracks net switch ≡ true → switch_rules net switch ≡ tracked_switch_rules (has_unknown net switch)
 switch_rules-tracked net switch plain tracking =
     ap (λ (t : Bool). switch_sec_rules ++ (switch_acl_rules (record { tracks = t; balances = balances net switch }) ++ (switch_lb_rules ++ switch_l2_rules (record { unknown = has_unknown net switch })))) tracking
     ∙ ap (λ (t : Bool). switch_sec_rules ++ (switch_acl_rules (record { tracks = true; balances = t }) ++ (switch_lb_rules ++ switch_l2_rules (record { unknown = has_unknown net switch })))) (balances_none net plain switch)

@@ -1,7 +1,9 @@
--- What a packet's step through each stage of a switch does, said of the network's objects: the stage laws. They are of plain networks.
+-- What a packet's step through each stage of a switch does, said of the network's objects: the stage laws. They are of networks in which no
+-- load balancer is attached to a switch.
 -- Where a switch tracks connections, its stages of ACLs and of connections ask for connections, of which nothing is said here: the laws
 -- of these are of switches that track none.
 use Rattle.std.specs.Prelude.{◌≡◌, ℕ, false, not, ◌&&◌, if◌then◌else◌, List, [], ◌∷◌, Contains, Option, Some, None}
+use Rattle.std.specs.List.{AllByRecursion}
 use Rattle.nv_base.specs.declared.object.ObjId.{ObjId}
 use Rattle.nv_base.specs.declared.field.Field.TheVariants.{Inport, Outport, FlagsLoopback, EthDst, ArpTpa}
 use Rattle.pkt_core.specs.Packet.{Values, IsPacket, value, with_value, with_values}
@@ -19,7 +21,6 @@ use Rattle.net_meaning.specs.AclVerdict.{Decision, decision}
 use Rattle.net_meaning.specs.AclVerdict.Decision.{Allowed, Dropped, Rejected, Full}
 use Rattle.net_meaning.specs.Address.{is_multicast}
 use Rattle.net_meaning.specs.Guards.{is_let_in, is_let_out}
-use Rattle.nb_model.specs.Plain.{IsPlain}
 use Rattle.net_meaning.specs.Switches.{rejection, is_request, is_answering, answering, mac_with, port_for, unknown_ports}
 use Rattle.net_meaning.specs.declared.answer.Answer.TheVariants.{Reject}
 use Rattle.net_meaning.specs.declared.cause.Cause.TheVariants.{PortSec, Acl, Unknown, CtFull}
@@ -35,10 +36,14 @@ use Rattle.nv_base.specs.Object.{flood_number, unknown_number}
 abbrev pub flows_at : Network → ObjId → Flows
 flows_at net dp = flows_of (network_rows net) (names net) dp
 
+-- no load balancer is attached to a switch of the network
+abbrev pub BalancesNone : Network → Type 0
+BalancesNone net = AllByRecursion (λ (switch : Switch). switch.lbs ≡ []) net.switches
+
 -- the networks and the packets of which the laws speak: on one of the network's switches
 pub record IsOn (net : Network) (switch : Switch) (packet : Values) : Type 0 where
   pub sound : IsSound net
-  pub plain : IsPlain net
+  pub plain : BalancesNone net
   pub among : Contains net.switches switch
   pub formed : IsPacket packet
 

@@ -1,3 +1,4 @@
+pub mod Asked
 pub mod Lines
 pub mod Microflows
 pub mod Queries

@@ -3,8 +3,8 @@ ghost use Rattle.std.specs.Prelude.{◌≡◌, ◌≤◌, ℕ, Bool, List, Some,
 ghost use Rattle.std.specs.List.{AllByRecursion};
 ghost use Rattle.nb_records.specs.declared.edit.Edit.{Edit};
 ghost use Rattle.nb_model.specs.Readable.{IsReadable};
-ghost use Rattle.nb_model.specs.Plain.{IsBuilt};
 ghost use Rattle.nv_base.specs.Name.{is_object_name, is_quotable};
+ghost use Rattle.nb_cmds.specs.Asked.{IsAsked};
 ghost use Rattle.nb_cmds.specs.Lines.{read_line};
 ghost use Rattle.nb_cmds.specs.declared.line.Line.TheVariants.{Edits, Query};
 ghost use Rattle.nb_cmds.specs.declared.query.Query.TheVariants.{FlowList, Trace};
@@ -17,10 +17,10 @@ pub fn lines_ask_for_readable_edits()
     ensures { (text : List ℕ) (list : List Edit) → read_line text ≡ Ok (Edits list) → AllByRecursion IsReadable list }
 {}
 
-/// No edit that a line asks for is of NAT rules or load balancers: these are not built.
+/// No edit that a line asks for attaches a load balancer to a switch, or detaches one: those of switches are not built.
 #[tactic(auto, using(crate::proofs::BuiltLines::line_built))]
 pub fn lines_ask_for_built_edits()
-    ensures { (text : List ℕ) (list : List Edit) → read_line text ≡ Ok (Edits list) → AllByRecursion IsBuilt list }
+    ensures { (text : List ℕ) (list : List Edit) → read_line text ≡ Ok (Edits list) → AllByRecursion IsAsked list }
 {}
 
 /// A line asks for no more edits than it has bytes.

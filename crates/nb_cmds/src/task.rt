@@ -34,7 +34,7 @@ pub enum Task {
 }
 
 // The table.
-static TASKS: [Task; 33] = [
+static TASKS: [Task; 39] = [
     Task::Edit(Verb::LsAdd),
     Task::Edit(Verb::LsDel),
     Task::Edit(Verb::LspAdd),
@@ -51,6 +51,12 @@ static TASKS: [Task; 33] = [
     Task::Edit(Verb::LrpSetEnabled),
     Task::Edit(Verb::LrRouteAdd),
     Task::Edit(Verb::LrRouteDel),
+    Task::Edit(Verb::LrNatAdd),
+    Task::Edit(Verb::LrNatDel),
+    Task::Edit(Verb::LbAdd),
+    Task::Edit(Verb::LbDel),
+    Task::Edit(Verb::LrLbAdd),
+    Task::Edit(Verb::LrLbDel),
     Task::Edit(Verb::AclAdd),
     Task::Edit(Verb::AclDel),
     Task::Edit(Verb::PgAdd),
@@ -73,7 +79,7 @@ static TASKS: [Task; 33] = [
 impl Task {
     /// All that is built.
     #[tactic(auto, unfolding(crate::specs::Tasks::tasks))]
-    pub fn all() -> &'static [Task; 33]
+    pub fn all() -> &'static [Task; 39]
         ensures { result.now ≡ tasks }
     {
         &TASKS

@@ -259,12 +259,25 @@ fn put_wanted(
     }
 }
 
-// The ACL that says the same, where one does and was there before the line.
+// What says the same, where it was there before the line: an ACL, or the load balancer that has the VIP or is attached.
 fn put_same(out: &mut Vec<u8>, case: &Case) -> Result<(), OutOfMemory> {
     let Ok(number) = u32::try_from(case.told.number()) else {
         return Ok(());
     };
-    let Some(acl) = case.records.acls().get(ObjId(number)) else {
+    match case.records.lbs().get(ObjId(number)) {
+        Some(lb) => put_same_balancer(out, lb.name.as_slice()),
+        None => put_same_acl(out, case, ObjId(number)),
+    }
+}
+
+fn put_same_balancer(out: &mut Vec<u8>, name: &[u8]) -> Result<(), OutOfMemory> {
+    put(out, ": the load balancer ")?;
+    out.extend_from_slice(name)?;
+    put(out, " has the VIP, or is attached")
+}
+
+fn put_same_acl(out: &mut Vec<u8>, case: &Case, number: ObjId) -> Result<(), OutOfMemory> {
+    let Some(acl) = case.records.acls().get(number) else {
         return Ok(());
     };
     let Some(switch) = case.records.switches().get(acl.owner) else {

@@ -106,16 +106,32 @@ fn in_microflow(case: &Case, command: Option<&Command>, name: &[u8]) -> Option<S
     in_word(case, number, place, name.len())
 }
 
-// A name that leads to no object, or to another one: the first word that is it and makes no object. Where an object had the name
-// before the line, the first such command removed it.
+// Whether a load balancer has the name.
+fn is_balancer(alloc: Global, case: &Case, name: &[u8]) -> Result<bool, OutOfMemory> {
+    let name = Name::from_slice(alloc, name)?;
+    Ok(case.records.lb_named(&name).is_some())
+}
+
+// Whether the first command with a name that leads to no object, or to another one, is passed over: where an object had the name before
+// the line, that command removed or detached it; and where none had it, it made the load balancer that is of the other protocol.
+fn is_passed_over(alloc: Global, case: &Case, name: &[u8]) -> Result<bool, OutOfMemory> {
+    let was_there = is_there(alloc, case, name)? || is_balancer(alloc, case, name)?;
+    Ok(match case.told.code() {
+        Code::NoSuchObject => was_there,
+        Code::WrongKind => !was_there,
+        _ => false,
+    })
+}
+
+// A name that leads to no object, or to another one: the first word that is it and makes no object.
 fn old_name(
     alloc: Global,
     case: &Case,
     command: Option<&Command>,
 ) -> Result<Option<Span>, OutOfMemory> {
     let name = case.told.word(2);
-    let is_gone = case.told.code() == Code::NoSuchObject && is_there(alloc, case, name)?;
-    let second = word_named(case, name, false, usize::from(is_gone));
+    let skipped = usize::from(is_passed_over(alloc, case, name)?);
+    let second = word_named(case, name, false, skipped);
     Ok(match second.or(word_named(case, name, false, 0)) {
         Some(number) => case.span(number),
         None => in_microflow(case, command, name),

@@ -89,7 +89,7 @@ pub(crate) static SENTENCES: [Sentence; 18] = [
     Sentence {
         code: Code::NoSuchObject,
         form: "E09 NoSuchObject NAME",
-        says: "no object has the name NAME or, where it is that of an owner, the owner does not have what is to be removed",
+        says: "no object has the name NAME or, where one has it, what is to be removed of it, or detached, is not there",
         page: "",
     },
     Sentence {
@@ -360,10 +360,12 @@ pub(crate) enum Slip {
     Comma,
     Capitals,
     AclOption,
+    LogicalFirst,
+    BackendWords,
 }
 
 /// What a slip looks like, and the hint.
-pub(crate) static SLIPS: [(&str, &str); 24] = [
+pub(crate) static SLIPS: [(&str, &str); 26] = [
     (
         "`ls-add sw0 # the first one`",
         "a comment stands on a line of its own: after other words `#` begins a word",
@@ -422,7 +424,7 @@ pub(crate) static SLIPS: [(&str, &str); 24] = [
         "write to-lport: the ACLs of packets that go to ports, in the egress pipeline",
     ),
     (
-        "`lb-add lb0 10.0.0.1 10.0.0.2`",
+        "`ls-lb-add sw0 lb0`",
         "the command is one of ovn-nbctl that a script cannot use yet",
     ),
     (
@@ -456,5 +458,13 @@ pub(crate) static SLIPS: [(&str, &str); 24] = [
     (
         "`--log acl-add sw0 to-lport 1 ip4 drop`",
         "an ACL is a direction, a priority, a match and a verdict here: it has no name, log, meter, label and tier",
+    ),
+    (
+        "`lr-nat-add r0 snat 10.0.0.0/24 20.0.0.1`",
+        "the external address, which has no length, stands before the logical one, as lr-nat-add r0 snat 20.0.0.1 10.0.0.0/24",
+    ),
+    (
+        "`lb-add lb0 10.0.0.9:80 10.0.0.1:80, 10.0.0.2:80`",
+        "backends are one word, with commas and no spaces between, as 10.0.0.1:80,10.0.0.2:80",
     ),
 ];

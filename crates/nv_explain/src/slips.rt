@@ -1,7 +1,7 @@
 //! The slips that people make, as a refused line shows them.
 use crate::case::{Case, has_option, match_text, task_in};
 use crate::fields::name_at;
-use crate::place::{arguments, verb_in};
+use crate::place::{argument, arguments, verb_in};
 use crate::sentences::{Cause, Code, Slip, Wanted};
 use crate::told::number_of;
 use crate::wanted::wanted_at;
@@ -91,10 +91,20 @@ fn wrong_keyword(text: &[u8]) -> Option<Slip> {
     }
 }
 
+// Whether the backends of a VIP stand in more words than one: an address stands where the protocol may.
+fn has_spaced_backends(command: &Command) -> bool {
+    let is_vip = matches!(verb_in(command), Some(Verb::LbAdd));
+    is_vip
+        && argument(command, 3)
+            .first()
+            .is_some_and(|byte| byte.is_ascii_digit())
+}
+
 fn wrong_word(case: &Case, command: &Command) -> Option<Slip> {
     let wrong = wrong_words(case, Some(command));
     match wrong.cause {
         Cause::TooMany if has_open_match(command) => Some(Slip::UnquotedMatch),
+        Cause::TooMany | Cause::Keyword if has_spaced_backends(command) => Some(Slip::BackendWords),
         Cause::Keyword => wrong_keyword(case.text(wrong.number)),
         _ => None,
     }
@@ -128,12 +138,21 @@ fn bad_mac(command: &Command, text: &[u8]) -> Option<Slip> {
     }
 }
 
-fn bad_address(command: &Command, text: &[u8]) -> Option<Slip> {
+// Whether the word of the reply is the external address of a NAT rule.
+fn is_external(case: &Case, command: &Command) -> bool {
+    case.argument_place(command, case.told.number()) == Some(2)
+}
+
+fn bad_address(case: &Case, command: &Command, text: &[u8]) -> Option<Slip> {
     if has_comma(command, text) {
         return Some(Slip::Comma);
     }
     match verb_in(command) {
         Some(Verb::LspSetAddresses) if text.contains(&b'/') => Some(Slip::PrefixInList),
+        Some(Verb::LrNatAdd) if text.contains(&b'/') && is_external(case, command) => {
+            Some(Slip::LogicalFirst)
+        }
+        Some(Verb::LbAdd | Verb::LbDel) if text.starts_with(b"[") => Some(Slip::Ipv6),
         _ => None,
     }
 }
@@ -277,7 +296,7 @@ fn shown_by_code(
         Code::UnknownCommand => Ok(unknown_command(text)),
         Code::WrongWords => Ok(wrong_word(case, command)),
         Code::BadMac => Ok(bad_mac(command, text)),
-        Code::BadAddress => Ok(bad_address(command, text)),
+        Code::BadAddress => Ok(bad_address(case, command, text)),
         Code::NotInProfile => Ok(not_in_profile(command, text)),
         Code::NoSuchObject => no_such_object(alloc, case, command),
         Code::Exists | Code::Duplicate if may_exist_helps(command) => Ok(Some(Slip::MayExist)),

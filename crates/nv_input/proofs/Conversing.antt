@@ -12,6 +12,7 @@ use Rattle.nv_reply.specs.declared.stop.Stop.TheVariants as stops
 use Rattle.nv_reply.specs.Session.{Session}
 use Rattle.nv_reply.specs.Reply.{reply, replies, some_refused}
 use Rattle.nv_input.specs.Lines.{lines_of, complete_lines, input_limit}
+use Rattle.nv_input.specs.Opening.{Opening, written_for}
 use Rattle.nv_io.specs.Passed.{IsPrefix, Gave, Took}
 use Rattle.nv_input.specs.Calls.{BeginsDue, Moved, told_left, Point, start_at, IsReady, piece_limit, Calls, no_call, and_take, and_puts, LastTakeGivesNothing}
 use Rattle.nv_input.specs.inner.Pieces.{IsDue, BeginsOutput}
@@ -20,7 +21,7 @@ use Rattle.nv_io.specs.Writing.{Wrote, PutFailed}
 use Rattle.nv_reply.specs.Stops.{StopsWithin}
 use Rattle.nv_input.specs.Ends.{Finished}
 use Rattle.nv_input.specs.inner.Stops.{StopEnds, StopCalls}
-use Rattle.nv_io.proofs.Writing.{gave_nothing, gave_more, gave_still, took_nothing, took_more}
+use Rattle.nv_io.proofs.Writing.{gave_nothing, gave_more, gave_still, took_more}
 use Rattle.nv_input.proofs.Kept.{reply_kept}
 use Rattle.nv_input.proofs.StateAfter.{written_end, refused_end}
 
@@ -29,13 +30,26 @@ none_left : (told : Option (List ℕ)) → IsAtEnd told → told_left told ≡ [
 none_left None at_end = refl
 none_left (Some bytes) at_end = at_end
 
-module _ {S K : Type 0} (takes : S → List ℕ → Result ℕ SourceFailed → S → Type 0) (source_state : S → SourceState) (puts : K → List ℕ → Result ℕ SinkFailed → K → Type 0) (sink_state : K → SinkState) (first : Session) where
-  -- the replies to the lines that an input ends, and to all of its lines
+module _ {S K : Type 0} (takes : S → List ℕ → Result ℕ SourceFailed → S → Type 0) (source_state : S → SourceState) (puts : K → List ℕ → Result ℕ SinkFailed → K → Type 0) (sink_state : K → SinkState) (first : Opening) where
+  -- what is written once the lines that an input ends are answered, and all of its lines
   abbrev complete : List ℕ → List ℕ
-  complete input = replies first (complete_lines input)
+  complete input = written_for first (complete_lines input)
 
   abbrev all : List ℕ → List ℕ
-  all input = replies first (lines_of input)
+  all input = written_for first (lines_of input)
+
+  -- what is due after other replies is due after the opening's text and these
+  after_text : (replied text all_replied : List ℕ) → all_replied ≡ replied ++ text → first.text ++ all_replied ≡ (first.text ++ replied) ++ text
+  after_text replied text all_replied due = ap (λ t. first.text ++ t) due ∙ sym (append_assoc first.text replied text)
+
+  begins_after_text : (replied text all_replied : List ℕ) → IsPrefix (replied ++ text) all_replied → IsPrefix ((first.text ++ replied) ++ text) (first.text ++ all_replied)
+  begins_after_text replied text all_replied (more, is) = (more, after_text (replied ++ text) more all_replied is ∙ ap (λ t. t ++ more) (sym (append_assoc first.text replied text)))
+
+  due_after : (before bytes text : List ℕ) → IsDue first.session before bytes text → complete (before ++ bytes) ≡ complete before ++ text
+  due_after before bytes text due = after_text (replies first.session (complete_lines before)) text (replies first.session (complete_lines (before ++ bytes))) due
+
+  begins_after : (before bytes text more : List ℕ) → BeginsOutput first.session before bytes text → IsPrefix (complete before ++ text) (all (before ++ bytes ++ more))
+  begins_after before bytes text more due = begins_after_text (replies first.session (complete_lines before)) text (replies first.session (lines_of (before ++ bytes ++ more))) (due more)
 
   -- a point of the run
   abbrev at_point : S → K → List ℕ → List ℕ → Point S K
@@ -60,22 +74,42 @@ module _ {S K : Type 0} (takes : S → List ℕ → Result ℕ SourceFailed → 
     pub took : Took (sink_state k) (sink_state l) (complete given)
     pub source_quiet : (source_state t).faults ≡ (source_state s).faults
     pub sink_quiet : (sink_state l).faults ≡ (sink_state k).faults
-    pub stands : IsKeptAfter first session line refused given
+    pub stands : IsKeptAfter first.session session line refused given
     pub limited : length given + room ≡ input_limit
-    pub numbered : session.network.next + length line ≤ 1 + length given
+    pub numbered : session.network.next + length line ≤ first.session.network.next + length given
 
-  pub conversed_first : (s : S) (k : K) (session : Session) (line : List ℕ) (refused : Bool) → IsKeptAfter first session line refused [] → session.network.next + length line ≡ 1 → Conversed s k s k session line refused input_limit
-  conversed_first s k session line refused stands at_one = record {
+  -- the opening's text was put, and nothing is given yet
+  pub conversed_first : (s : S) (k l : K) (line : List ℕ) (refused : Bool) → IsKeptAfter first.session first.session line refused [] → length line ≡ 0 → Wrote puts sink_state k l first.text
+      → Conversed s k s l first.session line refused input_limit
+  conversed_first s k l line refused stands none wrote = record {
     given = [];
-    calls = no_call;
+    calls = subst (λ w. Calls takes puts (start_at first s k) (at_point s l [] w)) (sym (append-nil first.text)) (and_puts first.text no_call wrote.puts);
     gave = gave_nothing (source_state s);
-    took = took_nothing (sink_state k);
+    took = subst (λ w. Took (sink_state k) (sink_state l) w) (sym (append-nil first.text)) wrote.took;
     source_quiet = refl;
-    sink_quiet = refl;
+    sink_quiet = wrote.quiet;
     stands = stands;
     limited = refl;
-    numbered = omega (arith, at_one);
+    numbered = omega (arith, none);
   }
+
+  -- the opening's text could not be put
+  pub opening_failed : (s : S) (k l : K) → StopsWithin (Wrote puts sink_state k l) (PutFailed puts sink_state k l) first.text stops.WriteFault → StopsAt s k s l stops.WriteFault
+  opening_failed s k l (part, (rest, begins), failed) = (
+    [],
+    part,
+    gave_nothing (source_state s),
+    failed.took,
+    (
+      record { rose = failed.rose; begins = (within [], within (told_left (source_state s).left)) },
+      record { last = at_point s failed.before [] part; calls = and_puts part no_call failed.puts; offered = failed.offered; failed = failed.failed; same = refl },
+    ),
+  )
+    where
+      within : (input : List ℕ) → IsPrefix part (all input)
+      within input =
+          let replied = replies first.session (lines_of input) in
+          (rest ++ replied, ap (λ t. t ++ replied) begins ∙ append_assoc part rest replied)
 
   module _ (s : S) (k : K) (t : S) (l : K) (session : Session) (line : List ℕ) (refused : Bool) (room : ℕ) (so_far : Conversed s k t l session line refused room) where
     -- a take may be made
@@ -96,11 +130,11 @@ module _ {S K : Type 0} (takes : S → List ℕ → Result ℕ SourceFailed → 
 
     -- a piece was run, and its replies were put
     abbrev Fed : K → K → List ℕ → Session → List ℕ → Bool → Type 0
-    Fed before after bytes session' line' refused' = IsKeptAfter first session' line' refused' (so_far.given ++ bytes) × ((text : List ℕ) × IsDue first so_far.given bytes text × Wrote puts sink_state before after text)
+    Fed before after bytes session' line' refused' = IsKeptAfter first.session session' line' refused' (so_far.given ++ bytes) × ((text : List ℕ) × IsDue first.session so_far.given bytes text × Wrote puts sink_state before after text)
 
     -- the program stopped within it
     abbrev Stopped : K → K → List ℕ → Stop → Type 0
-    Stopped before after bytes stop = (text : List ℕ) × BeginsOutput first so_far.given bytes text × StopsWithin (Wrote puts sink_state before after) (PutFailed puts sink_state before after) text stop
+    Stopped before after bytes stop = (text : List ℕ) × BeginsOutput first.session so_far.given bytes text × StopsWithin (Wrote puts sink_state before after) (PutFailed puts sink_state before after) text stop
 
     module _ (u : S) (into : List ℕ) (n : ℕ) (step : takes t into (Ok n) u) (gave : Gave (source_state t) (source_state u) (take n into)) (quiet : (source_state u).faults ≡ (source_state t).faults) (small : length into ≤ piece_limit) where
       gave_in_all : Gave (source_state s) (source_state u) (so_far.given ++ take n into)
@@ -114,9 +148,9 @@ module _ {S K : Type 0} (takes : S → List ℕ → Result ℕ SourceFailed → 
       pub conversed_more : (m : K) (session' : Session) (line' : List ℕ) (refused' : Bool) → n ≤ room → length (take n into) ≡ n → session'.network.next + length line' ≤ session.network.next + length line + n → Fed l m (take n into) session' line' refused' → Conversed s k u m session' line' refused' (room - n)
       conversed_more m session' line' refused' fits long next (stands, (text, due, wrote)) = record {
         given = so_far.given ++ take n into;
-        calls = subst (λ w. Calls takes puts (start_at first s k) (at_point u m (so_far.given ++ take n into) w)) (sym due) (and_puts text taken_calls wrote.puts);
+        calls = subst (λ w. Calls takes puts (start_at first s k) (at_point u m (so_far.given ++ take n into) w)) (sym (due_after so_far.given (take n into) text due)) (and_puts text taken_calls wrote.puts);
         gave = gave_in_all;
-        took = subst (λ w. Took (sink_state k) (sink_state m) w) (sym due) (took_more _ _ _ (complete so_far.given) text so_far.took wrote.took);
+        took = subst (λ w. Took (sink_state k) (sink_state m) w) (sym (due_after so_far.given (take n into) text due)) (took_more _ _ _ (complete so_far.given) text so_far.took wrote.took);
         source_quiet = quiet ∙ so_far.source_quiet;
         sink_quiet = wrote.quiet ∙ so_far.sink_quiet;
         stands = stands;
@@ -135,10 +169,10 @@ module _ {S K : Type 0} (takes : S → List ℕ → Result ℕ SourceFailed → 
       )
 
       -- both of what was given and of the whole input
-      begins_due : (bytes rest : List ℕ) → take n into ≡ bytes ++ rest → (text part : List ℕ) → IsPrefix part text → BeginsOutput first so_far.given bytes text → BeginsDue all (so_far.given ++ take n into) (told_left (source_state u).left) (complete so_far.given ++ part)
+      begins_due : (bytes rest : List ℕ) → take n into ≡ bytes ++ rest → (text part : List ℕ) → IsPrefix part text → BeginsOutput first.session so_far.given bytes text → BeginsDue all (so_far.given ++ take n into) (told_left (source_state u).left) (complete so_far.given ++ part)
       begins_due bytes rest cut text part begins due = (
-        subst (λ input. IsPrefix (complete so_far.given ++ part) (all input)) (append-nil (so_far.given ++ take n into)) (begins_within bytes rest [] cut text part begins (due (rest ++ []))),
-        begins_within bytes rest (told_left (source_state u).left) cut text part begins (due (rest ++ told_left (source_state u).left)),
+        subst (λ input. IsPrefix (complete so_far.given ++ part) (all input)) (append-nil (so_far.given ++ take n into)) (begins_within bytes rest [] cut text part begins (begins_after so_far.given bytes text (rest ++ []) due)),
+        begins_within bytes rest (told_left (source_state u).left) cut text part begins (begins_after so_far.given bytes text (rest ++ told_left (source_state u).left) due),
       )
 
       -- what is within the limit of a piece
@@ -197,7 +231,7 @@ module _ {S K : Type 0} (takes : S → List ℕ → Result ℕ SourceFailed → 
               record {
                 quiet = record { source = quiet ∙ so_far.source_quiet; sink = wrote.quiet ∙ so_far.sink_quiet };
                 over = omega (arith, so_far.limited, length-append so_far.given (take n into), long);
-                whole = sym due ∙ ap complete (sym cut);
+                whole = sym (due_after so_far.given (take room into) text due) ∙ ap complete (sym cut);
               },
               and_puts text taken_calls wrote.puts,
             ),
@@ -216,12 +250,13 @@ module _ {S K : Type 0} (takes : S → List ℕ → Result ℕ SourceFailed → 
       -- the reply to what is kept of the last line
       last_written : all so_far.given ≡ complete so_far.given ++ (reply session line).text
       last_written =
-          written_end first session so_far.stands.line refused so_far.given so_far.stands.stands
+          after_text (replies first.session (complete_lines so_far.given)) (reply session so_far.stands.line).text (replies first.session (lines_of so_far.given))
+          (written_end first.session session so_far.stands.line refused so_far.given so_far.stands.stands)
           ∙ ap (λ r. complete so_far.given ++ r.text) (sym (reply_kept session so_far.stands.line line so_far.stands.kept_is))
 
-      last_refused : some_refused first (lines_of so_far.given) ≡ (refused || (reply session line).refused)
+      last_refused : some_refused first.session (lines_of so_far.given) ≡ (refused || (reply session line).refused)
       last_refused =
-          refused_end first session so_far.stands.line refused so_far.given so_far.stands.stands
+          refused_end first.session session so_far.stands.line refused so_far.given so_far.stands.stands
           ∙ ap (λ r. refused || r.refused) (sym (reply_kept session so_far.stands.line line so_far.stands.kept_is))
 
       -- the source is at its end

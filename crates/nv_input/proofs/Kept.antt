@@ -59,7 +59,7 @@ pub kept_first : (first : Session) → IsKeptAfter first first [] false []
 kept_first first = record { line = []; stands = stands_first first; kept_is = refl }
 
 -- an empty line
-read_nothing : read_line [] ≡ Ok Nothing
+pub read_nothing : read_line [] ≡ Ok Nothing
 read_nothing = ap (λ b. and_then (cond (not b) (Err NotUtf8) (Ok [])) said) (is_utf8-from_IsUtf8 [] IsUtf8-nil)
 
 pub reply_nothing : (session : Session) → reply session [] ≡ record { text = []; refused = false; after = session }

@@ -5,8 +5,7 @@ use Rattle.nv_io.specs.State.{SourceState, SinkState}
 use Rattle.nv_io.specs.declared.sink.SinkFailed.{SinkFailed}
 use Rattle.nv_io.specs.declared.source.SourceFailed.{SourceFailed}
 use Rattle.nv_input.specs.Lines.{complete_lines}
-use Rattle.nv_reply.specs.Reply.{replies}
-use Rattle.nv_reply.specs.Session.{Session}
+use Rattle.nv_input.specs.Opening.{Opening, written_for}
 use Rattle.nv_input.specs.declared.status.Status.{Status}
 use Rattle.nv_input.specs.declared.status.Status.TheVariants.{Done, SomeRefused, Usage, ReadFault, WriteFault, InputTooLong, OutOfMemory}
 
@@ -24,16 +23,16 @@ abbrev pub told_left : Option (List ℕ) → List ℕ
 told_left None = []
 told_left (Some bytes) = bytes
 
--- how far a run is: the session before its first line, its source and its sink, the bytes given so far, and those written so far
+-- how far a run is: what it began with, its source and its sink, the bytes given so far, and those written so far
 pub record Point (S K : Type 0) : Type 0 where
-  pub first : Session
+  pub first : Opening
   pub source : S
   pub sink : K
   pub given : List ℕ
   pub written : List ℕ
 
 -- before the first call
-abbrev pub start_at : {S K : Type 0} → Session → S → K → Point S K
+abbrev pub start_at : {S K : Type 0} → Opening → S → K → Point S K
 start_at first source sink = record { first = first; source = source; sink = sink; given = []; written = [] }
 
 -- no more bytes than this are read at a time
@@ -43,7 +42,7 @@ piece_limit = 4096
 -- A take may be made now, into a buffer of this size: each complete line of what was given is answered.
 pub record IsReady {S K : Type 0} (point : Point S K) (size : ℕ) : Type 0 where
   pub small : size ≤ piece_limit
-  pub answered : point.written ≡ replies point.first (complete_lines point.given)
+  pub answered : point.written ≡ written_for point.first (complete_lines point.given)
 
 -- takes and puts that all succeeded, in this order, lead from the start to a point
 pub data Calls {S K : Type 0} (take_gives : S → List ℕ → Result ℕ SourceFailed → S → Type 0) (put_gives : K → List ℕ → Result ℕ SinkFailed → K → Type 0) (start : Point S K) : Point S K → Type 0 where

@@ -4,8 +4,10 @@
 mod answer;
 mod converse;
 mod cut;
+mod opening;
 mod server;
 mod status;
 
 pub use answer::answer_input;
+pub use opening::Opening;
 pub use status::Status;

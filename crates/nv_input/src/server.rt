@@ -1,6 +1,5 @@
 ghost use Rattle.std.specs.Prelude.{◌≡◌, ◌++◌, ◌+◌, ◌<◌, ◌≤◌, ◌||◌, ℕ, List, [], OnOk, IfErr, length, take, false};
 ghost use Rattle.nv_reply.specs.Reply.{flows, ok_line, reply};
-ghost use Rattle.nv_reply.specs.Session.{new_session};
 ghost use Rattle.nv_reply.specs.Session as spec;
 ghost use Rattle.nv_input.specs.inner.Pieces.{IsDue, BeginsOutput};
 ghost use Rattle.nv_input.specs.inner.StateAfter.{IsKeptAfter, and_kept};
@@ -26,14 +25,14 @@ pub struct Server {
 }
 
 impl Server {
-    /// The server before the first line, where a traced packet may take so many hops (not from OVN). It takes no memory.
-    pub fn new(alloc: Global, hops: u8) -> Self
-        ensures session { result.session ≡ new_session hops }
+    /// The server before the first line, which begins from this session (not from OVN). It takes no memory.
+    pub fn new(alloc: Global, session: Session) -> Self
+        ensures session { result.session ≡ session }
         ensures line { result.line.items ≡ [] }
         ensures refused { result.some_refused ≡ false }
     {
         Server {
-            session: Session::new(alloc, hops),
+            session,
             line: Vec::new(alloc),
             some_refused: false,
         }

@@ -1,3 +1,4 @@
 pub mod Below
-pub mod Hops
+pub mod Generate
 pub mod Results
+pub mod Values

@@ -1,12 +1,13 @@
 pub mod Answering
+pub mod Balancing
 pub mod ConnectionLines
 pub mod Datapaths
 pub mod Keeping
-pub mod LearntMacs
 pub mod Listings
 pub mod NeighbourLines
 pub mod Reached
 pub mod Refusals
+pub mod StatesLeft
 pub mod Stops
 pub mod Struck
 pub mod Tracing

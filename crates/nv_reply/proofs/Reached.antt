@@ -16,13 +16,14 @@ use Rattle.nb_model.proofs.Reading.{goes_on}
 use Rattle.nb_model.proofs.Whole.{edit_sound}
 use Rattle.nb_cmds.proofs.ReadableLines.{line_readable}
 use Rattle.nb_cmds.proofs.ShortLines.{line_short}
+use Rattle.nb_cmds.specs.Asked.{IsAsked}
 use Rattle.nb_cmds.proofs.BuiltLines.{line_built}
-use Rattle.nb_model.specs.Plain.{IsBuilt, IsPlain}
-use Rattle.nb_model.proofs.Plain.{edited_plain, empty_plain}
+use Rattle.ls_laws.specs.Steps.{BalancesNone}
 use Rattle.tr_walk.specs.Refined.{IsRefined}
-use Rattle.tr_walk.proofs.Refinement.{plain_is_refined}
+use Rattle.tr_walk.proofs.Refinement.{is_refined}
 use Rattle.nv_reply.specs.Reply.{reply, session_after}
 use Rattle.nv_reply.specs.Session.{Session, new_session}
+use Rattle.nv_reply.proofs.Balancing.{edited_balances, empty_balances}
 use Rattle.nv_reply.proofs.Keeping.{reply_keeps}
 use Rattle.nv_base.specs.Object.{number_limit}
 
@@ -122,24 +123,24 @@ empty_sound = record {
 pub sound_after : (hops : ℕ) (lines : List (List ℕ)) → 1 + sum_by length lines < number_limit → IsSound (session_after (new_session hops) lines).network
 sound_after hops lines room = lines_sound (new_session hops) lines empty_sound room
 
--- built edits leave a plain network plain
-pub plain_edited : (old new : Network) (list : List Edit) → IsPlain old → AllByRecursion IsBuilt list → edited old list ≡ Ok new → IsPlain new
-plain_edited old new list plain built done = IfOk-at_ok IsPlain done (edited_plain old list plain built)
+-- edits that lines ask for attach no load balancer to a switch
+pub edited_none : (old new : Network) (list : List Edit) → BalancesNone old → AllByRecursion IsAsked list → edited old list ≡ Ok new → BalancesNone new
+edited_none old new list none asked done = IfOk-at_ok BalancesNone done (edited_balances old list none asked)
 
--- a line leaves a plain network plain
-pub reply_plain : (session : Session) (line : List ℕ) → IsPlain session.network → IsPlain (reply session line).after.network
-reply_plain session line plain =
-    reply_keeps IsPlain session line plain (λ list net said done.
-    plain_edited session.network net list plain (line_built line list said) done)
+-- nor does a line
+pub reply_none : (session : Session) (line : List ℕ) → BalancesNone session.network → BalancesNone (reply session line).after.network
+reply_none session line none =
+    reply_keeps BalancesNone session line none (λ list net said done.
+    edited_none session.network net list none (line_built line list said) done)
 
-lines_plain : (session : Session) (lines : List (List ℕ)) → IsPlain session.network → IsPlain (session_after session lines).network
-lines_plain session [] plain = plain
-lines_plain session (line ∷ lines) plain = lines_plain (reply session line).after lines (reply_plain session line plain)
+lines_none : (session : Session) (lines : List (List ℕ)) → BalancesNone session.network → BalancesNone (session_after session lines).network
+lines_none session [] none = none
+lines_none session (line ∷ lines) none = lines_none (reply session line).after lines (reply_none session line none)
 
--- and plain
-pub plain_after : (hops : ℕ) (lines : List (List ℕ)) → IsPlain (session_after (new_session hops) lines).network
-plain_after hops lines = lines_plain (new_session hops) lines empty_plain
+-- nor do lines
+pub none_after : (hops : ℕ) (lines : List (List ℕ)) → BalancesNone (session_after (new_session hops) lines).network
+none_after hops lines = lines_none (new_session hops) lines empty_balances
 
--- and so do those of each network that lines leave
+-- and the rows of each network that lines leave do what it means
 pub each_refined : (hops : ℕ) (lines : List (List ℕ)) → 1 + sum_by length lines < number_limit → IsRefined (session_after (new_session hops) lines).network
-each_refined hops lines room = plain_is_refined (session_after (new_session hops) lines).network (sound_after hops lines room) (plain_after hops lines)
+each_refined hops lines room = is_refined (session_after (new_session hops) lines).network (sound_after hops lines room) (none_after hops lines)

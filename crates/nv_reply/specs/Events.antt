@@ -8,6 +8,7 @@ use Rattle.nb_model.specs.Network.{Network}
 use Rattle.nv_table.specs.Table.{record_of}
 use Rattle.sb_model.specs.Stage.{stage_name}
 use Rattle.net_meaning.specs.Cause.{cause_name}
+use Rattle.tr_walk.specs.Events.{is_hit}
 use Rattle.tr_walk.specs.declared.event.Event.{Event}
 use Rattle.tr_walk.specs.declared.event.Event.TheVariants.{Hit, Output, Drop, Reject, HopLimit}
 
@@ -30,12 +31,7 @@ event_line net (Drop dp cause) = codes "drop " ++ datapath_name net dp ++ codes 
 event_line net (Reject port) = codes "reject " ++ port_name net port ++ codes "\n"
 event_line net (HopLimit port) = codes "hop-limit " ++ port_name net port ++ codes "\n"
 
--- a line that `--minimal` leaves out
-abbrev pub is_hit : Event → Bool
-is_hit (Hit hit) = true
-is_hit _ = false
-
--- an event's line, if it is not left out
+-- an event's line, if it is not left out: `--minimal` leaves out those of hits
 abbrev pub told_line : Network → Bool → Event → List ℕ
 told_line net minimal event = if minimal && is_hit event then [] else event_line net event
 

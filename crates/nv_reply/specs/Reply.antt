@@ -1,5 +1,5 @@
 -- What a line is answered, and the session that it leaves.
-use Rattle.std.specs.Prelude.{ℕ, Bool, true, false, ◌||◌, List, [], ◌∷◌, ◌++◌, map, Option, Some, None, ok_or, Result, Ok, Err, if◌then◌else◌, codes}
+use Rattle.std.specs.Prelude.{ℕ, Bool, true, false, ◌||◌, List, [], ◌∷◌, ◌++◌, length, map, Option, Some, None, ok_or, Result, Ok, Err, if◌then◌else◌, codes}
 use Rattle.nv_base.specs.declared.object.ObjId.{ObjId}
 use Rattle.pkt_core.specs.Packet.{Values}
 use Rattle.ct_core.specs.State.{State, with_conns}
@@ -65,6 +65,10 @@ datapaths switches (router ∷ routers) = with_record (λ dp. dp.0) (router.id, 
 -- the listing of the flows of one datapath, or of all
 unfoldable pub flows : Network → Option ObjId → List ℕ
 flows net only = listing (network_rows net) (datapaths net.switches net.routers) only
+
+-- how many rows the network has
+unfoldable pub row_count : Network → ℕ
+row_count net = length (network_rows net)
 
 -- the number of the switch or the router of this name
 abbrev pub wanted_datapath : Network → List ℕ → Result ObjId Refusal

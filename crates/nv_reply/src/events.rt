@@ -1,5 +1,6 @@
 ghost use Rattle.std.specs.Prelude.{◌≡◌, ◌++◌, List, ℕ, OnOk};
-ghost use Rattle.nv_reply.specs.Events.{datapath_name, port_name, event_line, is_hit, told_line, event_lines};
+ghost use Rattle.nv_reply.specs.Events.{datapath_name, port_name, event_line, told_line, event_lines};
+ghost use Rattle.tr_walk.specs.Events.{is_hit};
 ghost use Rattle.tr_walk.specs.declared.event.Event.TheVariants.{Hit, Output, Drop, Reject, HopLimit};
 
 use nb_store::Records;
@@ -49,7 +50,7 @@ fn put_event(records: &Records, event: &Event, out: &mut Vec<u8>) -> Result<(), 
 {
     match event {
         Event::Hit(hit) => put_hit(records, hit, out),
-        Event::Output(port, packet) => put_output(records, *port, packet, out),
+        Event::Output(port, parcel) => put_output(records, *port, parcel.packet(), out),
         Event::Drop(dp, cause) => put_drop(records, *dp, *cause, out),
         Event::Reject(port) => put_reject(records, *port, out),
         Event::HopLimit(port) => put_hop_limit(records, *port, out),

@@ -1,8 +1,8 @@
 ghost use Rattle.std.specs.Prelude.{◌≡◌, ◌+◌, ◌<◌, ℕ, List, codes, length, nat_eq, sum_by};
 ghost use Rattle.std.specs.List.{starts_with};
 ghost use Rattle.nb_model.specs.Sound.{IsSound};
-ghost use Rattle.nb_model.specs.Plain.{IsPlain};
-ghost use Rattle.tr_router.specs.Parts.{KnowsMacs};
+ghost use Rattle.ls_laws.specs.Steps.{BalancesNone};
+ghost use Rattle.tr_router.specs.Parts.{IsState};
 ghost use Rattle.nv_reply.specs.Reply.{reply, session_after};
 ghost use Rattle.nv_reply.specs.Session.{Session, new_session};
 ghost use Rattle.nv_base.specs.Object.{number_limit};
@@ -13,17 +13,15 @@ pub fn lines_leave_sound_networks()
         → IsSound (session_after (new_session hops) lines).network }
 {}
 
-/// Each network that lines leave is plain: it has no NAT rules, and no load balancer is attached to its switches and routers.
-#[tactic(auto, using(crate::proofs::Reached::plain_after))]
-pub fn lines_leave_plain_networks()
-    ensures { (hops : ℕ) (lines : List (List ℕ)) → IsPlain (session_after (new_session hops) lines).network }
+/// In no network that lines leave a load balancer is attached to a switch.
+pub fn lines_balance_no_load_at_switches()
+    ensures { (hops : ℕ) (lines : List (List ℕ)) → BalancesNone (session_after (new_session hops) lines).network }
 {}
 
-/// In each state that lines leave, what was learnt of neighbours are MACs.
-#[tactic(auto, using(crate::proofs::LearntMacs::macs_after))]
-pub fn lines_leave_states_that_know_macs()
+/// In each state that lines leave, connections and neighbours are as many as may be, of numbers that fit.
+pub fn lines_leave_states_that_fit()
     ensures { (hops : ℕ) (lines : List (List ℕ)) → 1 + sum_by length lines < number_limit
-        → KnowsMacs (session_after (new_session hops) lines).state }
+        → IsState (session_after (new_session hops) lines).state }
 {}
 
 /// A reply is a refusal exactly where its text begins with `refused E`. (A router's port may be named `refused`, and a line of `nbr-list`

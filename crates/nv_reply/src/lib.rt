@@ -14,7 +14,7 @@ mod strike;
 
 pub use answer::Answer;
 pub use laws::{
-    lines_leave_plain_networks, lines_leave_sound_networks, lines_leave_states_that_know_macs,
+    lines_balance_no_load_at_switches, lines_leave_sound_networks, lines_leave_states_that_fit,
     refusals_say_so,
 };
 pub use reply::run_line;

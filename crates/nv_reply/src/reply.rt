@@ -3,7 +3,7 @@ ghost use Rattle.std.specs.List.{AllByRecursion};
 ghost use Rattle.nb_records.specs.Refusal.{refusal_line};
 ghost use Rattle.nb_model.specs.Belongs.{is_number};
 ghost use Rattle.nb_model.specs.Readable.{IsReadable};
-ghost use Rattle.nb_model.specs.Plain.{IsBuilt};
+ghost use Rattle.nb_cmds.specs.Asked.{IsAsked};
 ghost use Rattle.nb_store.specs.Places.{on_datapath};
 ghost use Rattle.nv_reply.specs.declared.answer.Answer.TheVariants as answers;
 ghost use Rattle.nv_reply.specs.Reply.{accept, after_trace, flushed, forgotten, ok_line, trace_lines, traced_port, reply_to_query, reply_to, reply};
@@ -54,7 +54,7 @@ fn run_edits(
     out: &mut Vec<u8>,
 ) -> Result<Answer, OutOfMemory>
     requires readable { AllByRecursion IsReadable edits }
-    requires built { AllByRecursion IsBuilt edits }
+    requires asked { AllByRecursion IsAsked edits }
     requires room { session.old.network.next + length edits < number_limit }
     ensures answer { IfOk result (λ answer. IsAnswered (reply_to session.old (Line.Edits edits)) out.old.items out.new.items answer) }
     ensures after { OnOk result (session.new ≡ (reply_to session.old (Line.Edits edits)).after) }
@@ -164,7 +164,7 @@ fn tell_trace(
     ensures answer { IfOk result (λ answer. IsAnswered (accept (trace_lines session.old minimal port packet.now) (after_trace session.old port packet.now)) out.old.items out.new.items answer) }
     ensures after { OnOk result (session.new ≡ after_trace session.old port packet.now) }
 {
-    let events = session.trace(alloc, port, packet)?;
+    let events = session.trace(alloc, port, packet, minimal)?;
     put_events(session.records(), minimal, &events, out)?;
     accept(out)
 }

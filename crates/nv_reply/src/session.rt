@@ -4,9 +4,11 @@ ghost use Rattle.nb_words.specs.Fault.{IsFaultOf};
 ghost use Rattle.nb_model.specs.Readable.{IsReadable};
 ghost use Rattle.nb_model.specs.Sound.{IsSound};
 ghost use Rattle.nb_model.specs.Transactions.{edited};
-ghost use Rattle.nb_model.specs.Plain.{IsBuilt, IsPlain};
+ghost use Rattle.nb_cmds.specs.Asked.{IsAsked};
+ghost use Rattle.ls_laws.specs.Steps.{BalancesNone};
+ghost use Rattle.tr_walk.specs.Events.{told_only};
 ghost use Rattle.tr_walk.specs.Refined.{IsMeant};
-ghost use Rattle.nv_reply.specs.Reply.{after_trace, flows, flushed, forgotten, traced};
+ghost use Rattle.nv_reply.specs.Reply.{after_trace, flows, flushed, forgotten, row_count, traced};
 ghost use Rattle.nv_reply.specs.Session.{new_session};
 ghost use Rattle.nv_reply.specs.Struck.{struck};
 ghost use Rattle.nv_reply.specs.inner.KeptRows.{AreRowsOf};
@@ -48,7 +50,7 @@ impl Model for Session {
     ghost use Rattle.std.specs.Coded.{codes};
     ghost use Rattle.nb_records.specs.contracts.acl.Acl as acl;
     ghost use Rattle.nv_reply.specs.Session as value;
-    ghost use Rattle.nb_model.specs.Plain.{IsPlain};
+    ghost use Rattle.ls_laws.specs.Steps.{BalancesNone};
     ghost use Rattle.nv_reply.specs.inner.KeptRows.{AreKept};
 
     ghost Value = { value.Session };
@@ -57,13 +59,13 @@ impl Model for Session {
 
     ghost view = { λ s. record { network = s.tables; hops = s.hops; state = s.state } };
 
-    ghost invariant = { λ s. IsPlain s.tables × AreKept s.rows s.tables };
+    ghost invariant = { λ s. BalancesNone s.tables × AreKept s.rows s.tables };
 }
 
 impl Session {
     /// The session before the first line: the network without objects, where a traced packet may take so many hops, and no
     /// connection is tracked (not from OVN). It takes no memory.
-    #[tactic(auto, using(nb_model::proofs::Plain::empty_plain))]
+    #[tactic(auto, using(crate::proofs::Balancing::empty_balances))]
     pub fn new(alloc: Global, hops: u8) -> Self
         ensures { result ≡ new_session hops }
     {
@@ -92,10 +94,10 @@ impl Session {
 
     /// Does what all edits of a line ask for, or nothing where one is refused or memory runs out (not from OVN:
     /// ovn-nbctl(8) runs the commands of one call as one transaction). What the state holds of objects that are gone is struck out.
-    #[tactic(auto, using(crate::proofs::Reached::plain_edited, crate::proofs::Struck::struck_after))]
+    #[tactic(auto, using(crate::proofs::Reached::edited_none, crate::proofs::Struck::struck_after))]
     pub fn apply_all(&mut self, alloc: Global, edits: Items<Edit>) -> Result<(), LineFault>
         requires readable { AllByRecursion IsReadable edits }
-        requires built { AllByRecursion IsBuilt edits }
+        requires asked { AllByRecursion IsAsked edits }
         requires room { self.old.network.next + length edits < number_limit }
         ensures done { OnOk result (edited self.old.network edits ≡ Ok self.new.network) }
         ensures hops { self.new.hops ≡ self.old.hops }
@@ -111,16 +113,17 @@ impl Session {
         Ok(())
     }
 
-    /// What the rows do with a packet that comes in by a port (ovn-trace(8)), from the state that earlier packets left; what it
-    /// leaves is kept. The rows are made where the network has changed, and kept. Where memory runs out the answer is
+    /// What the rows do with a packet that comes in by a port (ovn-trace(8)), without hits where the trace is minimal, from the state that
+    /// earlier packets left; what it leaves is kept. The rows are made where the network has changed, and kept. Where memory runs out the answer is
     /// `OutOfMemory`, and the session is as before.
     pub fn trace(
         &mut self,
         alloc: Global,
         port: ObjId,
         packet: &Packet,
+        minimal: bool,
     ) -> Result<Vec<Event>, OutOfMemory>
-        ensures events { IfOk result (λ events. events.items ≡ traced self.old port packet.now) }
+        ensures events { IfOk result (λ events. events.items ≡ told_only minimal (traced self.old port packet.now)) }
         ensures after { OnOk result (self.new ≡ after_trace self.old port packet.now) }
         ensures refinement { IfOk result (λ events. IsMeant self.old.network self.old.hops port packet.now
             (record { before = self.old.state; told = events.items; after = self.new.state })) }
@@ -129,7 +132,16 @@ impl Session {
         let rows = self.take_rows(alloc)?;
         let hops = u32::from(self.hops);
         let records = self.tables.records();
-        let events = trace(alloc, &rows, records, &mut self.state, port, packet, hops)?;
+        let events = trace(
+            alloc,
+            &rows,
+            records,
+            &mut self.state,
+            port,
+            packet,
+            hops,
+            minimal,
+        )?;
         self.rows = Some(rows);
         Ok(events)
     }
@@ -176,6 +188,19 @@ impl Session {
         Ok(())
     }
 
+    /// How many rows the network has (not from OVN). They are made where the network has changed, and kept. Where memory runs out the
+    /// answer is `OutOfMemory`, and the session is as before.
+    #[tactic(auto, unfolding(crate::specs::Reply::row_count))]
+    pub fn count_rows(&mut self, alloc: Global) -> Result<usize, OutOfMemory>
+        ensures count { IfOk result (λ count. count ≡ row_count self.old.network) }
+        ensures same { self.new ≡ self.old }
+    {
+        let rows = self.take_rows(alloc)?;
+        let count = rows.len();
+        self.rows = Some(rows);
+        Ok(count)
+    }
+
     // The rows, made anew where the network has changed. They are no longer kept. It stays a function of its own, in which the
     // bench counts instructions.
     #[inline(never)]
@@ -193,7 +218,7 @@ impl Session {
 // The rows of a network.
 fn rows_of(alloc: Global, records: &Records) -> Result<Rows, OutOfMemory>
     requires sound { IsSound records.now }
-    requires plain { IsPlain records.now }
+    requires none { BalancesNone records.now }
     ensures { IfOk result (λ rows. AreRowsOf rows records.now) }
 {
     full(alloc, records)

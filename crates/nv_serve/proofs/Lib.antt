@@ -1,4 +1,5 @@
 pub mod Endings
 pub mod Lengths
+pub mod Opened
 pub mod Outputs
 pub mod Traced

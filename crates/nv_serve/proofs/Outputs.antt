@@ -1,10 +1,11 @@
 -- How the output of an input goes on with the input.
-use Rattle.std.proofs.Common.{◌≡◌, ℕ, ◌-◌, Bool, true, false, List, [], ◌∷◌, ◌++◌, length, take, refl, sym, ap, ◌∙◌, subst}
+use Rattle.std.proofs.Common.{◌≡◌, ℕ, ◌-◌, Bool, true, false, List, [], ◌∷◌, ◌++◌, length, take, refl, sym, ap, ◌∙◌, subst, append_assoc}
 use Rattle.std.specs.Prelude.{if◌then◌else◌}
 use Rattle.std.proofs.lemmas.List.{append-nil}
 use Rattle.clap.specs.Words.{Text}
 use Rattle.nv_options.specs.Options.{accepts}
 use Rattle.nv_reply.specs.Session.{Session}
+use Rattle.nv_input.specs.Opening.{written_for}
 use Rattle.nv_reply.specs.Reply.{reply, replies, session_after, some_refused}
 use Rattle.nv_input.specs.Lines.{is_newline, lines_of, complete_lines}
 use Rattle.nv_serve.specs.Output.{opened, output, complete_output, usage_line}
@@ -52,18 +53,27 @@ module _ (first : Session) where
   replies_go_on input more = subst (λ text. IsPrefix text (replies first (lines_of ((input ++ 10 ∷ []) ++ more)))) (sym (at_line_end input)) (replies_begin (input ++ 10 ∷ []) more)
 
 -- a text that is due where the arguments are accepted
-pub due_begins : (words : List Text) (input part : List ℕ) → accepts words ≡ true → IsPrefix part (replies (opened words) (lines_of input)) → IsPrefix part (output words input)
-due_begins words input part accepted begins = subst (λ due. IsPrefix part due) (sym (ap (λ b. if b then replies (opened words) (lines_of input) else usage_line) accepted)) begins
+pub due_begins : (words : List Text) (input part : List ℕ) → accepts words ≡ true → IsPrefix part (written_for (opened words) (lines_of input)) → IsPrefix part (output words input)
+due_begins words input part accepted begins = subst (λ due. IsPrefix part due) (sym (ap (λ b. if b then written_for (opened words) (lines_of input) else usage_line) accepted)) begins
+
+-- what begins a text does so after another
+after_front : (front part whole : List ℕ) → IsPrefix part whole → IsPrefix (front ++ part) (front ++ whole)
+after_front front part whole (rest, is) = (rest, ap (λ t. front ++ t) is ∙ sym (append_assoc front part rest))
 
 pub begins : (words : List Text) (input more : List ℕ) → accepts words ≡ true → IsPrefix (complete_output words input) (output words (input ++ more))
-begins words input more accepted = due_begins words (input ++ more) (complete_output words input) accepted (replies_begin (opened words) input more)
+begins words input more accepted =
+    let first = opened words in
+    due_begins words (input ++ more) (complete_output words input) accepted
+    (after_front first.text (replies first.session (complete_lines input)) (replies first.session (lines_of (input ++ more))) (replies_begin first.session input more))
 
 pub goes_on : (words : List Text) (input more : List ℕ) → IsPrefix (output words (input ++ 10 ∷ [])) (output words ((input ++ 10 ∷ []) ++ more))
 goes_on words input more = by (accepts words)
   where
     due : Bool → List ℕ → List ℕ
-    due accepted input = if accepted then replies (opened words) (lines_of input) else usage_line
+    due accepted input = if accepted then written_for (opened words) (lines_of input) else usage_line
 
     by : (accepted : Bool) → IsPrefix (due accepted (input ++ 10 ∷ [])) (due accepted ((input ++ 10 ∷ []) ++ more))
-    by true = replies_go_on (opened words) input more
+    by true =
+        let first = opened words in
+        after_front first.text (replies first.session (lines_of (input ++ 10 ∷ []))) (replies first.session (lines_of ((input ++ 10 ∷ []) ++ more))) (replies_go_on first.session input more)
     by false = ([], sym (append-nil usage_line))

@@ -27,5 +27,5 @@ abbrev pub TracesAreMeant : List Text → List (List ℕ) → Type 0
 TracesAreMeant words lines =
     (before : List (List ℕ)) (line : List ℕ) (later : List (List ℕ)) → lines ≡ before ++ line ∷ later
     → (minimal : Bool) (dp : List ℕ) (micro : Micro) → read_line line ≡ Ok (Query (Trace minimal dp micro))
-    → (arrival : ObjId) → traced_port (session_after (opened words) before).network dp micro.inport ≡ Ok arrival
-    → TellsMeaning (session_after (opened words) before) minimal arrival micro.packet (reply (session_after (opened words) before) line)
+    → (arrival : ObjId) → traced_port (session_after (opened words).session before).network dp micro.inport ≡ Ok arrival
+    → TellsMeaning (session_after (opened words).session before) minimal arrival micro.packet (reply (session_after (opened words).session before) line)

@@ -2,6 +2,7 @@
 #![tactic(auto)]
 
 mod laws;
+mod open;
 mod serve;
 
 pub use laws::{output_goes_on, traces_are_meant};

@@ -2,7 +2,7 @@
 //! is made sooner: the launcher runs a first script with it.
 #![tactic(auto)]
 
-use nv_input::answer_input;
+use nv_input::{Opening, answer_input};
 use nv_io::{StdSink, StdSource};
 use std::process::ExitCode;
 
@@ -12,5 +12,6 @@ const HOPS: u8 = 16;
 fn main(rt: HostRuntime) -> ExitCode {
     let mut source = StdSource::new(rt.stdin());
     let mut sink = StdSink::new(rt.stdout());
-    ExitCode::from(answer_input(rt.alloc(), HOPS, &mut source, &mut sink).code())
+    let opening = Opening::new(rt.alloc(), HOPS);
+    ExitCode::from(answer_input(rt.alloc(), opening, &mut source, &mut sink).code())
 }

@@ -2,7 +2,6 @@ use crate::fixture::{PORT, SWITCH};
 use net_meaning::{Cause, PlainEvent};
 use nv_base::Kept;
 use pkt_core::Packet;
-use tr_walk::Event;
 
 #[test]
 fn events_are_copied(rt: HostRuntime) {
@@ -10,7 +9,5 @@ fn events_are_copied(rt: HostRuntime) {
     assert!(rt; dropped.copy(rt.alloc()) == Ok(dropped));
     assert!(rt; dropped != PlainEvent::Drop(PORT, Cause::Unknown));
     assert!(rt; dropped != PlainEvent::Output(SWITCH, Packet::zero()));
-    let walked = Event::Drop(SWITCH, Cause::Unknown);
-    assert!(rt; walked.copy(rt.alloc()) == Ok(walked));
     assert!(rt; Cause::PortSec.copy(rt.alloc()) == Ok(Cause::PortSec));
 }

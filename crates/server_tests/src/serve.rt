@@ -28,6 +28,26 @@ Datapath: sw0  Pipeline: egress
 ok
 ";
 
+// What a run with a generated network writes whose script is `dump`, and one whose script adds a switch that is there.
+const GENERATED_AND_DUMPED: &str = "generated switches=1 ports=1 rows=53
+# nb-dump 1
+lr-add gr
+ls-add g0
+lrp-add gr r0 02:01:00:00:00:00 10.1.0.1/24
+lsp-add g0 s0
+lsp-set-type s0 router
+lsp-set-options s0 router-port=r0
+lsp-set-addresses s0 router
+acl-add g0 to-lport 1000 'ip4 && tcp.dst == 22' drop
+lsp-add g0 p0
+lsp-set-addresses p0 '02:00:00:00:00:00 10.1.0.2'
+ok
+";
+
+const GENERATED_AND_REFUSED: &str = "generated switches=2 ports=101 rows=484
+refused E10 Exists g1
+";
+
 // Room for the output of any script here.
 const ROOM: usize = 8192;
 
@@ -99,12 +119,36 @@ fn arguments_are_refused(rt: HostRuntime) {
     let mut source = source_of("ls-add a\n", &[], rt.alloc(), &rt);
     // Where there is room for six bytes, the put after them is the last.
     for (room, expected, written) in [
-        (ROOM, Status::Usage, "usage: ovn_nd [--hops N]\n"),
+        (
+            ROOM,
+            Status::Usage,
+            "usage: ovn_nd [--hops N] [--generate N]\n",
+        ),
         (6, Status::WriteFault, "usage:"),
     ] {
         let mut sink = sink_of(room, &[], rt.alloc(), &rt);
         let status = run(rt.alloc(), &arguments, &mut source, &mut sink);
         assert!(rt; (status, source.takes()) == (expected, 0));
+        assert!(rt; sink.as_slice() == written.as_bytes());
+    }
+}
+
+#[test]
+fn a_run_begins_with_a_generated_network(rt: HostRuntime) {
+    for (ports, script, expected, written) in [
+        ("1", "dump\n", Status::Done, GENERATED_AND_DUMPED),
+        (
+            "101",
+            "ls-add g1\n",
+            Status::SomeRefused,
+            GENERATED_AND_REFUSED,
+        ),
+    ] {
+        let arguments = texts(&["ovn_nd", "--generate", ports], rt.alloc(), &rt);
+        let mut source = source_of(script, &[], rt.alloc(), &rt);
+        let mut sink = sink_of(ROOM, &[], rt.alloc(), &rt);
+        let status = run(rt.alloc(), &arguments, &mut source, &mut sink);
+        assert!(rt; status == expected);
         assert!(rt; sink.as_slice() == written.as_bytes());
     }
 }

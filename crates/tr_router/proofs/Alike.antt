@@ -37,6 +37,10 @@ pub record StandsFor (out : ℕ) (own packet : Values) : Type 0 where
   pub same : (field : Field) → goes_on field ≡ true → value own field ≡ value packet field
   pub leaves : value own Outport ≡ out
 
+-- it leaves by the number that it has
+pub leaving_as : (out : ℕ) (own packet : Values) → StandsFor out own packet → StandsFor (value own Outport) own packet
+leaving_as out own packet it = record { long_own = it.long_own; long = it.long; same = it.same; leaves = refl }
+
 -- ---- what is carried
 
 -- packets of the same numbers of header fields have the same header
@@ -94,7 +98,7 @@ module _ (out : ℕ) (a b : Values) (it : StandsFor out a b) where
   pub same_carries : (protocol : ℕ) → carries a protocol ≡ carries b protocol
   same_carries protocol = rw (it.same EthType refl, it.same IpProto refl) refl
 
-  same_icmp_error : is_icmp_error a ≡ is_icmp_error b
+  pub same_icmp_error : is_icmp_error a ≡ is_icmp_error b
   same_icmp_error = rw (same_carries 1, it.same Icmp4Type refl) refl
 
   pub same_meets : (needed : Prerequisite) → meets a needed ≡ meets b needed

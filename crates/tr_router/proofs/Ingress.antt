@@ -1,10 +1,10 @@
 -- The ingress of a router does what the router does with a packet that arrives.
-use Rattle.std.proofs.Common.{◌≡◌, ℕ, Bool, true, false, cond, [], ◌∷◌, sym, ap, refl, subst, ◌∙◌}
+use Rattle.std.proofs.Common.{◌≡◌, ℕ, eqb, Bool, true, false, cond, [], ◌∷◌, sym, ap, refl, subst, ◌∙◌}
 use Rattle.std.proofs.lemmas.Bool.{false≢true}
 use Rattle.std.specs.Prelude.{Option, Some, None}
 use Rattle.std.specs.List.{Contains}
 use Rattle.nv_base.specs.declared.field.Field.{Field}
-use Rattle.nv_base.specs.declared.field.Field.TheVariants.{Inport, Outport, EthType, ArpSpa, ArpSha, Reg6}
+use Rattle.nv_base.specs.declared.field.Field.TheVariants.{Inport, Outport, EthType, ArpSpa, ArpSha, Reg6, CtState}
 use Rattle.nv_base.specs.declared.object.ObjId.{ObjId}
 use Rattle.pkt_core.specs.Packet.{Values, IsPacket, value, with_value}
 use Rattle.pkt_core.specs.Prerequisite.{is_ip4}
@@ -12,7 +12,6 @@ use Rattle.ct_core.specs.State.{State}
 use Rattle.nb_records.specs.declared.router.Router.{Router}
 use Rattle.nb_records.specs.declared.router.RouterPort.{RouterPort}
 use Rattle.nb_model.specs.Network.{Network}
-use Rattle.nb_model.specs.Plain.{IsPlain}
 use Rattle.nb_model.specs.Sound.{IsSound}
 use Rattle.sb_model.specs.Stage.{all_stages, stage_at}
 use Rattle.sb_model.specs.declared.stage.Pipeline.TheVariants.{Ingress}
@@ -23,31 +22,36 @@ use Rattle.net_meaning.specs.Walk.Passed.{Drops}
 use Rattle.net_meaning.specs.declared.cause.Cause.TheVariants.{Admission}
 use Rattle.net_router.specs.Input.{after_learning, is_admitted, taken_in}
 use Rattle.net_router.specs.Routers.{arriving_at, did, redirected_on, routed, taken_by, then_on, unless_taken}
-use Rattle.net_router.specs.Translation.{Changed, unsnatted}
+use Rattle.net_router.specs.Translation.{Changed, dnatted, unsnatted}
+use Rattle.net_router.specs.Translation.Changed.{Onward, Stopped}
 use Rattle.tr_stage.specs.Machine.{Flows}
 use Rattle.tr_stage.specs.declared.outcome.Outcome.TheVariants as outcomes
-use Rattle.tr_pipe.specs.Machine.{PipelineRun, go_on, run_from, run_pipeline}
+use Rattle.tr_pipe.specs.Machine.{PipelineRun, StageEnd, go_on, run_from, run_pipeline}
 use Rattle.tr_pipe.specs.Machine.StageEnd.{On, Ends}
 use Rattle.tr_pipe.specs.Tracking.{Flight, coming}
 use Rattle.tr_pipe.proofs.Steps.{pipeline_begins}
 use Rattle.ls_laws.proofs.Packets.{fits_with, other_value, set_value}
-use Rattle.lr_laws.specs.Steps.{IsOnRouter, IsPortOf, TranslatesNone, admitted, flows_at, going_back, taken_or_passed}
+use Rattle.lr_laws.specs.Steps.{IsOnRouter, IsPortOf, admitted, flows_at, going_back, taken_or_passed}
 use Rattle.lr_laws.proofs.Admission.{admits}
 use Rattle.lr_laws.proofs.Changes.{number_after}
 use Rattle.lr_laws.proofs.Learning.{learns}
-use Rattle.lr_laws.proofs.PassingStages.{passes-LrInUnsnat, passes-LrInDefrag, passes-LrInDnat}
 use Rattle.lr_laws.proofs.TakenIn.{takes_in}
-use Rattle.tr_router.specs.Parts.{Arrives, DoArrive, DoesPart, KnowsMacs}
-use Rattle.tr_router.proofs.Alike.{StandsFor, both_given, goes_on as goes_along, same_ip4}
-use Rattle.tr_router.proofs.Formed.{learning_macs}
-use Rattle.tr_router.proofs.Networks.{mac_fits, of_router, on_router, router_there, translates_none}
-use Rattle.tr_router.proofs.Plain.{dnatted_is, unsnatted_is}
+use Rattle.lr_nat_laws.specs.Steps.{IsFlagged, redirected_by}
+use Rattle.lr_nat_laws.proofs.Defragging.{defrags}
+use Rattle.lr_nat_laws.proofs.Redirecting.{redirects_new}
+use Rattle.lr_nat_laws.proofs.Unsnatting.{unsnats}
+use Rattle.tr_router.specs.Parts.{Arrives, DoArrive, DoesPart, IsState, IsUnseen}
+use Rattle.tr_router.proofs.Alike.{StandsFor, both_given, goes_on as goes_along, leaving_as, same_ip4}
+use Rattle.tr_router.proofs.Arriving as arriving
+use Rattle.tr_router.proofs.Comes.{Comes}
+use Rattle.tr_router.proofs.Formed.{learning_state}
+use Rattle.tr_router.proofs.Networks.{mac_fits, number_fits, of_router, on_router, router_there}
 use Rattle.tr_router.proofs.Routed.{routed_is}
 use Rattle.tr_router.proofs.Runs.{after_step}
 use Rattle.tr_router.proofs.Taken.{TakenAs, passed_on_is, taken_as}
 
-module _ (net : Network) (sound : IsSound net) (plain : IsPlain net) (router : Router) (among : Contains net.routers router) (port : RouterPort) (its : IsPortOf net router port) (packet : Values) (state : State) (formed : IsPacket packet)
-    (knows : KnowsMacs state) (came : value packet Inport ≡ port.id.0) where
+module _ (net : Network) (sound : IsSound net) (router : Router) (among : Contains net.routers router) (port : RouterPort) (its : IsPortOf net router port) (packet : Values) (state : State) (formed : IsPacket packet)
+    (unseen : IsUnseen packet) (are : IsState state) (came : value packet Inport ≡ port.id.0) where
   abbrev flows : Flows
   flows = flows_at net router.id
 
@@ -56,9 +60,6 @@ module _ (net : Network) (sound : IsSound net) (plain : IsPlain net) (router : R
 
   on : (k : Values) → IsPacket k → IsOnRouter net router k
   on k is = on_router net sound router among k is
-
-  translates_nothing : TranslatesNone net router
-  translates_nothing = translates_none net sound plain router
 
   -- ---- the packet that is admitted
 
@@ -107,25 +108,63 @@ module _ (net : Network) (sound : IsSound net) (plain : IsPlain net) (router : R
   abbrev flight : State → Flight
   flight after = record { packet = own; look = None; state = after }
 
-  -- no address changes
-  meant : redirected_on net port (unsnatted net port.router later.conns packet) later ≡ routed net port packet later
-  meant =
-      ap (λ p. redirected_on net port p later) (unsnatted_is net plain port.router packet later) ∙ ap (λ (c : Changed). then_on c later (routed net port)) (dnatted_is net plain port.router packet later)
+  pub unseen_own : IsUnseen own
+  unseen_own = other_value packet Reg6 CtState port.mac refl ∙ unseen
+
+  pub are_later : IsState later
+  are_later = learning_state port packet state (number_fits net sound port its.0) formed are
+
+  -- the packet that comes to the stages which change addresses, where it is one of IPv4
+  module _ (ip4 : is_ip4 own ≡ true) where
+    abbrev pub first : Flight
+    first = arriving.first net sound router among own packet later own_is unseen_own are_later ip4 stands
+
+    pub first_is : IsPacket first.packet
+    first_is = arriving.back_is net sound router among own packet later own_is unseen_own are_later ip4 stands
+
+    abbrev pub second : Flight
+    second = arriving.second net sound router among own packet later own_is unseen_own are_later ip4 stands
+
+    pub second_is : IsPacket second.packet
+    second_is = arriving.second_is net sound router among own packet later own_is unseen_own are_later ip4 stands
+
+    pub second_ip4 : is_ip4 second.packet ≡ true
+    second_ip4 = arriving.second_ip4 net sound router among own packet later own_is unseen_own are_later ip4 stands
+
+    pub second_flagged : IsFlagged second
+    second_flagged = arriving.second_flagged net sound router among own packet later own_is unseen_own are_later ip4 stands
+
+    pub comes : Comes own LrInIpRouting later (redirected_by net router.id second second.look) (dnatted net router.id (unsnatted net router.id later.conns packet) later)
+    comes = arriving.arriving_comes net sound router among own packet later own_is unseen_own are_later ip4 stands
+
+    -- by these stages it comes to routing as the router has it
+    on_router_is : does (run_from flows 125 LrInUnsnat (flight later)) (then_on (dnatted net router.id (unsnatted net router.id later.conns packet) later) later (routed net port))
+    on_router_is =
+        let end = then_on (dnatted net router.id (unsnatted net router.id later.conns packet) later) later (routed net port) in
+        after_step Arrives flows end 124 LrInUnsnat (flight later) (On LrInDefrag first) (unsnats net router (flight later) (on own own_is) ip4)
+        (after_step Arrives flows end 123 LrInDefrag first (On LrInDnat second) (defrags net router first (on first.packet first_is))
+        (after_step Arrives flows end 122 LrInDnat second (redirected_by net router.id second second.look) (redirects_new net router second (on second.packet second_is) second_ip4 second_flagged)
+        (by (redirected_by net router.id second second.look) (dnatted net router.id (unsnatted net router.id later.conns packet) later) comes)))
+      where
+        by : (of_rows : StageEnd) (of_router : Changed) → Comes own LrInIpRouting later of_rows of_router → does (go_on (run_from flows 122) of_rows) (then_on of_router later (routed net port))
+        by of_rows (Onward p after) at =
+            let reached = at.2 in
+            subst (λ (e : StageEnd). does (go_on (run_from flows 122) e) (routed net port p after)) (sym at.1)
+            (subst (λ (s : State). does (run_from flows 122 LrInIpRouting at.0) (routed net port p s)) reached.state_is
+            (routed_is net sound router among port its at.0 reached.formed reached.are (reached.lasting Inport refl ∙ came_own) p
+            (leaving_as (value own Outport) at.0.packet p reached.stands) (ap (λ n. eqb n 0x800) (reached.lasting EthType refl) ∙ ip4)))
+        by of_rows (Stopped cause) is = subst (λ (e : StageEnd). does (go_on (run_from flows 122) e) (did (Drops cause) later)) (sym is) (record { passes = refl; leaves = refl })
 
   on_its_way : taken_in net port packet ≡ None → does (run_from flows 125 LrInUnsnat (flight later)) (redirected_on net port (unsnatted net port.router later.conns packet) later)
   on_its_way none =
-      let end = routed net port packet later in
       let passed = passed_on_is net port later (run_from flows 125) (going_back port own) packet back none in
-      subst (does (run_from flows 125 LrInUnsnat (flight later))) (sym meant)
-      (after_step Arrives flows end 124 LrInUnsnat (flight later) (On LrInDefrag (flight later)) (passes-LrInUnsnat net router (flight later) (on own own_is) translates_nothing)
-      (after_step Arrives flows end 123 LrInDefrag (flight later) (On LrInDnat (flight later)) (passes-LrInDefrag net router (flight later) (on own own_is) translates_nothing)
-      (after_step Arrives flows end 122 LrInDnat (flight later) (On LrInIpRouting (flight later)) (passes-LrInDnat net router (flight later) (on own own_is) translates_nothing)
-      (routed_is net sound plain router among port its (flight later) own_is (learning_macs port packet state formed knows) came_own packet stands (same_ip ∙ passed.0)))))
+      subst (λ (d : ObjId). does (run_from flows 125 LrInUnsnat (flight later)) (then_on (dnatted net d (unsnatted net d later.conns packet) later) later (routed net port))) (sym its.1)
+      (on_router_is (same_ip ∙ passed.0))
 
   input_is : does (run_from flows 126 LrInIpInput (flight later)) (taken_by net port packet later)
   input_is =
       after_step Arrives flows (taken_by net port packet later) 125 LrInIpInput (flight later) (taken_or_passed (taken_in net port (going_back port own)) (flight later))
-      (takes_in net router (flight later) (on own own_is) translates_nothing port its came_own (set_value packet Reg6 port.mac formed.count))
+      (takes_in net router (flight later) (on own own_is) port its came_own (set_value packet Reg6 port.mac formed.count))
       (by (taken_in net port (going_back port own)) (taken_in net port packet) refl (taken_as net port later (run_from flows 125) (going_back port own) packet back))
     where
       by : (of_rows of_router : Option Passed) → taken_in net port packet ≡ of_router → TakenAs net port later (run_from flows 125) of_rows of_router
@@ -154,9 +193,9 @@ module _ (net : Network) (sound : IsSound net) (plain : IsPlain net) (router : R
       by true = learn_is
       by false = record { passes = refl; leaves = refl }
 
-module _ (net : Network) (sound : IsSound net) (plain : IsPlain net) where
+module _ (net : Network) (sound : IsSound net) where
   pub do_arrive : DoArrive net
-  do_arrive port packet state there formed knows came =
+  do_arrive port packet state there formed unseen are came =
       let of = router_there net sound port there in
       subst (λ (d : ObjId). DoesPart Arrives (run_pipeline (flows_at net d) Ingress 0 packet state) (arriving_at net port packet state)) (sym of.2)
-      (ingress_is net sound plain of.0 of.1 port (there, of.2) packet state formed knows came)
+      (ingress_is net sound of.0 of.1 port (there, of.2) packet state formed unseen are came)

@@ -8,7 +8,7 @@ use Rattle.std.proofs.lemmas.Bool.{and_parts, ltb-true}
 use Rattle.std.proofs.lemmas.Option.{same_Some, none-some}
 use Rattle.nv_base.specs.declared.ip4.Ip4.{Ip4}
 use Rattle.ct_core.specs.declared.neighbour.Neighbour.{Neighbour}
-use Rattle.ct_core.specs.Neighbours.{is_of, mac_of}
+use Rattle.ct_core.specs.Neighbours.{IsNeighbour, is_of, mac_of}
 use Rattle.ct_core.specs.State.{State}
 use Rattle.nb_read.specs.Readings.{is_unicast}
 use Rattle.nb_records.specs.declared.router.Binding.{Binding}
@@ -28,7 +28,7 @@ use Rattle.net_router.specs.Resolution.{bound_mac, is_beside, mac_at, mac_beyond
 use Rattle.net_rows.proofs.Pairs.{every_member}
 use Rattle.net_rows.proofs.Sound.{each_passes, port_of_sound, ports_rise}
 use Rattle.lr_laws.proofs.Hosts.{IsFirst, first-gives}
-use Rattle.tr_router.specs.Parts.{KnowsMacs}
+use Rattle.tr_router.specs.Parts.{IsState}
 use Rattle.tr_router.proofs.Networks.{mac_fits}
 
 abbrev pub IsMac : ℕ → Type 0
@@ -88,13 +88,13 @@ module _ (net : Network) (sound : IsSound net) where
       let first : IsFirst (is_beside peer) (mac_at net ip) net.ports mac = first-gives (is_beside peer) (mac_at net ip) net.ports mac (ports_rise net sound) at in
       at_fits ip first.port first.among mac first.finds_it
 
-  module _ (state : State) (knows : KnowsMacs state) where
+  module _ (state : State) (are : IsState state) where
     learnt_fits : (port : RouterPort) (ip : Ip4) → IsMac (mac_of state.nbrs port.id ip)
     learnt_fits port ip = by (find (is_of port.id ip) state.nbrs) refl
       where
         by : (found : Option Neighbour) → find (is_of port.id ip) state.nbrs ≡ found → IsMac (option_map_or (λ (n : Neighbour). n.mac) found 0)
         by None is = lit< tt
-        by (Some n) is = every_member (λ (x : Neighbour). x.mac < 2 ^ 48) state.nbrs n knows (found_there (is_of port.id ip) n state.nbrs is).0
+        by (Some n) is = (every_member IsNeighbour state.nbrs n are.nbrs.fit (found_there (is_of port.id ip) n state.nbrs is).0).mac
 
     -- so it is with that of the next host
     pub mac_for_fits : (port : RouterPort) (ip : Ip4) → mac_for net port ip state.nbrs < 2 ^ 48

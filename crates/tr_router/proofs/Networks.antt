@@ -1,5 +1,5 @@
 -- What soundness says of routers and their ports, for the pipelines of these.
-use Rattle.std.proofs.Common.{◌≡◌, ◌<◌, ◌^◌, Bool, true, false, nat_lt, List, [], ◌∷◌, sym, refl, ◌∙◌, arith}
+use Rattle.std.proofs.Common.{◌≡◌, ◌<◌, ◌^◌, Bool, true, false, nat_lt, List, [], ◌∷◌, sym, refl, ◌∙◌, arith, subst}
 use Rattle.std.specs.Prelude.{is_some}
 use Rattle.std.specs.List.{Contains, find}
 use Rattle.std.proofs.lemmas.Bool.{and_parts, eqb-true, ltb-true}
@@ -10,7 +10,6 @@ use Rattle.nb_records.specs.declared.router.RouterPort.{RouterPort}
 use Rattle.nb_records.specs.declared.switch.Switch.{Switch}
 use Rattle.nb_model.specs.Belongs.{is_among}
 use Rattle.nb_model.specs.Network.{Network, same}
-use Rattle.nb_model.specs.Plain.{IsPlain}
 use Rattle.nb_model.specs.Sound.{IsSound, router_ids, router_port_ids}
 use Rattle.nb_model.proofs.Kept.{is_used}
 use Rattle.nb_model.proofs.Lists.{same_is}
@@ -21,8 +20,7 @@ use Rattle.net_rows.proofs.Sound.{each_passes}
 use Rattle.lr_units.proofs.Numbers.{switch_is_no_router}
 use Rattle.lr_units.proofs.SoundRouters.{router_port_is_sound}
 use Rattle.tr_stage.specs.Machine.{kind_of}
-use Rattle.lr_laws.specs.Steps.{IsOnRouter, TranslatesNone, flows_at}
-use Rattle.tr_router.proofs.Plain.{no_lbs, no_nats}
+use Rattle.lr_laws.specs.Steps.{IsOnRouter, flows_at}
 
 -- a number that none has is that of no switch
 none_numbered : (number : ObjId) (switches : List Switch) → ((s : Switch) → Contains switches s → same number s.id ≡ false) → is_some (find (λ (s : Switch). same number s.id) switches) ≡ false
@@ -57,10 +55,16 @@ module _ (net : Network) (sound : IsSound net) where
       let below = ltb-true port.id.0 net.next (and_parts (nat_lt 0 port.id.0) (nat_lt port.id.0 net.next) used).1 in
       omega (arith, below, sound.numbered.room)
 
+  -- and so does the number of a router
+  pub router_number_fits : (router : Router) → Contains net.routers router → router.id.0 < 2 ^ 32
+  router_number_fits router there =
+      let used = each_passes (is_used net.next) (router_ids net) router.id (are_used net sound.numbered.below).routers (Contains-map (λ (r : Router). r.id) net.routers router there) in
+      let below = ltb-true router.id.0 net.next (and_parts (nat_lt 0 router.id.0) (nat_lt router.id.0 net.next) used).1 in
+      omega (arith, below, sound.numbered.room)
+
+  pub its_router_fits : (port : RouterPort) → Contains net.router_ports port → port.router.0 < 2 ^ 32
+  its_router_fits port there = let of = router_there port there in subst (λ (d : ObjId). d.0 < 2 ^ 32) (sym of.2) (router_number_fits of.0 of.1)
+
   -- what the laws of the stages ask
   pub on_router : (router : Router) → Contains net.routers router → (packet : Values) → IsPacket packet → IsOnRouter net router packet
   on_router router there packet formed = record { sound = sound; among = there; formed = formed }
-
-  -- a router of a plain network translates no addresses
-  pub translates_none : IsPlain net → (router : Router) → TranslatesNone net router
-  translates_none plain router = record { no_nats = no_nats net plain router.id; no_lbs = no_lbs net plain router.id }

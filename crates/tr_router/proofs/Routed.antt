@@ -15,7 +15,6 @@ use Rattle.ct_core.specs.State.{State}
 use Rattle.nb_records.specs.declared.router.Router.{Router}
 use Rattle.nb_records.specs.declared.router.RouterPort.{RouterPort}
 use Rattle.nb_model.specs.Network.{Network}
-use Rattle.nb_model.specs.Plain.{IsPlain}
 use Rattle.nb_model.specs.Sound.{IsSound}
 use Rattle.sb_model.specs.declared.stage.Stage.TheVariants.{LrInIpRouting, LrInArpResolve, LrInArpRequest}
 use Rattle.net_meaning.specs.Switches.{Did}
@@ -37,7 +36,7 @@ use Rattle.lr_laws.proofs.Changes.{changed_value, number_after}
 use Rattle.lr_laws.proofs.Requests.{asks}
 use Rattle.lr_laws.proofs.Resolution.{resolves}
 use Rattle.lr_laws.proofs.RoutedPackets.{routes}
-use Rattle.tr_router.specs.Parts.{Arrives, Carries, DoesPart, KnowsMacs}
+use Rattle.tr_router.specs.Parts.{Arrives, Carries, DoesPart, IsState}
 use Rattle.tr_router.proofs.Alike.{StandsFor, both_carry, both_given, carried_same, goes_on as goes_along}
 use Rattle.tr_router.proofs.Formed.{Fit, fits_values}
 use Rattle.tr_router.proofs.Hops.{IsHop, hop_is}
@@ -56,8 +55,8 @@ zero_at _ = refl
 no_working : (packet : Values) (field : Field) → is_header field ≡ true → value (workings packet) field ≡ 0
 no_working packet field header = only_value packet is_working field ∙ rw header refl
 
-module _ (net : Network) (sound : IsSound net) (plain : IsPlain net) (router : Router) (among : Contains net.routers router) (arrival : RouterPort) (its : IsPortOf net router arrival) (flight : Flight) (formed : IsPacket flight.packet)
-    (knows : KnowsMacs flight.state) (came : value flight.packet Inport ≡ arrival.id.0) (packet : Values) (it : StandsFor (value flight.packet Outport) flight.packet packet) where
+module _ (net : Network) (sound : IsSound net) (router : Router) (among : Contains net.routers router) (arrival : RouterPort) (its : IsPortOf net router arrival) (flight : Flight) (formed : IsPacket flight.packet)
+    (are : IsState flight.state) (came : value flight.packet Inport ≡ arrival.id.0) (packet : Values) (it : StandsFor (value flight.packet Outport) flight.packet packet) where
   abbrev flows : Flows
   flows = flows_at net router.id
 
@@ -184,7 +183,7 @@ module _ (net : Network) (sound : IsSound net) (plain : IsPlain net) (router : R
         after_step Arrives flows (did (sent_to arrival hop packet (mac_of hop.via)) state) 120 LrInArpResolve (with_packet flight sent) (On LrInArpRequest (resolved net hop.port (with_packet flight sent)))
         (resolves net router (with_packet flight sent) (on sent sent_is) hop.port (of.port, of.of_router) (sent_at Outport))
         (subst (λ n. does (run_from flows 120 LrInArpRequest (with_mac (mac_of (address n)))) (did (sent_to arrival hop packet (mac_of hop.via)) state)) (sym (sent_at Reg0))
-        (request_is (mac_of hop.via) (mac_for_fits net sound state knows hop.port hop.via)))
+        (request_is (mac_of hop.via) (mac_for_fits net sound state are hop.port hop.via)))
 
   -- ---- the hop
 

@@ -4,7 +4,7 @@ use Rattle.std.specs.Prelude.{Option, Some, None}
 use Rattle.std.specs.List.{Contains}
 use Rattle.std.proofs.lemmas.Bool.{false≢true, ltb-false}
 use Rattle.nv_base.specs.Ip4.{address}
-use Rattle.nv_base.specs.declared.field.Field.TheVariants.{Inport, Outport, EthDst, IpTtl, Ip4Src, Ip4Dst, Reg0, Reg6}
+use Rattle.nv_base.specs.declared.field.Field.TheVariants.{Inport, Outport, EthDst, EthType, IpTtl, Ip4Src, Ip4Dst, Reg0, Reg6}
 use Rattle.nv_base.specs.declared.ip4.Ip4.{Ip4}
 use Rattle.nv_base.specs.declared.object.ObjId.{ObjId}
 use Rattle.pkt_core.specs.Packet.{Values, IsPacket, value}
@@ -13,7 +13,6 @@ use Rattle.ct_core.specs.State.{State}
 use Rattle.nb_records.specs.declared.router.Router.{Router}
 use Rattle.nb_records.specs.declared.router.RouterPort.{RouterPort}
 use Rattle.nb_model.specs.Network.{Network}
-use Rattle.nb_model.specs.Plain.{IsPlain}
 use Rattle.nb_model.specs.Sound.{IsSound}
 use Rattle.sb_model.specs.declared.stage.Stage.{Stage}
 use Rattle.sb_model.specs.declared.stage.Stage.TheVariants.{LrInAdmission, LrInLearnNeighbor, LrInIpInput, LrInUnsnat, LrInDefrag, LrInDnat, LrInIpRouting, LrInArpResolve, LrInArpRequest}
@@ -24,6 +23,8 @@ use Rattle.net_meaning.specs.declared.answer.Answer.TheVariants as answer
 use Rattle.net_meaning.specs.declared.cause.Cause.TheVariants.{Admission}
 use Rattle.net_router.specs.Input.{is_admitted, taken_in}
 use Rattle.net_router.specs.Routing.{Hop, hop_for}
+use Rattle.net_router.specs.Translation.{Changed, dnatted, unsnatted}
+use Rattle.net_router.specs.Translation.Changed.{Onward, Stopped}
 use Rattle.tr_stage.specs.Machine.{Flows}
 use Rattle.tr_stage.specs.declared.outcome.Outcome.{Outcome}
 use Rattle.tr_stage.specs.declared.outcome.Outcome.TheVariants as outcomes
@@ -31,21 +32,24 @@ use Rattle.tr_pipe.specs.Machine.{StageEnd, run_from, step}
 use Rattle.tr_pipe.specs.Machine.StageEnd.{On, Ends}
 use Rattle.tr_pipe.specs.Tracking.{Flight, coming, with_packet}
 use Rattle.ls_laws.proofs.Packets.{fits_with, set_value}
-use Rattle.lr_laws.specs.Steps.{IsOnRouter, IsPortOf, TranslatesNone, admitted, asked, asking, flows_at, going_back, resolved, sent_by, taken, taken_or_passed}
+use Rattle.lr_laws.specs.Steps.{IsOnRouter, IsPortOf, admitted, asked, asking, flows_at, going_back, resolved, sent_by, taken, taken_or_passed}
 use Rattle.lr_laws.proofs.Admission.{admits}
 use Rattle.lr_laws.proofs.Learning.{learns}
-use Rattle.lr_laws.proofs.PassingStages.{passes-LrInUnsnat, passes-LrInDefrag, passes-LrInDnat}
 use Rattle.lr_laws.proofs.Requests.{asks}
 use Rattle.lr_laws.proofs.Resolution.{resolves}
 use Rattle.lr_laws.proofs.RoutedPackets.{routes}
 use Rattle.lr_laws.proofs.TakenIn.{takes_in}
-use Rattle.tr_router.specs.Parts.{HasTimeLeft, KnowsMacs, after_steps}
-use Rattle.tr_router.proofs.Alike.{StandsFor, same_ip4}
-use Rattle.tr_router.proofs.Formed.{learning_macs}
+use Rattle.lr_nat_laws.specs.Steps.{redirected_by}
+use Rattle.lr_nat_laws.proofs.Defragging.{defrags}
+use Rattle.lr_nat_laws.proofs.Redirecting.{redirects_new}
+use Rattle.lr_nat_laws.proofs.Unsnatting.{unsnats}
+use Rattle.tr_router.specs.Parts.{HasTimeLeft, IsState, IsUnseen, after_steps}
+use Rattle.tr_router.proofs.Alike.{StandsFor, leaving_as, same_ip4}
+use Rattle.tr_router.proofs.Comes.{Comes}
 use Rattle.tr_router.proofs.Hops.{IsHop, hop_is}
 use Rattle.tr_router.proofs.Ingress as ingress
 use Rattle.tr_router.proofs.Macs.{mac_for_fits}
-use Rattle.tr_router.proofs.Networks.{on_router, router_there, translates_none}
+use Rattle.tr_router.proofs.Networks.{on_router, router_there}
 use Rattle.tr_router.proofs.Routed as routed
 use Rattle.tr_router.proofs.Taken.{TakenAs, passed_on_is, taken_as}
 
@@ -86,8 +90,8 @@ module _ (flows : Flows) where
   taken_left (GoesOn (Ports ports) packet) state = over None state
   taken_left (Makes why port packet) state = over _ state
 
-module _ (net : Network) (sound : IsSound net) (plain : IsPlain net) (router : Router) (among : Contains net.routers router) (port : RouterPort) (its : IsPortOf net router port) (packet : Values) (state : State) (formed : IsPacket packet)
-    (knows : KnowsMacs state) (came : value packet Inport ≡ port.id.0) where
+module _ (net : Network) (sound : IsSound net) (router : Router) (among : Contains net.routers router) (port : RouterPort) (its : IsPortOf net router port) (packet : Values) (state : State) (formed : IsPacket packet)
+    (unseen : IsUnseen packet) (are : IsState state) (came : value packet Inport ≡ port.id.0) where
   abbrev flows : Flows
   flows = flows_at net router.id
 
@@ -97,95 +101,110 @@ module _ (net : Network) (sound : IsSound net) (plain : IsPlain net) (router : R
   on : (k : Values) → IsPacket k → IsOnRouter net router k
   on k is = on_router net sound router among k is
 
-  translates_nothing : TranslatesNone net router
-  translates_nothing = translates_none net sound plain router
-
   -- the packet that is admitted, and the state after what it tells of a neighbour
   abbrev own : Values
-  own = ingress.own net sound plain router among port its packet state formed knows came
+  own = ingress.own net sound router among port its packet state formed unseen are came
 
   own_is : IsPacket own
-  own_is = ingress.own_is net sound plain router among port its packet state formed knows came
+  own_is = ingress.own_is net sound router among port its packet state formed unseen are came
 
   came_own : value own Inport ≡ port.id.0
-  came_own = ingress.came_own net sound plain router among port its packet state formed knows came
+  came_own = ingress.came_own net sound router among port its packet state formed unseen are came
 
   stands : StandsFor (value own Outport) own packet
-  stands = ingress.stands net sound plain router among port its packet state formed knows came
+  stands = ingress.stands net sound router among port its packet state formed unseen are came
 
   back : StandsFor port.id.0 (going_back port own) packet
-  back = ingress.back net sound plain router among port its packet state formed knows came
+  back = ingress.back net sound router among port its packet state formed unseen are came
 
   abbrev later : State
-  later = ingress.later net sound plain router among port its packet state formed knows came
+  later = ingress.later net sound router among port its packet state formed unseen are came
 
-  knows_later : KnowsMacs later
-  knows_later = learning_macs port packet state formed knows
+  are_later : IsState later
+  are_later = ingress.are_later net sound router among port its packet state formed unseen are came
 
   abbrev flight : State → Flight
   flight after = record { packet = own; look = None; state = after }
 
   -- ---- routing, and what follows
 
-  module _ (hop : Hop) (of : IsHop net router.id hop) where
-    abbrev sent : Values
-    sent = routed.sent net sound plain router among port its (flight later) own_is knows_later came_own packet stands hop of
+  module _ (at : Flight) (is : IsPacket at.packet) (are_there : IsState at.state) (came_at : value at.packet Inport ≡ port.id.0) (it : Values) (stands_there : StandsFor (value at.packet Outport) at.packet it) where
+    module _ (hop : Hop) (of : IsHop net router.id hop) where
+      abbrev sent : Values
+      sent = routed.sent net sound router among port its at is are_there came_at it stands_there hop of
 
-    sent_is : IsPacket sent
-    sent_is = routed.sent_is net sound plain router among port its (flight later) own_is knows_later came_own packet stands hop of
+      sent_is : IsPacket sent
+      sent_is = routed.sent_is net sound router among port its at is are_there came_at it stands_there hop of
 
-    abbrev sent_flight : Flight
-    sent_flight = with_packet (flight later) sent
+      abbrev sent_flight : Flight
+      sent_flight = with_packet at sent
 
-    asked_left : (known : Flight) → Left (asked known)
-    asked_left known = by (eqb (value known.packet EthDst) 0)
+      asked_left : (known : Flight) → Left (asked known)
+      asked_left known = by (eqb (value known.packet EthDst) 0)
+        where
+          by : (b : Bool) → Left (cond b (Ends (Some (outcomes.Made (asking known.packet) 0 answer.Arp)) known.state) (Ends (Some (outcomes.Leave known.packet 0)) known.state))
+          by true = over flows _ known.state
+          by false = over flows _ known.state
+
+      resolved_left : Left (On LrInArpResolve sent_flight)
+      resolved_left =
+          further flows LrInArpResolve sent_flight (On LrInArpRequest known) refl
+          (resolves net router sent_flight (on sent sent_is) hop.port (of.port, of.of_router) (routed.sent_at net sound router among port its at is are_there came_at it stands_there hop of Outport))
+          (further flows LrInArpRequest known (asked known) refl (asks net router known (on known.packet (fits_with sent EthDst _ sent_is (mac_for_fits net sound at.state are_there hop.port (address (value sent Reg0)))))) (asked_left known))
+        where
+          known : Flight
+          known = resolved net hop.port sent_flight
+
+    routed_left : is_ip4 at.packet ≡ true → 2 ≤ value at.packet IpTtl → Left (On LrInIpRouting at)
+    routed_left ip4 has = routing flows at (sent_by (hop_for net router.id src dst) at) has (routes net router at (on at.packet is) ip4) (by (hop_for net router.id src dst) refl)
       where
-        by : (b : Bool) → Left (cond b (Ends (Some (outcomes.Made (asking known.packet) 0 answer.Arp)) known.state) (Ends (Some (outcomes.Leave known.packet 0)) known.state))
-        by true = over flows _ known.state
-        by false = over flows _ known.state
+        src : Ip4
+        src = address (value at.packet Ip4Src)
 
-    resolved_left : Left (On LrInArpResolve sent_flight)
-    resolved_left =
-        further flows LrInArpResolve sent_flight (On LrInArpRequest known) refl
-        (resolves net router sent_flight (on sent sent_is) hop.port (of.port, of.of_router) (routed.sent_at net sound plain router among port its (flight later) own_is knows_later came_own packet stands hop of Outport))
-        (further flows LrInArpRequest known (asked known) refl (asks net router known (on known.packet (fits_with sent EthDst _ sent_is (mac_for_fits net sound later knows_later hop.port (address (value sent Reg0)))))) (asked_left known))
-      where
-        known : Flight
-        known = resolved net hop.port sent_flight
+        dst : Ip4
+        dst = address (value at.packet Ip4Dst)
 
-  routed_left : taken_in net port packet ≡ None → Left (On LrInIpRouting (flight later))
-  routed_left none =
-      routing flows (flight later) (sent_by (hop_for net router.id src dst) (flight later)) has (routes net router (flight later) (on own own_is) (same_ip4 (value own Outport) own packet stands ∙ passed.0))
-      (by (hop_for net router.id src dst) refl)
-    where
-      src : Ip4
-      src = address (value own Ip4Src)
+        by : (found : Option Hop) → hop_for net router.id src dst ≡ found → Left (sent_by found at)
+        by None none = over flows _ at.state
+        by (Some hop) found = resolved_left hop (hop_is net sound router.id src dst (is.fits Ip4Dst) hop found)
 
-      dst : Ip4
-      dst = address (value own Ip4Dst)
+  -- ---- the stages that change addresses
 
-      passed : (is_ip4 packet ≡ true) × (nat_lt (value packet IpTtl) 2 ≡ false)
-      passed = passed_on_is net port later (run_from flows 125) (going_back port own) packet back none
+  module _ (ip4 : is_ip4 own ≡ true) (has : 2 ≤ value own IpTtl) where
+    abbrev first : Flight
+    first = ingress.first net sound router among port its packet state formed unseen are came ip4
 
-      has : 2 ≤ value own IpTtl
-      has = subst (λ n. 2 ≤ n) (sym (stands.same IpTtl refl)) (ltb-false (value packet IpTtl) 2 passed.1)
+    abbrev second : Flight
+    second = ingress.second net sound router among port its packet state formed unseen are came ip4
 
-      by : (found : Option Hop) → hop_for net router.id src dst ≡ found → Left (sent_by found (flight later))
-      by None is = over flows _ later
-      by (Some hop) is = resolved_left hop (hop_is net sound router.id src dst (own_is.fits Ip4Dst) hop is)
+    come_left : (of_rows : StageEnd) (of_router : Changed) → Comes own LrInIpRouting later of_rows of_router → Left of_rows
+    come_left of_rows (Onward p after) at =
+        let reached = at.2 in
+        subst Left (sym at.1)
+        (routed_left at.0 reached.formed reached.are (reached.lasting Inport refl ∙ came_own) p (leaving_as (value own Outport) at.0.packet p reached.stands)
+        (ap (λ n. eqb n 0x800) (reached.lasting EthType refl) ∙ ip4) (subst (λ n. 2 ≤ n) (sym (reached.lasting IpTtl refl)) has))
+    come_left of_rows (Stopped cause) is = subst Left (sym is) (over flows (Some (outcomes.Drop cause)) later)
+
+    changed_left : Left (On LrInUnsnat (flight later))
+    changed_left =
+        further flows LrInUnsnat (flight later) (On LrInDefrag first) refl (unsnats net router (flight later) (on own own_is) ip4)
+        (further flows LrInDefrag first (On LrInDnat second) refl (defrags net router first (on first.packet (ingress.first_is net sound router among port its packet state formed unseen are came ip4)))
+        (further flows LrInDnat second (redirected_by net router.id second second.look) refl
+        (redirects_new net router second (on second.packet (ingress.second_is net sound router among port its packet state formed unseen are came ip4))
+        (ingress.second_ip4 net sound router among port its packet state formed unseen are came ip4) (ingress.second_flagged net sound router among port its packet state formed unseen are came ip4))
+        (come_left (redirected_by net router.id second second.look) (dnatted net router.id (unsnatted net router.id later.conns packet) later) (ingress.comes net sound router among port its packet state formed unseen are came ip4))))
 
   -- ---- from the first stage on
 
   passed_left : taken_in net port packet ≡ None → Left (On LrInUnsnat (flight later))
   passed_left none =
-      further flows LrInUnsnat (flight later) (On LrInDefrag (flight later)) refl (passes-LrInUnsnat net router (flight later) (on own own_is) translates_nothing)
-      (further flows LrInDefrag (flight later) (On LrInDnat (flight later)) refl (passes-LrInDefrag net router (flight later) (on own own_is) translates_nothing)
-      (further flows LrInDnat (flight later) (On LrInIpRouting (flight later)) refl (passes-LrInDnat net router (flight later) (on own own_is) translates_nothing) (routed_left none)))
+      let passed = passed_on_is net port later (run_from flows 125) (going_back port own) packet back none in
+      changed_left (same_ip4 (value own Outport) own packet stands ∙ passed.0) (subst (λ n. 2 ≤ n) (sym (stands.same IpTtl refl)) (ltb-false (value packet IpTtl) 2 passed.1))
 
   input_left : Left (On LrInIpInput (flight later))
   input_left =
       further flows LrInIpInput (flight later) (taken_or_passed (taken_in net port (going_back port own)) (flight later)) refl
-      (takes_in net router (flight later) (on own own_is) translates_nothing port its came_own (set_value packet Reg6 port.mac formed.count))
+      (takes_in net router (flight later) (on own own_is) port its came_own (set_value packet Reg6 port.mac formed.count))
       (by (taken_in net port (going_back port own)) (taken_in net port packet) refl
       (taken_as net port later (run_from flows 125) (going_back port own) packet back))
     where
@@ -197,7 +216,7 @@ module _ (net : Network) (sound : IsSound net) (plain : IsPlain net) (router : R
   learn_left : Left (On LrInLearnNeighbor (flight state))
   learn_left =
       further flows LrInLearnNeighbor (flight state) (On LrInIpInput (flight later)) refl
-      (learns net router (flight state) (on own own_is) port its came_own ∙ ap (λ after. On LrInIpInput (flight after)) (ingress.learns_same net sound plain router among port its packet state formed knows came)) input_left
+      (learns net router (flight state) (on own own_is) port its came_own ∙ ap (λ after. On LrInIpInput (flight after)) (ingress.learns_same net sound router among port its packet state formed unseen are came)) input_left
 
   pub all_left : Left (On LrInAdmission (coming packet state))
   all_left = further flows LrInAdmission (coming packet state) (admitted port (coming packet state)) refl (admits net router (coming packet state) (on packet formed) port its came) (by (is_admitted port packet))
@@ -206,8 +225,8 @@ module _ (net : Network) (sound : IsSound net) (plain : IsPlain net) (router : R
       by true = learn_left
       by false = over flows _ state
 
-pub has_time_left : (net : Network) → IsSound net → IsPlain net → HasTimeLeft net
-has_time_left net sound plain port packet state there formed knows came count flight comes =
+pub has_time_left : (net : Network) → IsSound net → HasTimeLeft net
+has_time_left net sound port packet state there formed unseen are came count flight comes =
     let of = router_there net sound port there in
-    all_left net sound plain of.0 of.1 port (there, of.2) packet state formed knows came count flight
+    all_left net sound of.0 of.1 port (there, of.2) packet state formed unseen are came count flight
     (subst (λ (d : ObjId). after_steps (flows_at net d) count (On LrInAdmission (coming packet state)) ≡ On LrInIpRouting flight) of.2 comes)

@@ -1,10 +1,10 @@
 -- What the pipelines of a router do with a packet is what the router does with it.
-use Rattle.std.specs.Prelude.{◌≡◌, ℕ, zero, suc, ◌<◌, ◌≤◌, ◌^◌, Contains, Option, Some}
-use Rattle.std.specs.List.{AllByRecursion}
+use Rattle.std.specs.Prelude.{◌≡◌, ℕ, zero, suc, ◌≤◌, Contains, Option, Some}
+use Rattle.ct_core.specs.Changes.{AreConnections}
+use Rattle.ct_core.specs.Neighbours.{AreNeighbours}
 use Rattle.ct_core.specs.State.{State}
-use Rattle.ct_core.specs.declared.neighbour.Neighbour.{Neighbour}
 use Rattle.nv_base.specs.declared.object.ObjId.{ObjId}
-use Rattle.nv_base.specs.declared.field.Field.TheVariants.{Inport, IpTtl, Outport}
+use Rattle.nv_base.specs.declared.field.Field.TheVariants.{Inport, Outport, IpTtl, CtState}
 use Rattle.pkt_core.specs.Packet.{Values, IsPacket, value}
 use Rattle.nb_records.specs.declared.router.Router.{Router}
 use Rattle.nb_records.specs.declared.router.RouterPort.{RouterPort}
@@ -51,18 +51,23 @@ pub record DoesPart (ends : Option Outcome → Passed → Type 0) (run : Pipelin
   pub passes : ends run.outcome did.passed
   pub leaves : run.state ≡ did.state
 
--- what was learnt of neighbours are MACs, as it is in each state that packets leave
-abbrev pub KnowsMacs : State → Type 0
-KnowsMacs state = AllByRecursion (λ (n : Neighbour). n.mac < 2 ^ 48) state.nbrs
+-- connections and neighbours of numbers that fit, no more than there may be, as in each state that packets leave
+pub record IsState (state : State) : Type 0 where
+  pub conns : AreConnections state.conns
+  pub nbrs : AreNeighbours state.nbrs
+
+-- no look-up was noted in the packet
+abbrev pub IsUnseen : Values → Type 0
+IsUnseen packet = value packet CtState ≡ 0
 
 abbrev pub DoArrive : Network → Type 0
 DoArrive net =
-    (port : RouterPort) (packet : Values) (state : State) → Contains net.router_ports port → IsPacket packet → KnowsMacs state → value packet Inport ≡ port.id.0
+    (port : RouterPort) (packet : Values) (state : State) → Contains net.router_ports port → IsPacket packet → IsUnseen packet → IsState state → value packet Inport ≡ port.id.0
     → DoesPart Arrives (run_pipeline (flows_at net port.router) Ingress 0 packet state) (arriving_at net port packet state)
 
 abbrev pub DoLeave : Network → Type 0
 DoLeave net =
-    (port : RouterPort) (packet : Values) (state : State) → Contains net.router_ports port → IsPacket packet → value packet Outport ≡ port.id.0
+    (port : RouterPort) (packet : Values) (state : State) → Contains net.router_ports port → IsPacket packet → IsUnseen packet → IsState state → value packet Outport ≡ port.id.0
     → DoesPart Leaves (run_pipeline (flows_at net port.router) Egress 0 packet state) (leaving_by net port packet state)
 
 abbrev pub DoLeaveLate : Network → Type 0
@@ -85,5 +90,5 @@ after_steps flows (suc count) (Ends outcome state) = Ends outcome state
 -- each packet that comes to routing has two hops or more to live, so routing, which takes one, never meets a packet that has none
 abbrev pub HasTimeLeft : Network → Type 0
 HasTimeLeft net =
-    (port : RouterPort) (packet : Values) (state : State) → Contains net.router_ports port → IsPacket packet → KnowsMacs state → value packet Inport ≡ port.id.0
+    (port : RouterPort) (packet : Values) (state : State) → Contains net.router_ports port → IsPacket packet → IsUnseen packet → IsState state → value packet Inport ≡ port.id.0
     → (count : ℕ) (flight : Flight) → after_steps (flows_at net port.router) count (On LrInAdmission (coming packet state)) ≡ On LrInIpRouting flight → 2 ≤ value flight.packet IpTtl

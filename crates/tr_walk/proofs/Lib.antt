@@ -6,7 +6,6 @@ pub mod Finds
 pub mod Formed
 pub mod Hits
 pub mod Kept
-pub mod Macs
 pub mod NetworkPorts
 pub mod Parts
 pub mod Pipelines
@@ -17,4 +16,6 @@ pub mod RouterFinds
 pub mod RouterKept
 pub mod RouterParts
 pub mod Runs
+pub mod States
 pub mod Steps
+pub mod ToldHits

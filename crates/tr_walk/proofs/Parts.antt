@@ -1,11 +1,11 @@
 -- The pipelines of a network do its parts.
 use Rattle.nb_model.specs.Network.{Network}
-use Rattle.nb_model.specs.Plain.{IsPlain}
 use Rattle.nb_model.specs.Sound.{IsSound}
+use Rattle.ls_laws.specs.Steps.{BalancesNone}
 use Rattle.tr_walk.specs.Refined.{IsIngress, IsEgress, IsLate}
 use Rattle.tr_walk.proofs.Pipelines.{at_dp, ingress_is, egress_is, late_is}
 
-module _ (net : Network) (sound : IsSound net) (plain : IsPlain net) where
+module _ (net : Network) (sound : IsSound net) (plain : BalancesNone net) where
   pub of_ingress : IsIngress net
   of_ingress port packet state there formed fresh from = rw (at_dp net sound plain port there) (ingress_is net sound plain port there packet state formed fresh from)
 

@@ -14,7 +14,6 @@ use Rattle.nb_records.specs.declared.switch.Port.{Port}
 use Rattle.nb_records.specs.declared.switch.Switch.{Switch}
 use Rattle.nb_model.specs.Applies.{tracks}
 use Rattle.nb_model.specs.Network.{Network}
-use Rattle.nb_model.specs.Plain.{IsPlain}
 use Rattle.nb_model.specs.Sound.{IsSound}
 use Rattle.sb_model.specs.declared.stage.DatapathKind.TheVariants as kinds
 use Rattle.sb_model.specs.declared.stage.Pipeline.TheVariants.{Ingress, Egress}
@@ -40,7 +39,7 @@ use Rattle.tr_pipe.specs.Machine.StageEnd.{On}
 use Rattle.tr_pipe.specs.Tracking.{Flight, coming}
 use Rattle.tr_pipe.proofs.Steps.{pipeline_begins}
 use Rattle.ls_laws.specs.Steps as laws
-use Rattle.ls_laws.specs.Steps.{flows_at, sent_back, answered_for, found_at, sent_unknown, leaves_by, IsOn, IsPortOf}
+use Rattle.ls_laws.specs.Steps.{BalancesNone, IsOn, IsPortOf, answered_for, flows_at, found_at, leaves_by, sent_back, sent_unknown}
 use Rattle.ls_laws.proofs.AclEval.{decides_in, decides_out}
 use Rattle.ls_laws.proofs.ArpReplies.{answers_requests}
 use Rattle.ls_laws.proofs.LookUp.{looks_up, finds_none}
@@ -66,7 +65,7 @@ use Rattle.tr_walk.proofs.NetworkPorts.{find_gives, goes_to_port, its_port, on_s
 abbrev done : Passed → State → Did
 done passed left = record { passed = passed; state = left }
 
-module _ (net : Network) (sound : IsSound net) (plain : IsPlain net) (port : Port) (there : Contains net.ports port) where
+module _ (net : Network) (sound : IsSound net) (plain : BalancesNone net) (port : Port) (there : Contains net.ports port) where
   of : (switch : Switch) × Contains net.switches switch × (switch.id ≡ port.switch)
   of = switch_there net port sound there
 

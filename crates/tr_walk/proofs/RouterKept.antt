@@ -16,7 +16,6 @@ use Rattle.pkt_core.specs.declared.replies.IcmpReason.TheVariants.{TtlExceeded}
 use Rattle.ct_core.specs.State.{State}
 use Rattle.nb_records.specs.declared.router.RouterPort.{RouterPort}
 use Rattle.nb_model.specs.Network.{Network}
-use Rattle.nb_model.specs.Plain.{IsPlain}
 use Rattle.nb_model.specs.Sound.{IsSound}
 use Rattle.nb_router.specs.Vocabulary.{addresses_at}
 use Rattle.net_meaning.specs.Switches.{is_among_ips, is_request, rejection, turned_back}
@@ -27,19 +26,20 @@ use Rattle.net_meaning.specs.declared.answer.Answer.TheVariants as answer
 use Rattle.net_meaning.specs.declared.cause.Cause.TheVariants.{Admission, Delivery, IpInput}
 use Rattle.net_router.specs.Input.{after_learning, answered_by, arp_answered, echo_reply, expiry_answered, first_address, is_admitted, is_echo_request, is_external, is_not_routed, is_own, is_refused, service_answered, taken_in}
 use Rattle.net_router.specs.Resolution.{mac_for}
-use Rattle.net_router.specs.Routers.{arriving_at, asked_about, delivered, did, leaving_by, leaving_late, passed_on, redirected_on, routed, sent_by, sent_to, taken_by, unless_taken}
+use Rattle.net_router.specs.Routers.{arriving_at, asked_about, delivered, did, leaving_by, leaving_late, passed_on, redirected_on, routed, sent_by, sent_to, taken_by, then_on, unless_taken}
 use Rattle.net_router.specs.Routing.{Hop, hop_for}
-use Rattle.net_router.specs.Translation.{unsnatted}
+use Rattle.net_router.specs.Translation.{Changed, changed_out, dnatted, unsnatted}
+use Rattle.net_router.specs.Translation.Changed.{Onward, Stopped}
 use Rattle.net_walks.specs.Alike.{IsKept, IsPort}
 use Rattle.net_rows.proofs.SoundObjects.{IsBlock}
 use Rattle.lr_units.proofs.SoundRouters.{router_port_is_sound}
 use Rattle.ls_laws.proofs.Packets.{set_value, other_value, fits_with}
-use Rattle.tr_router.specs.Parts.{KnowsMacs}
-use Rattle.tr_router.proofs.Formed.{learning_macs}
+use Rattle.tr_router.specs.Parts.{IsState}
+use Rattle.tr_router.proofs.Changed.{IsLeftOf, KeepsRest, changed_out_left, dnatted_left, unsnatted_left}
+use Rattle.tr_router.proofs.Formed.{learning_state}
 use Rattle.tr_router.proofs.Hops.{IsHop, hop_is}
 use Rattle.tr_router.proofs.Macs.{IsMac, mac_for_fits}
-use Rattle.tr_router.proofs.Networks.{mac_fits}
-use Rattle.tr_router.proofs.Plain.{changed_out_is, dnatted_is, unsnatted_is}
+use Rattle.tr_router.proofs.Networks.{its_router_fits, mac_fits, number_fits as router_port_number_fits}
 use Rattle.tr_walk.proofs.Formed.{Fit, Others, fits_exchanged, fits_values, other_exchanged, other_values, replied, replied_inport, rejection_is, rejection_inport, error_is, error_inport}
 use Rattle.tr_walk.proofs.Kept.{inside, turned_is, turned_inport}
 use Rattle.tr_walk.proofs.NetworkPorts.{its_router_port, number_fits}
@@ -200,67 +200,108 @@ module _ (net : Network) (sound : IsSound net) (port : RouterPort) (there : Cont
               (subst (λ n. IsPort net (record { 0 = n })) (sym (other_value (passed_on hop packet) EthDst Inport next refl ∙ passed_inport hop packet)) from),
         )
 
-    module _ (state : State) (knows : KnowsMacs state) where
+    module _ (state : State) (are : IsState state) where
       by_hop : (hop : Option Hop) → ((h : Hop) → hop ≡ Some h → IsHop net port.router h) → KeptIf (Some (sent_by net port hop packet state))
       by_hop None good = tt
-      by_hop (Some hop) good = sent_kept hop (good hop refl) (mac_for net hop.port hop.via state.nbrs) (mac_for_fits net sound state knows hop.port hop.via)
+      by_hop (Some hop) good = sent_kept hop (good hop refl) (mac_for net hop.port hop.via state.nbrs) (mac_for_fits net sound state are hop.port hop.via)
 
       routed_kept : KeptIf (Some (routed net port packet state).passed)
       routed_kept =
           by_hop (hop_for net port.router (address (value packet Ip4Src)) (address (value packet Ip4Dst)))
           (hop_is net sound port.router (address (value packet Ip4Src)) (address (value packet Ip4Dst)) (is.fits Ip4Dst))
 
-      module _ (plain : IsPlain net) where
-        passed_kept : KeptIf (Some (redirected_on net port (unsnatted net port.router state.conns packet) state).passed)
-        passed_kept =
-            subst (λ (p : Values). KeptIf (Some (redirected_on net port p state).passed)) (sym (unsnatted_is net plain port.router packet state))
-            (rw (dnatted_is net plain port.router packet state) routed_kept)
-
-        by_taken : (taken : Option Passed) → KeptIf taken → KeptIf (Some (unless_taken net port taken packet state).passed)
-        by_taken (Some passed) kept = kept
-        by_taken None kept = passed_kept
-
-        pub taken_by_kept : KeptIf (Some (taken_by net port packet state).passed)
-        taken_by_kept = by_taken (taken_in net port packet) taken_kept
-
--- ---- a router's parts
-
-module _ (net : Network) (sound : IsSound net) (plain : IsPlain net) (port : RouterPort) (there : Contains net.router_ports port) (packet : Values) (state : State) where
-  module _ (is : IsPacket packet) (from : IsPort net (record { 0 = value packet Inport })) where
-    delivered_kept : IsKept net (Some (carrying (delivered port packet)))
+    delivered_kept : KeptIf (Some (delivered port packet))
     delivered_kept = by port.enabled
       where
-        by : (b : Bool) → IsKept net (Some (carrying (cond b (GoesOn (OnePort port.id) packet) (Drops Delivery))))
+        by : (b : Bool) → KeptIf (Some (cond b (GoesOn (OnePort port.id) packet) (Drops Delivery)))
         by true = (its_router_port net port there, inside net packet is from)
         by false = tt
 
-    pub arriving_kept : KnowsMacs state → IsKept net (Some (carrying (arriving_at net port packet state).passed))
-    arriving_kept knows = by (is_admitted port packet)
+  -- ---- where addresses change
+
+  numbered : port.router.0 < 2 ^ 32
+  numbered = its_router_fits net sound port there
+
+  module _ (packet : Values) (is : IsPacket packet) (from : IsPort net (record { 0 = value packet Inport })) (state : State) (are : IsState state) where
+    -- the packet as it is after a change came in by the same port
+    came_in : (p : Values) → KeepsRest packet p → IsPort net (record { 0 = value p Inport })
+    came_in p rest = subst (λ n. IsPort net (record { 0 = n })) (sym (rest Inport refl)) from
+
+    -- what is routed after a change, or delivered, stays inside, and leaves a state
+    then_routed : (changed : Changed) → IsLeftOf packet changed → KeptIf (Some (then_on changed state (routed net port)).passed)
+    then_routed (Onward p after) left = routed_kept p left.0 (came_in p left.2) after left.1
+    then_routed (Stopped cause) left = tt
+
+    routed_state : (changed : Changed) → IsLeftOf packet changed → IsState (then_on changed state (routed net port)).state
+    routed_state (Onward p after) left = left.1
+    routed_state (Stopped cause) left = are
+
+    then_delivered : (changed : Changed) → IsLeftOf packet changed → KeptIf (Some (then_on changed state (leaving_late port)).passed)
+    then_delivered (Onward p after) left = delivered_kept p left.0 (came_in p left.2)
+    then_delivered (Stopped cause) left = tt
+
+    delivered_state : (changed : Changed) → IsLeftOf packet changed → IsState (then_on changed state (leaving_late port)).state
+    delivered_state (Onward p after) left = left.1
+    delivered_state (Stopped cause) left = are
+
+    pub leaving_kept : KeptIf (Some (leaving_by net port packet state).passed)
+    leaving_kept = then_delivered (changed_out net port.router packet state) (changed_out_left net sound port.router numbered packet state is are)
+
+    pub leaving_state : IsState (leaving_by net port packet state).state
+    leaving_state = delivered_state (changed_out net port.router packet state) (changed_out_left net sound port.router numbered packet state is are)
+
+  -- ---- arriving
+
+  module _ (packet : Values) (is : IsPacket packet) (from : IsPort net (record { 0 = value packet Inport })) (state : State) (are : IsState state) where
+    -- a reply to an external address came in by the same port
+    abbrev coming_back : Values
+    coming_back = unsnatted net port.router state.conns packet
+
+    left_back : IsLeftOf packet (Onward coming_back state)
+    left_back = unsnatted_left net sound port.router numbered packet state is are
+
+    back_left : IsLeftOf coming_back (dnatted net port.router coming_back state)
+    back_left = dnatted_left net sound port.router numbered coming_back state left_back.0 are
+
+    passed_kept : KeptIf (Some (redirected_on net port coming_back state).passed)
+    passed_kept = then_routed coming_back left_back.0 (came_in packet is from state are coming_back left_back.2) state are (dnatted net port.router coming_back state) back_left
+
+    passed_state : IsState (redirected_on net port coming_back state).state
+    passed_state = routed_state coming_back left_back.0 (came_in packet is from state are coming_back left_back.2) state are (dnatted net port.router coming_back state) back_left
+
+    by_taken : (taken : Option Passed) → KeptIf taken → KeptIf (Some (unless_taken net port taken packet state).passed)
+    by_taken (Some passed) kept = kept
+    by_taken None kept = passed_kept
+
+    taken_by_kept : KeptIf (Some (taken_by net port packet state).passed)
+    taken_by_kept = by_taken (taken_in net port packet) (taken_kept packet is from)
+
+    taken_state : (taken : Option Passed) → IsState (unless_taken net port taken packet state).state
+    taken_state (Some passed) = are
+    taken_state None = passed_state
+
+  -- ---- a router's parts
+
+  module _ (packet : Values) (state : State) (is : IsPacket packet) (from : IsPort net (record { 0 = value packet Inport })) (are : IsState state) where
+    abbrev later : State
+    later = after_learning port packet state
+
+    later_is : IsState later
+    later_is = learning_state port packet state (router_port_number_fits net sound port there) is are
+
+    pub arriving_kept : KeptIf (Some (arriving_at net port packet state).passed)
+    arriving_kept = by (is_admitted port packet)
       where
-        by : (b : Bool) → IsKept net (Some (carrying (cond b (taken_by net port packet (after_learning port packet state)) (did (Drops Admission) state)).passed))
-        by true = taken_by_kept net sound port there packet is from (after_learning port packet state) (learning_macs port packet state is knows) plain
+        by : (b : Bool) → KeptIf (Some (cond b (taken_by net port packet later) (did (Drops Admission) state)).passed)
+        by true = taken_by_kept packet is from later later_is
         by false = tt
 
-    pub leaving_kept : IsKept net (Some (carrying (leaving_by net port packet state).passed))
-    leaving_kept = rw (changed_out_is net plain port.router packet state) delivered_kept
+    pub arriving_state : IsState (arriving_at net port packet state).state
+    arriving_state = by (is_admitted port packet)
+      where
+        by : (b : Bool) → IsState (cond b (taken_by net port packet later) (did (Drops Admission) state)).state
+        by true = taken_state packet is from later later_is (taken_in net port packet)
+        by false = are
 
-    pub late_kept : IsKept net (Some (carrying (leaving_late port packet state).passed))
-    late_kept = delivered_kept
-
-  -- and the states that they leave
-  routed_macs : (p : Values) (after : State) → KnowsMacs after → KnowsMacs (redirected_on net port p after).state
-  routed_macs p after knows = rw (dnatted_is net plain port.router p after) knows
-
-  taken_macs : (taken : Option Passed) (after : State) → KnowsMacs after → KnowsMacs (unless_taken net port taken packet after).state
-  taken_macs (Some passed) after knows = knows
-  taken_macs None after knows = routed_macs (unsnatted net port.router after.conns packet) after knows
-
-  pub arriving_macs : IsPacket packet → KnowsMacs state → KnowsMacs (arriving_at net port packet state).state
-  arriving_macs is knows = by (is_admitted port packet)
-    where
-      by : (b : Bool) → KnowsMacs (cond b (taken_by net port packet (after_learning port packet state)) (did (Drops Admission) state)).state
-      by true = taken_macs (taken_in net port packet) (after_learning port packet state) (learning_macs port packet state is knows)
-      by false = knows
-
-  pub leaving_macs : KnowsMacs state → KnowsMacs (leaving_by net port packet state).state
-  leaving_macs knows = rw (changed_out_is net plain port.router packet state) knows
+    pub late_kept : KeptIf (Some (leaving_late port packet state).passed)
+    late_kept = delivered_kept packet is from

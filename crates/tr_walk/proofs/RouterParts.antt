@@ -9,7 +9,6 @@ use Rattle.ct_core.specs.State.{State}
 use Rattle.nb_records.specs.declared.router.RouterPort.{RouterPort}
 use Rattle.nb_records.specs.declared.switch.Port.{Port}
 use Rattle.nb_model.specs.Network.{Network}
-use Rattle.nb_model.specs.Plain.{IsPlain}
 use Rattle.nb_model.specs.Sound.{IsSound}
 use Rattle.sb_model.specs.Stage.{last_table}
 use Rattle.sb_model.specs.declared.stage.DatapathKind.TheVariants as kinds
@@ -27,12 +26,12 @@ use Rattle.ls_laws.specs.Steps.{flows_at}
 use Rattle.tr_stage.specs.declared.outcome.Hit.{Hit}
 use Rattle.tr_stage.specs.declared.outcome.Outcome.{Outcome}
 use Rattle.tr_pipe.specs.Machine.{run_pipeline}
-use Rattle.tr_router.specs.Parts.{Arrives, DoArrive, DoLeave, DoLeaveLate, KnowsMacs, Leaves}
+use Rattle.tr_router.specs.Parts.{Arrives, DoArrive, DoLeave, DoLeaveLate, IsState, IsUnseen, Leaves}
 use Rattle.tr_walk.specs.Machine as walks
 use Rattle.tr_walk.specs.Machine.{after_egress, after_ingress, egress, ingress, late_egress, late_table}
 use Rattle.tr_walk.proofs.Datapaths.{late_of_router}
 use Rattle.tr_walk.proofs.NetworkPorts.{no_switch_port_at, on_router, router_port_at, goes_to_port}
-use Rattle.tr_walk.proofs.RouterKept.{arriving_kept, arriving_macs, late_kept, leaving_kept, leaving_macs}
+use Rattle.tr_walk.proofs.RouterKept.{arriving_kept, arriving_state, late_kept, leaving_kept, leaving_state}
 
 module _ (net : Network) (sound : IsSound net) where
   -- ---- outcomes
@@ -65,9 +64,9 @@ module _ (net : Network) (sound : IsSound net) where
     at_number of_switch of_router packet state = rw (no_switch_port_at net sound port there, router_port_at net sound port there) refl
 
     -- the part of the machine, on the router of the port
-    module _ (packet : Values) (state : State) (knows : KnowsMacs state) where
+    module _ (packet : Values) (state : State) (are : IsState state) where
       abbrev IsSame : Part Hit State → Part (Unit {0}) State → Type 0
-      IsSame part other = SamePart net KnowsMacs part other
+      IsSame part other = SamePart net IsState part other
 
       abbrev ingress_on : ObjId → Part Hit State
       ingress_on dp = walks.part_of (after_ingress net dp) (run_pipeline (flows_at net dp) Ingress 0 packet state)
@@ -78,30 +77,30 @@ module _ (net : Network) (sound : IsSound net) where
       abbrev late_on : ObjId → Part Hit State
       late_on dp = walks.part_of (after_egress net dp) (run_pipeline (flows_at net dp) Egress (late_table net dp) packet state)
 
-      module _ (plain : IsPlain net) (formed : IsPacket packet) where
-        pub arrives_same : DoArrive net → value packet Inport ≡ port.id.0 → IsPort net (record { 0 = value packet Inport }) → IsSame (ingress net port.id packet state) ((direct_parts net).arriving port.id packet state)
-        arrives_same does from by =
-            let did = does port packet state there formed knows from in
-            let kept = arriving_kept net sound plain port there packet state formed by knows in
+      module _ (formed : IsPacket packet) where
+        pub arrives_same : DoArrive net → IsUnseen packet → value packet Inport ≡ port.id.0 → IsPort net (record { 0 = value packet Inport }) → IsSame (ingress net port.id packet state) ((direct_parts net).arriving port.id packet state)
+        arrives_same does unseen from by =
+            let did = does port packet state there formed unseen are from in
+            let kept = arriving_kept net sound port there packet state formed by are in
             subst (λ (dp : ObjId). IsSame (ingress_on dp) ((direct_parts net).arriving port.id packet state)) (sym (on_router net sound port there))
             (subst (λ (other : Part (Unit {0}) State). IsSame (ingress_on port.router) other) (sym (at_number (switches.arriving_at net) (arriving_at net) packet state))
             (record {
               passed = arrives_seen port.router late_is _ (arriving_at net port packet state).passed kept did.passes;
               state = did.leaves;
               kept = kept;
-              holds = arriving_macs net sound plain port there packet state formed knows;
+              holds = arriving_state net sound port there packet state formed by are;
             }))
 
-        pub leaves_same : DoLeave net → value packet Outport ≡ port.id.0 → IsPort net (record { 0 = value packet Inport }) → IsSame (egress net 0 port.id packet state) ((direct_parts net).leaving port.id packet state)
-        leaves_same does to by =
-            let did = does port packet state there formed to in
+        pub leaves_same : DoLeave net → IsUnseen packet → value packet Outport ≡ port.id.0 → IsPort net (record { 0 = value packet Inport }) → IsSame (egress net 0 port.id packet state) ((direct_parts net).leaving port.id packet state)
+        leaves_same does unseen to by =
+            let did = does port packet state there formed unseen are to in
             subst (λ (dp : ObjId). IsSame (egress_on dp) ((direct_parts net).leaving port.id packet state)) (sym (on_router net sound port there))
             (subst (λ (other : Part (Unit {0}) State). IsSame (egress_on port.router) other) (sym (at_number (switches.leaving_by net) (leaving_by net) packet state))
             (record {
               passed = leaves_seen port.router late_is _ (leaving_by net port packet state).passed did.passes;
               state = did.leaves;
-              kept = leaving_kept net sound plain port there packet state formed by;
-              holds = leaving_macs net sound plain port there packet state knows;
+              kept = leaving_kept net sound port there packet formed by state are;
+              holds = leaving_state net sound port there packet formed by state are;
             }))
 
         pub late_same : DoLeaveLate net → value packet Outport ≡ port.id.0 → IsPort net (record { 0 = value packet Inport }) → IsSame (late_egress net port.id packet state) ((direct_parts net).late port.id packet state)
@@ -112,8 +111,8 @@ module _ (net : Network) (sound : IsSound net) where
             (record {
               passed = by_table (late_table net port.router) late_is did.passes;
               state = of_table (late_table net port.router) late_is did.leaves;
-              kept = late_kept net sound plain port there packet state formed by;
-              holds = knows;
+              kept = late_kept net sound port there packet state formed by are;
+              holds = are;
             }))
           where
             by_table : (table : ℕ) → table ≡ last_table kinds.Router → Leaves (run_pipeline (flows_at net port.router) Egress (last_table kinds.Router) packet state).outcome (leaving_late port packet state).passed

@@ -1,5 +1,5 @@
 -- The events of a walk by rows: a hit for each row that acts, and what becomes of packets (ovn-trace(8)).
-use Rattle.std.specs.Prelude.{List, Option, Some, None}
+use Rattle.std.specs.Prelude.{Bool, true, false, not, ◌&&◌, List, filter, Option, Some, None}
 use Rattle.std.specs.List.{filter_map}
 use Rattle.net_meaning.specs.declared.event.PlainEvent.{PlainEvent}
 use Rattle.net_meaning.specs.declared.event.PlainEvent.TheVariants as plain
@@ -20,6 +20,15 @@ of_plain (plain.HopLimit port) = events.HopLimit port
 abbrev pub event_of : Told Hit → Event
 event_of (Note hit) = events.Hit hit
 event_of (Happens event) = of_plain event
+
+-- a hit
+abbrev pub is_hit : Event → Bool
+is_hit (events.Hit hit) = true
+is_hit _ = false
+
+-- the events that are told: all, or where the trace is minimal those without hits
+abbrev pub told_only : Bool → List Event → List Event
+told_only minimal all = filter (λ event. not (is_hit event && minimal)) all
 
 -- what an event says of packets; a hit says nothing
 abbrev pub plain_event : Event → Option PlainEvent

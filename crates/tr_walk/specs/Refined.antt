@@ -10,7 +10,7 @@ use Rattle.net_meaning.specs.Switches.{Did, arriving_at, leaving_by, leaving_lat
 use Rattle.net_meaning.specs.Walk.{Part, Walked, carrying, events}
 use Rattle.net_router.specs.Meaning.{meaning}
 pub use Rattle.net_walks.specs.Alike.{AreAlike, IsPort}
-use Rattle.tr_router.specs.Parts.{KnowsMacs}
+use Rattle.tr_router.specs.Parts.{IsState}
 use Rattle.tr_walk.specs.Events.{without_hits}
 use Rattle.tr_stage.specs.declared.outcome.Hit.{Hit}
 use Rattle.tr_walk.specs.Machine.{ingress, egress, machine}
@@ -60,14 +60,14 @@ abbrev pub IsMeant : Network → ℕ → ObjId → Values → Trace → Type 0
 IsMeant net hops port packet trace = IsPort net port → TellsOf trace (meaning net hops port packet trace.before)
 
 -- What the rows do with each packet that comes in by a port of a datapath is, hits left out, what the network does with it, from each state
--- in which what was learnt of neighbours are MACs.
+-- of numbers that fit.
 abbrev pub IsRefined : Network → Type 0
 IsRefined net =
-    (hops : ℕ) (arrival : ObjId) (packet : Values) (state : State) → IsPort net arrival → IsPacket packet → KnowsMacs state
+    (hops : ℕ) (arrival : ObjId) (packet : Values) (state : State) → IsPort net arrival → IsPacket packet → IsState state
     → AreAlike (machine net hops arrival packet state) (meaning net hops arrival packet state)
 
 -- such a state leaves another
-abbrev pub KeepsMacs : Network → Type 0
-KeepsMacs net =
-    (hops : ℕ) (arrival : ObjId) (packet : Values) (state : State) → IsPort net arrival → IsPacket packet → KnowsMacs state
-    → KnowsMacs (machine net hops arrival packet state).state
+abbrev pub KeepsStates : Network → Type 0
+KeepsStates net =
+    (hops : ℕ) (arrival : ObjId) (packet : Values) (state : State) → IsPort net arrival → IsPacket packet → IsState state
+    → IsState (machine net hops arrival packet state).state

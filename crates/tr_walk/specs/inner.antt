@@ -1,4 +1,3 @@
 -- What private contracts and proofs cite. No clause of a public call does, so a reader need not believe it.
-pub mod Exact
 pub mod Sides
 pub mod Telling

@@ -3,6 +3,7 @@
 
 mod event;
 mod laws;
+mod parcel;
 mod places;
 mod ports;
 mod run;
@@ -10,7 +11,8 @@ mod walk;
 
 pub use event::Event;
 pub use laws::{
-    each_stage_takes_each_packet, hits_are_left_out, pipelines_do_their_parts,
-    plain_networks_are_refined, rows_find_what_they_read, rows_of_plain_networks_are_runnable,
+    each_stage_takes_each_packet, hits_are_left_out, networks_are_refined,
+    pipelines_do_their_parts, rows_find_what_they_read, rows_of_networks_are_runnable,
 };
+pub use parcel::Parcel;
 pub use walk::trace;

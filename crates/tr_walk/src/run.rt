@@ -7,6 +7,7 @@ ghost use Rattle.tr_pipe.specs.Machine.{run_pipeline};
 ghost use Rattle.ls_laws.specs.Steps.{flows_at};
 ghost use Rattle.tr_walk.specs.declared.event.Event.TheVariants as variants;
 ghost use Rattle.tr_stage.specs.Machine.{kind_of};
+ghost use Rattle.tr_walk.specs.Events.{told_only};
 ghost use Rattle.tr_walk.specs.inner.Telling.{AreRowsOf, egress_table};
 
 use crate::Event;
@@ -30,6 +31,7 @@ pub(crate) struct Flows<'a> {
     pub(crate) alloc: Global,
     pub(crate) rows: &'a Rows,
     pub(crate) records: &'a Records,
+    pub(crate) minimal: bool,
 }
 
 /// Runs a packet through a pipeline of the datapath of a port, from this table on, and puts its hits after the events. Nothing becomes
@@ -45,7 +47,7 @@ pub(crate) fn run(
 ) -> Result<Option<Outcome>, OutOfMemory>
     requires rows { AreRowsOf flows.records.now flows.rows.now }
     requires table { IsSome (stage_at (kind_of (flows_at flows.records.now (datapath_at flows.records.now port))) pipeline table) }
-    ensures hits { OnOk result (events.new.items ≡ events.old.items ++ map variants.Hit (run_pipeline (flows_at flows.entry.records.now (datapath_at flows.entry.records.now port)) pipeline table packet.now work.old.state).hits) }
+    ensures hits { OnOk result (events.new.items ≡ events.old.items ++ told_only flows.entry.minimal (map variants.Hit (run_pipeline (flows_at flows.entry.records.now (datapath_at flows.entry.records.now port)) pipeline table packet.now work.old.state).hits)) }
     ensures state { OnOk result (work.new.state ≡ (run_pipeline (flows_at flows.entry.records.now (datapath_at flows.entry.records.now port)) pipeline table packet.now work.old.state).state) }
     ensures back { work.new.back ≡ work.old.back }
     ensures outcome { IfOk result (λ outcome. outcome ≡ (run_pipeline (flows_at flows.entry.records.now (datapath_at flows.entry.records.now port)) pipeline table packet.now work.old.state).outcome) }
@@ -66,7 +68,7 @@ pub(crate) fn run(
         work,
         &mut hits,
     )?;
-    put_hits(&hits, events)?;
+    tell_hits(flows.minimal, &hits, events)?;
     Ok(Some(outcome))
 }
 
@@ -81,6 +83,16 @@ pub(crate) fn egress_table(records: &Records, port: ObjId, late: bool) -> u8
     } else {
         0
     }
+}
+
+// Tells hits, unless the trace is minimal.
+fn tell_hits(minimal: bool, hits: &[Hit], events: &mut Vec<Event>) -> Result<(), OutOfMemory>
+    ensures { OnOk result (events.new.items ≡ events.old.items ++ told_only minimal (map variants.Hit hits.now)) }
+{
+    if minimal {
+        return Ok(());
+    }
+    put_hits(hits, events)
 }
 
 fn put_hits(hits: &[Hit], events: &mut Vec<Event>) -> Result<(), OutOfMemory>

@@ -5,21 +5,21 @@ ghost use Rattle.pkt_core.specs.Packet.{IsPacket, value};
 ghost use Rattle.nb_model.specs.Network.{same};
 ghost use Rattle.nb_model.specs.Sound.{IsSound};
 ghost use Rattle.net_meaning.specs.Places.{datapath_at};
-ghost use Rattle.nb_model.specs.Plain.{IsPlain};
 ghost use Rattle.net_meaning.specs.Walk.{carried, told_of};
 ghost use Rattle.net_meaning.specs.Walk.Target.{Ports, Late};
 ghost use Rattle.lr_units.specs.Network.{network_rows};
-ghost use Rattle.tr_router.specs.Parts.{KnowsMacs};
-ghost use Rattle.tr_walk.specs.Events.{event_of};
+ghost use Rattle.ls_laws.specs.Steps.{BalancesNone};
+ghost use Rattle.tr_router.specs.Parts.{IsState};
+ghost use Rattle.tr_walk.specs.Events.{event_of, told_only};
 ghost use Rattle.tr_walk.specs.Machine.{machine, numbered, table_of, target_of};
 ghost use Rattle.tr_walk.specs.Refined.{IsMeant};
 ghost use Rattle.tr_walk.specs.Runnable.{AreRunnable};
 ghost use Rattle.tr_walk.specs.inner.Telling.{AreRowsOf, events_of, egress_table, is_late, entering, arriving, sending, leaving, going_out, delivering, answering};
 
-use crate::Event;
 use crate::places::{Side, datapath_at, late_table, side_of};
 use crate::ports::{group_of, ports_of};
 use crate::run::{Flows, egress_table, run};
+use crate::{Event, Parcel};
 use ct_state::{State, Work};
 use nb_store::Records;
 use net_meaning::{Answer, Cause};
@@ -33,8 +33,8 @@ use tr_stage::Outcome;
 // For so many events there is room from the start: as many as most walks have.
 const FEW: usize = 32;
 
-/// What is told of a packet that comes in by a port and may take so many hops: a hit for each row that acts, and what becomes of the
-/// packet and of its copies and answers, each to its end before the next (ovn-trace(8)); and the state becomes the one that they leave.
+/// What is told of a packet that comes in by a port and may take so many hops: a hit for each row that acts, unless the trace is minimal,
+/// and what becomes of the packet and of its copies and answers, each to its end before the next (ovn-trace(8)); and the state becomes the one that they leave.
 /// The network is sound, and the rows are its own, whose actions the machine runs, so that each packet comes to an end in them. Where
 /// memory runs out the answer is `OutOfMemory`, and the state is as before.
 pub fn trace(
@@ -45,22 +45,24 @@ pub fn trace(
     port: ObjId,
     packet: &Packet,
     hops: u32,
+    minimal: bool,
 ) -> Result<Vec<Event>, OutOfMemory>
     requires sound { IsSound records.now }
     requires rows { rows.now ≡ network_rows records.now }
     requires run { AreRunnable records.now }
-    ensures events { IfOk result (λ events. events.items ≡ map event_of (machine records.now hops port packet.now state.old).told) }
+    ensures events { IfOk result (λ events. events.items ≡ told_only minimal (map event_of (machine records.now hops port packet.now state.old).told)) }
     ensures state { OnOk result (state.new ≡ (machine records.now hops port packet.now state.old).state) }
     ensures same { OnErr result (state.new ≡ state.old) }
-    ensures refinement { IfOk result (λ events. IsPlain records.now → IsMeant records.now hops port packet.now (record { before = state.old; told = events.items; after = state.new })) }
+    ensures refinement { IfOk result (λ events. BalancesNone records.now → IsMeant records.now hops port packet.now (record { before = state.old; told = events.items; after = state.new })) }
 {
     let mut events = Vec::with_capacity(alloc, FEW)?;
     let flows = Flows {
         alloc,
         rows,
         records,
+        minimal,
     };
-    knows_macs(state);
+    fits_numbers(state);
     fits_its_fields(packet);
     let mut work = Work::begin(alloc, state)?;
     match enter(flows, hops, port, packet, &mut work, &mut events) {
@@ -75,11 +77,12 @@ pub fn trace(
     }
 }
 
-// What was learnt of neighbours are MACs, as in each list of neighbours.
-fn knows_macs(state: &State)
-    ensures { KnowsMacs state.now }
+// Its connections and neighbours are as many as may be, of numbers that fit.
+fn fits_numbers(state: &State)
+    ensures { IsState state.now }
 {
-    let _count = state.nbrs().len();
+    let _conns = state.conns().len();
+    let _nbrs = state.nbrs().len();
 }
 
 // Each number of a packet fits its field.
@@ -101,7 +104,7 @@ fn enter(
     events: &mut Vec<Event>,
 ) -> Result<(), OutOfMemory>
     requires { AreRowsOf flows.records.now flows.rows.now }
-    ensures told { OnOk result (events.new.items ≡ events.old.items ++ events_of (entering flows.entry.records.now hops work.old.state arrival packet.now)) }
+    ensures told { OnOk result (events.new.items ≡ events.old.items ++ events_of flows.entry.minimal (entering flows.entry.records.now hops work.old.state arrival packet.now)) }
     ensures left { OnOk result (work.new.state ≡ (entering flows.entry.records.now hops work.old.state arrival packet.now).state) }
     ensures back { work.new.back ≡ work.old.back }
 {
@@ -121,7 +124,7 @@ fn arrive(
     events: &mut Vec<Event>,
 ) -> Result<(), OutOfMemory>
     requires { AreRowsOf flows.records.now flows.rows.now }
-    ensures told { OnOk result (events.new.items ≡ events.old.items ++ events_of (arriving flows.entry.records.now hops work.old.state arrival outcome.now)) }
+    ensures told { OnOk result (events.new.items ≡ events.old.items ++ events_of flows.entry.minimal (arriving flows.entry.records.now hops work.old.state arrival outcome.now)) }
     ensures left { OnOk result (work.new.state ≡ (arriving flows.entry.records.now hops work.old.state arrival outcome.now).state) }
     ensures back { work.new.back ≡ work.old.back }
 {
@@ -162,7 +165,7 @@ fn send(
 ) -> Result<(), OutOfMemory>
     requires { AreRowsOf flows.records.now flows.rows.now }
     ensures told { OnOk result (events.new.items ≡ events.old.items
-        ++ events_of (sending flows.entry.records.now hops work.old.state arrival (target_of flows.entry.records.now (datapath_at flows.entry.records.now arrival) (value packet.now Outport)) (carried packet.now))) }
+        ++ events_of flows.entry.minimal (sending flows.entry.records.now hops work.old.state arrival (target_of flows.entry.records.now (datapath_at flows.entry.records.now arrival) (value packet.now Outport)) (carried packet.now))) }
     ensures left { OnOk result (work.new.state ≡ (sending flows.entry.records.now hops work.old.state arrival (target_of flows.entry.records.now (datapath_at flows.entry.records.now arrival) (value packet.now Outport)) (carried packet.now)).state) }
     ensures back { work.new.back ≡ work.old.back }
 {
@@ -196,7 +199,7 @@ fn send_late(
 ) -> Result<(), OutOfMemory>
     requires { AreRowsOf flows.records.now flows.rows.now }
     ensures told { OnOk result (events.new.items ≡ events.old.items
-        ++ events_of (sending flows.entry.records.now hops work.old.state arrival (Late (numbered (value packet.now Outport))) (carried packet.now))) }
+        ++ events_of flows.entry.minimal (sending flows.entry.records.now hops work.old.state arrival (Late (numbered (value packet.now Outport))) (carried packet.now))) }
     ensures left { OnOk result (work.new.state ≡ (sending flows.entry.records.now hops work.old.state arrival (Late (numbered (value packet.now Outport))) (carried packet.now)).state) }
     ensures back { work.new.back ≡ work.old.back }
 {
@@ -223,7 +226,7 @@ fn copy(
     events: &mut Vec<Event>,
 ) -> Result<(), OutOfMemory>
     requires { AreRowsOf flows.records.now flows.rows.now }
-    ensures told { OnOk result (events.new.items ≡ events.old.items ++ events_of (sending flows.entry.records.now hops work.old.state arrival (Ports ports.now) packet.now)) }
+    ensures told { OnOk result (events.new.items ≡ events.old.items ++ events_of flows.entry.minimal (sending flows.entry.records.now hops work.old.state arrival (Ports ports.now) packet.now)) }
     ensures left { OnOk result (work.new.state ≡ (sending flows.entry.records.now hops work.old.state arrival (Ports ports.now) packet.now).state) }
     ensures back { work.new.back ≡ work.old.back }
 {
@@ -249,7 +252,7 @@ fn leave(
     events: &mut Vec<Event>,
 ) -> Result<(), OutOfMemory>
     requires { AreRowsOf flows.records.now flows.rows.now }
-    ensures told { OnOk result (events.new.items ≡ events.old.items ++ events_of (leaving flows.entry.records.now hops work.old.state arrival port (egress_table flows.entry.records.now port late) packet.now)) }
+    ensures told { OnOk result (events.new.items ≡ events.old.items ++ events_of flows.entry.minimal (leaving flows.entry.records.now hops work.old.state arrival port (egress_table flows.entry.records.now port late) packet.now)) }
     ensures left { OnOk result (work.new.state ≡ (leaving flows.entry.records.now hops work.old.state arrival port (egress_table flows.entry.records.now port late) packet.now).state) }
     ensures back { work.new.back ≡ work.old.back }
 {
@@ -272,7 +275,7 @@ fn go_out(
     events: &mut Vec<Event>,
 ) -> Result<(), OutOfMemory>
     requires { AreRowsOf flows.records.now flows.rows.now }
-    ensures told { OnOk result (events.new.items ≡ events.old.items ++ events_of (going_out flows.entry.records.now hops work.old.state arrival port outcome.now)) }
+    ensures told { OnOk result (events.new.items ≡ events.old.items ++ events_of flows.entry.minimal (going_out flows.entry.records.now hops work.old.state arrival port outcome.now)) }
     ensures left { OnOk result (work.new.state ≡ (going_out flows.entry.records.now hops work.old.state arrival port outcome.now).state) }
     ensures back { work.new.back ≡ work.old.back }
 {
@@ -310,13 +313,14 @@ fn deliver(
     events: &mut Vec<Event>,
 ) -> Result<(), OutOfMemory>
     requires { AreRowsOf flows.records.now flows.rows.now }
-    ensures told { OnOk result (events.new.items ≡ events.old.items ++ events_of (delivering flows.entry.records.now hops work.old.state port packet.now)) }
+    ensures told { OnOk result (events.new.items ≡ events.old.items ++ events_of flows.entry.minimal (delivering flows.entry.records.now hops work.old.state port packet.now)) }
     ensures left { OnOk result (work.new.state ≡ (delivering flows.entry.records.now hops work.old.state port packet.now).state) }
     ensures back { work.new.back ≡ work.old.back }
 {
     match side_of(flows.records, port) {
         Side::Host => {
-            events.push(Event::Output(port, packet.headers()))?;
+            let parcel = Parcel::new(flows.alloc, packet.headers())?;
+            events.push(Event::Output(port, parcel))?;
             Ok(())
         }
         Side::NoPeer => {
@@ -345,7 +349,7 @@ fn reply(
     events: &mut Vec<Event>,
 ) -> Result<(), OutOfMemory>
     requires { AreRowsOf flows.records.now flows.rows.now }
-    ensures told { OnOk result (events.new.items ≡ events.old.items ++ events_of (answering flows.entry.records.now hops work.old.state arrival answer packet.now)) }
+    ensures told { OnOk result (events.new.items ≡ events.old.items ++ events_of flows.entry.minimal (answering flows.entry.records.now hops work.old.state arrival answer packet.now)) }
     ensures left { OnOk result (work.new.state ≡ (answering flows.entry.records.now hops work.old.state arrival answer packet.now).state) }
     ensures back { work.new.back ≡ work.old.back }
 {

@@ -14,7 +14,7 @@ use Rattle.lr_units.specs.Network.{network_rows}
 use Rattle.tr_stage.specs.declared.outcome.Hit.{Hit}
 use Rattle.tr_stage.specs.declared.outcome.Outcome.{Outcome}
 use Rattle.tr_walk.specs.declared.event.Event.{Event}
-use Rattle.tr_walk.specs.Events.{event_of}
+use Rattle.tr_walk.specs.Events.{event_of, told_only}
 use Rattle.ct_core.specs.State.{State}
 use Rattle.tr_walk.specs.Machine.{numbered, after_ingress, after_egress, egress, late_table, pipelines}
 use Rattle.tr_walk.specs.Runnable.{AreRunnable}
@@ -25,8 +25,8 @@ pub record AreRowsOf (net : Network) (rows : List Row) : Type 0 where
   pub all : rows ≡ network_rows net
   pub run : AreRunnable net
 
-abbrev pub events_of : Walked Hit State → List Event
-events_of walked = map event_of walked.told
+abbrev pub events_of : Bool → Walked Hit State → List Event
+events_of minimal walked = told_only minimal (map event_of walked.told)
 
 -- how a packet goes on while so many hops are left
 abbrev pub onward : Network → ℕ → Option (Onward Hit State)

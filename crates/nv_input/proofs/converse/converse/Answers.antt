@@ -1,20 +1,28 @@
-use Rattle.std.proofs.Common.{◌≡◌, Result, Ok, Err, OnOk, take, sym, arith}
+use Rattle.std.proofs.Common.{◌≡◌, Result, Ok, Err, OnOk, length, take, ap, sym, arith}
 use Rattle.std.proofs.lemmas.List.{append-nil, length-take-le}
 use Rattle.std.proofs.lemmas.Result.{err_from_is_err_and, IfErr-weaker}
 use Rattle.nv_io.proofs.Writing.{gave_take}
-use Rattle.nv_input.proofs.Conversing.{conversed_first, read_faulted, conversed_more, stopped_within, parted, too_long, finished, stopped_at_end}
+use Rattle.nv_input.specs.Opening.{opening_of}
+use Rattle.nv_input.proofs.Conversing.{conversed_first, opening_failed, read_faulted, conversed_more, stopped_within, parted, too_long, finished, stopped_at_end}
 use Rattle.nv_input.proofs.converse.converse.Goals as goal
 
 both_ok : {T E : Type 0} (r : Result T E) (A B C : Type 0) → (A → B → C) → OnOk r A → OnOk r B → OnOk r C
 both_ok (Ok x) A B C f a b = f a b
 both_ok (Err e) A B C f a b = tt
 
+pub returns-in_err-put_all-clause-stopped : goal.returns-in_err-put_all-clause-stopped
+returns-in_err-put_all-clause-stopped g c =
+    let p = err_from_is_err_and c.from_residual.result c.from_residual.ensures.1 in
+    rw (p.1, p.2)
+    (opening_failed g.S.Source.take_gives g.S.Source.state g.K.Sink.put_gives g.K.Sink.state (opening_of c.args.text.now c.args.server.now.session) c.args.source.now c.args.sink.now c.put_all.new.sink c.in_err-put_all.ensures.err)
+
 pub pieces-init : goal.pieces-init
-pieces-init g c = conversed_first _ _ _ _ c.args.server.now.session c.args.source.now c.args.sink.now _ _ _ c.requires.first c.requires.next
+pieces-init g c =
+    conversed_first _ _ _ _ (opening_of c.args.text.now c.args.server.now.session) c.args.source.now c.args.sink.now c.put_all.new.sink _ _ c.requires.first (ap length c.requires.line) c.in_ok-put_all.ensures.ok
 
 pub returns-in_err-count-clause-stopped : goal.returns-in_err-count-clause-stopped
 returns-in_err-count-clause-stopped g c =
-    let p = err_from_is_err_and c.from_residual.result c.from_residual.ensures.1 in
+    let p = err_from_is_err_and c.from_residual-in_err-count.result c.from_residual-in_err-count.ensures.1 in
     let failed = c.in_err-count.ensures in
     rw (p.1, p.2)
     (read_faulted _ _ _ _ _ _ _ _ _ _ _ _ c.pieces.room c.pieces.invariant c.take.new.self c.take.new.into (omega arith) failed.step failed.none_lost failed.none_given failed.fault)

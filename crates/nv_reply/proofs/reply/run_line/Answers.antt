@@ -8,9 +8,9 @@ use Rattle.nv_reply.proofs.reply.run_line.Goals as goal
 pub run_edits-requires-clause-readable : goal.run_edits-requires-clause-readable
 run_edits-requires-clause-readable c = line_readable c.args.line.now c.in-Ok-Edits.edits (c.in-Ok-Edits.ensures.read ∙ ap Ok c.in-Ok-Edits.field-0-is)
 
--- and of what is built
-pub run_edits-requires-clause-built : goal.run_edits-requires-clause-built
-run_edits-requires-clause-built c = line_built c.args.line.now c.in-Ok-Edits.edits (c.in-Ok-Edits.ensures.read ∙ ap Ok c.in-Ok-Edits.field-0-is)
+-- and of what lines can ask for
+pub run_edits-requires-clause-asked : goal.run_edits-requires-clause-asked
+run_edits-requires-clause-asked c = line_built c.args.line.now c.in-Ok-Edits.edits (c.in-Ok-Edits.ensures.read ∙ ap Ok c.in-Ok-Edits.field-0-is)
 
 -- and no more than it has bytes
 pub run_edits-requires-clause-room : goal.run_edits-requires-clause-room

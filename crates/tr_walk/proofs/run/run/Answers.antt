@@ -5,6 +5,7 @@ use Rattle.net_meaning.specs.Places.{datapath_at}
 use Rattle.tr_pipe.specs.Runnable.{IsRunnable}
 use Rattle.tr_stage.specs.Machine.{flows_of}
 use Rattle.tr_walk.specs.declared.event.Event.TheVariants as variants
+use Rattle.tr_walk.specs.Events.{told_only}
 use Rattle.tr_walk.proofs.Runs.{datapath_runs, no_change, no_hits, no_outcome}
 use Rattle.tr_walk.proofs.run.run.Goals as goal
 use Rattle.tr_walk.proofs.run.run.Goals.{Then-dp-eq0}
@@ -17,7 +18,7 @@ pub returns-then-dp-eq0-clause-hits : goal.returns-then-dp-eq0-clause-hits
 returns-then-dp-eq0-clause-hits c =
     let net = c.args.flows.records.now in
     sym (append-nil c.args.events.now.items)
-    ∙ ap (λ hits. c.args.events.now.items ++ map variants.Hit hits) (sym (no_hits net c.requires.rows.sound (datapath_at net c.args.port) (no_datapath c) c.args.packet.now c.args.pipeline c.args.table c.args.work.now.state))
+    ∙ ap (λ hits. c.args.events.now.items ++ told_only c.args.flows.minimal (map variants.Hit hits)) (sym (no_hits net c.requires.rows.sound (datapath_at net c.args.port) (no_datapath c) c.args.packet.now c.args.pipeline c.args.table c.args.work.now.state))
 
 pub returns-then-dp-eq0-clause-outcome : goal.returns-then-dp-eq0-clause-outcome
 returns-then-dp-eq0-clause-outcome c =

@@ -35,5 +35,5 @@ decreases-enter l = 8 * l.hops + 6
 -- what is told so far, and then what the copies tell that are left, is all, and they leave the state that all leave
 abbrev pub invariant-copy-loop-port : goal.invariant-copy-loop-port
 invariant-copy-loop-port l =
-    SameEnd l.events.items (sending l.flows.records.now l.hops l.work.state l.arrival (Ports (drop l.port-index l.ports)) l.packet) l.fn.events.items (sending l.flows.records.now l.hops l.fn.work.state l.arrival (Ports l.ports) l.packet)
+    SameEnd l.flows.minimal l.events.items (sending l.flows.records.now l.hops l.work.state l.arrival (Ports (drop l.port-index l.ports)) l.packet) l.fn.events.items (sending l.flows.records.now l.hops l.fn.work.state l.arrival (Ports l.ports) l.packet)
     × (l.work.back ≡ l.fn.work.back)

@@ -1,6 +1,6 @@
 use Rattle.tr_router.proofs.Ends as routers
 use Rattle.tr_walk.proofs.Ends.{runnable, switch_runs}
-use Rattle.tr_walk.proofs.laws.rows_of_plain_networks_are_runnable.Goals as goal
+use Rattle.tr_walk.proofs.laws.rows_of_networks_are_runnable.Goals as goal
 
 pub returns-clause-switches : goal.returns-clause-switches
 returns-clause-switches c net sound plain switch there = switch_runs net sound switch there ((runnable net sound plain).switches switch there)

@@ -25,13 +25,14 @@ use Rattle.sb_model.specs.declared.stage.Stage.{Stage}
 use Rattle.sb_model.specs.declared.stage.Stage.TheVariants.{LrInIpInput}
 use Rattle.net_meaning.specs.Switches.{is_among_ips, is_request}
 use Rattle.net_router.specs.Input.{first_address, is_echo_request, is_external, is_multicast_ip, is_of_no_host, is_own, is_refused}
+use Rattle.net_rows.specs.Build.{vip_input}
 use Rattle.net_rows.specs.Unit.{row_of, rule, unit_of, unit_of_datapath}
 use Rattle.net_rows.specs.declared.rule.Rule.{Rule}
 use Rattle.net_rows.specs.declared.rule.Unit.{Unit}
 use Rattle.lr_rows.specs.Input.{echo_rule, input_rules, is_from_many, is_from_no_host, is_to_no_host, own_arp_rule, own_source_rule, router_in_rules}
 use Rattle.lr_rows.specs.Make.{answers_arp, arp_rule_for}
 use Rattle.lr_rows.specs.Nat.{router_nat_rules}
-use Rattle.lr_units.specs.Units.{binding_input, nat_rule_input, neighbour_input, port_in_input, static_route_input, vip_addr_input, vip_router_input}
+use Rattle.lr_units.specs.Units.{binding_input, nat_rule_input, neighbour_input, port_in_input, static_route_input, vip_addr_input}
 use Rattle.lr_units.specs.Words.{free_addresses}
 use Rattle.ls_laws.proofs.RuleStages.{rules_at}
 use Rattle.tr_pipe.specs.Machine.{StageEnd, run_actions}
@@ -345,7 +346,7 @@ module _ (net : Network) (router : Router) (flight : Flight) (port : RouterPort)
         by (Hides changes is) = elsewhere _ is refl
         by (Redirects changes is) = elsewhere _ is refl
     by_translation row (OfVip of) takes =
-        absurd (false≢true (ap (λ (r : Rule). is_input r.stage) (sym (vip_rule-gives (vip_router_input of.lb of.vip) of.says of.in_rules).is) ∙ ap is_input of.of_stage))
+        absurd (false≢true (ap (λ (r : Rule). is_input r.stage) (sym (vip_rule-gives (vip_input of.lb of.vip) of.says of.in_rules).is) ∙ ap is_input of.of_stage))
     by_translation row (OfVipAddr of) takes =
         by_asking row (unit_of router.id of.lb.id) of.addr (external-from_vip net router.id of.lb of.among of.addr of.in_lb)
         (of.is ∙ ap (row_of (unit_of router.id of.lb.id)) (vip_addr_rule-gives (vip_addr_input of.addr) of.says of.in_rules)) takes

@@ -27,8 +27,9 @@ use Rattle.sb_rows.specs.Row.{IsInRowOrder}
 use Rattle.sb_rows.proofs.AllAtOnce.{put_rows_ordered}
 use Rattle.sb_rows.proofs.Select.{Contains-from_put_rows, Contains-put_rows_new}
 use Rattle.sb_rows.proofs.Tables.{in_table-gives}
-use Rattle.net_rows.specs.Build.{all_rows}
+use Rattle.net_rows.specs.Build.{all_rows, vip_input}
 use Rattle.net_rows.specs.Unit.{row_of, said_by, unit_of, unit_of_datapath}
+use Rattle.net_rows.specs.declared.inputs.VipInput.{VipInput}
 use Rattle.net_rows.specs.declared.rule.Rule.{Rule}
 use Rattle.net_rows.specs.declared.rule.Unit.{Unit}
 use Rattle.net_rows.proofs.Elements.{any_gives, one_of_none, Contains-filter, Contains-from_filter, Contains-flat_map, Contains-from_flat_map, Contains-from_map, Contains-map}
@@ -40,11 +41,10 @@ use Rattle.lr_rows.specs.Nat.{nat_rules, router_nat_rules}
 use Rattle.lr_rows.specs.declared.inputs.BindingInput.{BindingInput}
 use Rattle.lr_rows.specs.declared.inputs.NeighbourInput.{NeighbourInput}
 use Rattle.lr_rows.specs.declared.inputs.VipAddrInput.{VipAddrInput}
-use Rattle.lr_rows.specs.declared.inputs.VipRouterInput.{VipRouterInput}
 use Rattle.lr_rows.specs.Neighbours.{binding_rules, neighbour_rules}
 use Rattle.lr_rows.specs.Routes.{port_route_rules, router_route_rules, static_route_rules}
 use Rattle.lr_units.specs.Build.{router_rows, rows_of, rows_of_input, rows_of_nat, rows_of_routes, router_in_rows, port_in_rows, router_route_rows, port_route_rows, static_route_rows, binding_rows, neighbour_rows, router_nat_rows, nat_rule_rows, vip_router_rows, vip_addr_rows}
-use Rattle.lr_units.specs.Units.{binding_input, binding_units, bindings_of, has_hosts, nat_rule_input, nat_rule_units, neighbour_input, neighbour_units, port_in_input, port_in_units, port_route_input, port_route_units, router_nat_input, router_nat_units, router_units, static_route_input, static_route_units, vip_addr_input, vip_addr_units, vip_router_input, vip_router_units}
+use Rattle.lr_units.specs.Units.{binding_input, binding_units, bindings_of, has_hosts, nat_rule_input, nat_rule_units, neighbour_input, neighbour_units, port_in_input, port_in_units, port_route_input, port_route_units, router_nat_input, router_nat_units, router_units, static_route_input, static_route_units, vip_addr_input, vip_addr_units, vip_router_units}
 use Rattle.lr_units.specs.Words.{across, addresses_once}
 use Rattle.lr_units.proofs.Numbers.{switch_is_no_router}
 use Rattle.nb_router.specs.Vocabulary.{dnats, lbs_of, nats_of}
@@ -165,7 +165,7 @@ pub record IsVipRule (net : Network) (dp : ObjId) (stage : Stage) (row : Row) : 
   pub vip : Vip
   pub in_lb : Contains lb.vips vip
   pub says : Rule
-  pub in_rules : Contains (vip_router_rules (vip_router_input lb vip)) says
+  pub in_rules : Contains (vip_router_rules (vip_input lb vip)) says
   pub of_stage : says.stage ≡ stage
   pub is : row ≡ row_of (unit_of dp lb.id) says
 
@@ -344,12 +344,12 @@ module _ (net : Network) (router : Router) (stage : Stage) (row : Row) (of : (ro
   by_vip : Contains (vip_router_rows net) row → IsRule net dp stage row
   by_vip there =
       let at = said_gives _ _ (vip_router_units net) row there in
-      let of_router = Contains-from_flat_map (λ (r : Router). flat_map (λ (lb : Lb). map (λ (vip : Vip). ((lb.id, vip.at, r.id), vip_router_input lb vip)) lb.vips) (lbs_of net r.id)) net.routers at.unit at.among in
-      let of_lb = Contains-from_flat_map (λ (lb : Lb). map (λ (vip : Vip). ((lb.id, vip.at, of_router.0.id), vip_router_input lb vip)) lb.vips) (lbs_of net of_router.0.id) at.unit of_router.2 in
-      let from = Contains-from_map (λ (vip : Vip). ((of_lb.0.id, vip.at, of_router.0.id), vip_router_input of_lb.0 vip)) of_lb.0.vips at.unit of_lb.2 in
+      let of_router = Contains-from_flat_map (λ (r : Router). flat_map (λ (lb : Lb). map (λ (vip : Vip). ((lb.id, vip.at, r.id), vip_input lb vip)) lb.vips) (lbs_of net r.id)) net.routers at.unit at.among in
+      let of_lb = Contains-from_flat_map (λ (lb : Lb). map (λ (vip : Vip). ((lb.id, vip.at, of_router.0.id), vip_input lb vip)) lb.vips) (lbs_of net of_router.0.id) at.unit of_router.2 in
+      let from = Contains-from_map (λ (vip : Vip). ((of_lb.0.id, vip.at, of_router.0.id), vip_input of_lb.0 vip)) of_lb.0.vips at.unit of_lb.2 in
       by of_router.0 of_lb.0 of_lb.1 from.0 from.1 at.says (subst (λ u. Contains (vip_router_rules u.1) at.says) (sym from.2) at.in_rules) (ap (λ u. row_of (unit_of u.0.2 u.0.0) at.says) from.2 ∙ at.is)
     where
-      by : (other : Router) (lb : Lb) → Contains (lbs_of net other.id) lb → (vip : Vip) → Contains lb.vips vip → (says : Rule) → Contains (vip_router_rules (vip_router_input lb vip)) says
+      by : (other : Router) (lb : Lb) → Contains (lbs_of net other.id) lb → (vip : Vip) → Contains lb.vips vip → (says : Rule) → Contains (vip_router_rules (vip_input lb vip)) says
           → row_of (unit_of other.id lb.id) says ≡ row → IsRule net dp stage row
       by other lb attached vip in_lb says there_in is =
           let unit = unit_of other.id lb.id in
@@ -414,8 +414,9 @@ module _ (net : Network) (router : Router) (stage : Stage) (row : Row) (of : (ro
           let number = eqb-true at.port.switch.0 some.0.0 some.2 in
           let named : some.0 ≡ at.port.switch = λ i. record { 0 = sym number i } in
           no_switch some.0 some.1 (named ∙ ap (λ (r : Row). r.dp) at.is ∙ of.0)
-      by (inr (inr at)) =
+      by (inr (inr (inl at))) =
           no_switch at.switch.id (Contains-map (λ (s : Switch). s.id) net.switches at.switch (Contains-from_filter _ net.switches at.switch at.applied)) (ap (λ (r : Row). r.dp) at.is ∙ of.0)
+      by (inr (inr (inr at))) = no_switch at.switch.id (Contains-map (λ (s : Switch). s.id) net.switches at.switch at.among) (ap (λ (r : Row). r.dp) at.is ∙ of.0)
 
 -- each row of a router's table is one of these
 pub table-gives : (net : Network) (router : Router) (packet : _) → IsOnRouter net router packet → (stage : Stage) (row : Row) → Contains (network_rows net) row → is_in_table router.id stage row ≡ true
@@ -527,17 +528,17 @@ module _ (net : Network) where
       from_translation row (Contains-append_left (nat_rule_rows net) (vip_router_rows net ++ vip_addr_rows net) row
       (said_from _ _ (nat_rule_units net) (nat.id, nat_rule_input nat) says (Contains-map (λ (n : Nat). (n.id, nat_rule_input n)) net.nats nat there) in_it))
 
-  pub rows-vip : (router : Router) (lb : Lb) (vip : Vip) (says : Rule) → Contains net.routers router → Contains (lbs_of net router.id) lb → Contains lb.vips vip → Contains (vip_router_rules (vip_router_input lb vip)) says
+  pub rows-vip : (router : Router) (lb : Lb) (vip : Vip) (says : Rule) → Contains net.routers router → Contains (lbs_of net router.id) lb → Contains lb.vips vip → Contains (vip_router_rules (vip_input lb vip)) says
       → Contains (network_rows net) (row_of (unit_of router.id lb.id) says)
   rows-vip router lb vip says there attached in_lb in_it =
       let row = row_of (unit_of router.id lb.id) says in
-      let unit : (ObjId × Frontend × ObjId) × VipRouterInput = ((lb.id, vip.at, router.id), vip_router_input lb vip) in
+      let unit : (ObjId × Frontend × ObjId) × VipInput = ((lb.id, vip.at, router.id), vip_input lb vip) in
       from_translation row (Contains-append_right (nat_rule_rows net) (vip_router_rows net ++ vip_addr_rows net) row
       (Contains-append_left (vip_router_rows net) (vip_addr_rows net) row
       (said_from _ _ (vip_router_units net) unit says
-      (Contains-flat_map (λ (r : Router). flat_map (λ (b : Lb). map (λ (v : Vip). ((b.id, v.at, r.id), vip_router_input b v)) b.vips) (lbs_of net r.id)) net.routers router unit there
-      (Contains-flat_map (λ (b : Lb). map (λ (v : Vip). ((b.id, v.at, router.id), vip_router_input b v)) b.vips) (lbs_of net router.id) lb unit attached
-      (Contains-map (λ (v : Vip). ((lb.id, v.at, router.id), vip_router_input lb v)) lb.vips vip in_lb)))
+      (Contains-flat_map (λ (r : Router). flat_map (λ (b : Lb). map (λ (v : Vip). ((b.id, v.at, r.id), vip_input b v)) b.vips) (lbs_of net r.id)) net.routers router unit there
+      (Contains-flat_map (λ (b : Lb). map (λ (v : Vip). ((b.id, v.at, router.id), vip_input b v)) b.vips) (lbs_of net router.id) lb unit attached
+      (Contains-map (λ (v : Vip). ((lb.id, v.at, router.id), vip_input lb v)) lb.vips vip in_lb)))
       in_it)))
 
   pub rows-vip_addr : (router : Router) (lb : Lb) (addr : Ip4) (says : Rule) → Contains net.routers router → Contains (lbs_of net router.id) lb → Contains (addresses_once lb.vips) addr → Contains (vip_addr_rules (vip_addr_input addr)) says

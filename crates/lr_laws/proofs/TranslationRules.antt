@@ -19,7 +19,9 @@ use Rattle.sb_model.specs.declared.row.Row.{Row}
 use Rattle.sb_model.specs.declared.stage.Stage.{Stage}
 use Rattle.sb_model.specs.declared.stage.Stage.TheVariants.{LrInIpInput, LrInUnsnat, LrInDnat, LrOutSnat}
 use Rattle.net_router.specs.Translation.{changes_source}
+use Rattle.net_rows.specs.Build.{vip_input}
 use Rattle.net_rows.specs.Unit.{rule}
+use Rattle.net_rows.specs.declared.inputs.VipInput.{VipInput}
 use Rattle.net_rows.specs.declared.rule.Rule.{Rule}
 use Rattle.net_rows.proofs.Elements.{one_first, one_later}
 use Rattle.lr_rows.specs.Balancers.{balancing_rule, vip_addr_rules, vip_router_rules}
@@ -27,8 +29,7 @@ use Rattle.lr_rows.specs.Make.{arp_rule_for, is_within}
 use Rattle.lr_rows.specs.Nat.{nat_rules, translating_rules}
 use Rattle.lr_rows.specs.declared.inputs.NatRuleInput.{NatRuleInput}
 use Rattle.lr_rows.specs.declared.inputs.VipAddrInput.{VipAddrInput}
-use Rattle.lr_rows.specs.declared.inputs.VipRouterInput.{VipRouterInput}
-use Rattle.lr_units.specs.Units.{nat_rule_input, vip_addr_input, vip_router_input}
+use Rattle.lr_units.specs.Units.{nat_rule_input, vip_addr_input}
 use Rattle.lr_laws.proofs.Members.{of_first, of_none}
 use Rattle.lr_laws.proofs.Tables.{Translates}
 use Rattle.lr_laws.proofs.Tables.Translates.{OfNat, OfVip, OfVipAddr}
@@ -105,11 +106,11 @@ module _ (input : NatRuleInput) where
 -- ---- the rules of load balancers
 
 -- the rule of a VIP that has backends
-pub record IsVipSays (input : VipRouterInput) (says : Rule) : Type 0 where
+pub record IsVipSays (input : VipInput) (says : Rule) : Type 0 where
   pub some : is_empty input.backends ≡ false
   pub is : says ≡ balancing_rule input
 
-pub vip_rule-gives : (input : VipRouterInput) (says : Rule) → Contains (vip_router_rules input) says → IsVipSays input says
+pub vip_rule-gives : (input : VipInput) (says : Rule) → Contains (vip_router_rules input) says → IsVipSays input says
 unfolding vip_router_rules
 vip_rule-gives input says there = by input.backends refl there
   where
@@ -117,7 +118,7 @@ vip_rule-gives input says there = by input.backends refl there
     by [] is at = of_none says at
     by (backend ∷ others) is at = of_first (balancing_rule input) [] says (λ same. record { some = ap is_empty is; is = same }) (of_none says) at
 
-pub vip_rule-from : (input : VipRouterInput) → is_empty input.backends ≡ false → Contains (vip_router_rules input) (balancing_rule input)
+pub vip_rule-from : (input : VipInput) → is_empty input.backends ≡ false → Contains (vip_router_rules input) (balancing_rule input)
 unfolding vip_router_rules
 vip_rule-from input some = rw some (one_first (balancing_rule input) [] (balancing_rule input) refl)
 
@@ -147,6 +148,6 @@ said_by_nat input says (Redirects changes is) = ap (λ (r : Rule). is_of_transla
 pub translation_stage : (net : Network) (dp : ObjId) (stage : Stage) (row : Row) → Translates net dp stage row → is_of_translation stage ≡ true
 translation_stage net dp stage row (OfNat of) = ap is_of_translation (sym of.of_stage) ∙ said_by_nat (nat_rule_input of.nat) of.says (nat_rule-gives (nat_rule_input of.nat) of.says of.in_rules)
 translation_stage net dp stage row (OfVip of) =
-    ap is_of_translation (sym of.of_stage) ∙ ap (λ (r : Rule). is_of_translation r.stage) (vip_rule-gives (vip_router_input of.lb of.vip) of.says of.in_rules).is
+    ap is_of_translation (sym of.of_stage) ∙ ap (λ (r : Rule). is_of_translation r.stage) (vip_rule-gives (vip_input of.lb of.vip) of.says of.in_rules).is
 translation_stage net dp stage row (OfVipAddr of) =
     ap is_of_translation (sym of.of_stage) ∙ ap (λ (r : Rule). is_of_translation r.stage) (vip_addr_rule-gives (vip_addr_input of.addr) of.says of.in_rules)

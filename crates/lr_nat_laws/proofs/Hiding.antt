@@ -45,6 +45,7 @@ use Rattle.sb_model.specs.declared.stage.Stage.TheVariants.{LrOutSnat, LrOutDeli
 use Rattle.net_router.specs.Input.{is_in_network}
 use Rattle.net_router.specs.Translation as meaning
 use Rattle.net_router.specs.Translation.{changes_source, closer, hidden_behind, hidden_by}
+use Rattle.net_rows.specs.Build.{vip_input}
 use Rattle.net_rows.specs.Unit.{row_of, unit_of, unit_of_datapath}
 use Rattle.net_rows.specs.declared.rule.Rule.{Rule}
 use Rattle.net_rows.proofs.Elements.{one_first, one_of_none, Contains-filter, Contains-from_filter}
@@ -53,7 +54,7 @@ use Rattle.net_rows.proofs.SoundObjects.{IsBlock}
 use Rattle.lr_rows.specs.Make.{is_within}
 use Rattle.lr_rows.specs.Nat.{router_nat_rules}
 use Rattle.lr_units.specs.Network.{network_rows}
-use Rattle.lr_units.specs.Units.{binding_input, nat_rule_input, neighbour_input, router_nat_input, static_route_input, vip_addr_input, vip_router_input}
+use Rattle.lr_units.specs.Units.{binding_input, nat_rule_input, neighbour_input, router_nat_input, static_route_input, vip_addr_input}
 use Rattle.ls_laws.proofs.PassingStages.{passing}
 use Rattle.ls_laws.proofs.RuleStages.{from_rules_at, rules_at, the_only}
 use Rattle.ls_laws.proofs.Tables.{filter_passes}
@@ -199,7 +200,7 @@ module _ (net : Network) (router : Router) (flight : Flight) (on : IsOnRouter ne
   taker row (OfBinding of) = absurd (false≢true (ap is_of_hosts (sym of.of_stage) ∙ binding_stage (binding_input of.port of.binding) of.says of.in_rules))
   taker row (OfNeighbour of) = absurd (false≢true (ap is_of_hosts (sym of.of_stage) ∙ neighbour_stage (neighbour_input net of.port of.other) of.says of.in_rules))
   taker row (OfTranslation (OfNat of)) = by_nat row of (nat_rule-gives (nat_rule_input of.nat) of.says of.in_rules)
-  taker row (OfTranslation (OfVip of)) = other_stage of.says of.of_stage (ap (λ (r : Rule). is_snat_stage r.stage) (vip_rule-gives (vip_router_input of.lb of.vip) of.says of.in_rules).is)
+  taker row (OfTranslation (OfVip of)) = other_stage of.says of.of_stage (ap (λ (r : Rule). is_snat_stage r.stage) (vip_rule-gives (vip_input of.lb of.vip) of.says of.in_rules).is)
   taker row (OfTranslation (OfVipAddr of)) = other_stage of.says of.of_stage (ap (λ (r : Rule). is_snat_stage r.stage) (vip_addr_rule-gives (vip_addr_input of.addr) of.says of.in_rules))
 
   -- ---- the rules that take the packet

@@ -21,12 +21,13 @@ use Rattle.sb_model.specs.declared.row.Row.{Row}
 use Rattle.sb_model.specs.declared.stage.Stage.{Stage}
 use Rattle.sb_model.specs.declared.stage.Stage.TheVariants.{LrInUnsnat, LrInDefrag}
 use Rattle.net_router.specs.Translation.{changes_source, unsnatted}
+use Rattle.net_rows.specs.Build.{vip_input}
 use Rattle.net_rows.specs.Unit.{row_of, unit_of, unit_of_datapath}
 use Rattle.net_rows.specs.declared.rule.Rule.{Rule}
 use Rattle.net_rows.proofs.Elements.{any_from, any_gives, one_first, one_later}
 use Rattle.lr_rows.specs.Nat.{router_nat_rules}
 use Rattle.lr_rows.specs.declared.inputs.NatRuleInput.{NatRuleInput}
-use Rattle.lr_units.specs.Units.{nat_rule_input, vip_addr_input, vip_router_input}
+use Rattle.lr_units.specs.Units.{nat_rule_input, vip_addr_input}
 use Rattle.ls_laws.proofs.PassingStages.{passing}
 use Rattle.ls_laws.proofs.RuleStages.{from_rules_at, rules_at, the_only}
 use Rattle.tr_pipe.specs.Machine.{StageEnd, run_actions, step}
@@ -140,7 +141,7 @@ module _ (net : Network) (router : Router) (flight : Flight) (on : IsOnRouter ne
   by_translation : (row : Row) → Translates net router.id LrInUnsnat row → holds (names net) packet row.matching ≡ true → OfLayer row
   by_translation row (OfNat of) takes = by_nat row of takes
   by_translation row (OfVip of) takes =
-      absurd (false≢true (ap (λ (r : Rule). is_here r.stage) (sym (vip_rule-gives (vip_router_input of.lb of.vip) of.says of.in_rules).is) ∙ ap is_here of.of_stage))
+      absurd (false≢true (ap (λ (r : Rule). is_here r.stage) (sym (vip_rule-gives (vip_input of.lb of.vip) of.says of.in_rules).is) ∙ ap is_here of.of_stage))
   by_translation row (OfVipAddr of) takes =
       absurd (false≢true (ap (λ (r : Rule). is_here r.stage) (sym (vip_addr_rule-gives (vip_addr_input of.addr) of.says of.in_rules)) ∙ ap is_here of.of_stage))
 

@@ -1,5 +1,5 @@
 //! The inputs of units of routers: all that their rows depend on beside their keys.
-use nb_records::{Backend, Frontend, NatKind, Proto, RouteBy};
+use nb_records::{NatKind, RouteBy};
 use nv_base::{Ip4, Items, Mac, Name, ObjId, Prefix};
 
 /// What comes in by a router port. The key is the port.
@@ -96,15 +96,6 @@ pub struct NatRuleInput {
     pub external: Ip4,
     /// Of an `snat` rule a network, of another one address.
     pub logical: Prefix,
-}
-
-/// A VIP of a load balancer at a router. The key is the load balancer, the VIP and the router.
-#[derive(Drop, PartialEq, Eq)]
-pub struct VipRouterInput {
-    /// The VIP, as in the key.
-    pub at: Frontend,
-    pub proto: Proto,
-    pub backends: Items<Backend>,
 }
 
 /// An address of the VIPs of a load balancer at a router. The key is the load balancer, the address and the router.

@@ -3,7 +3,7 @@ ghost use Rattle.lr_rows.specs.inner.Exact as tells;
 
 use crate::{
     BindingInput, Exit, Host, NatRuleInput, NeighbourInput, PortInInput, PortRouteInput,
-    RouterNatInput, StaticRouteInput, VipAddrInput, VipRouterInput,
+    RouterNatInput, StaticRouteInput, VipAddrInput,
 };
 use nv_base::{Kept, OutOfMemory};
 use std::alloc::Global;
@@ -108,18 +108,6 @@ impl Kept for NatRuleInput {
 
     fn copy(&self, _alloc: Global) -> Result<Self, OutOfMemory> {
         Ok(*self)
-    }
-}
-
-impl Kept for VipRouterInput {
-    ghost exact = { tells.vip_router };
-
-    fn copy(&self, alloc: Global) -> Result<Self, OutOfMemory> {
-        Ok(VipRouterInput {
-            at: self.at,
-            proto: self.proto,
-            backends: self.backends.copy(alloc)?,
-        })
     }
 }
 

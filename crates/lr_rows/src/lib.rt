@@ -8,7 +8,7 @@ mod make;
 
 pub use inputs::{
     BindingInput, Exit, Host, NatRuleInput, NeighbourInput, PortInInput, PortRouteInput,
-    RouterNatInput, StaticRouteInput, VipAddrInput, VipRouterInput,
+    RouterNatInput, StaticRouteInput, VipAddrInput,
 };
 pub use make::{
     addresses_of, answers_arp, arp_rule_for, as_address, as_network, becomes, cleared, is_within,

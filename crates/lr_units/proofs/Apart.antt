@@ -38,9 +38,9 @@ use Rattle.lr_rows.specs.declared.inputs.PortInInput.{PortInInput}
 use Rattle.lr_rows.specs.declared.inputs.PortRouteInput.{PortRouteInput}
 use Rattle.lr_rows.specs.declared.inputs.StaticRouteInput.{StaticRouteInput}
 use Rattle.lr_rows.specs.declared.inputs.VipAddrInput.{VipAddrInput}
-use Rattle.lr_rows.specs.declared.inputs.VipRouterInput.{VipRouterInput}
+use Rattle.net_rows.specs.declared.inputs.VipInput.{VipInput}
 use Rattle.lr_units.specs.Build.{binding_rows, nat_rule_rows, neighbour_rows, port_in_rows, port_route_rows, router_in_rows, router_nat_rows, router_route_rows, router_rows, rows_of, rows_of_input, rows_of_nat, rows_of_routes, static_route_rows, vip_addr_rows, vip_router_rows}
-use Rattle.lr_units.specs.Units.{binding_input, binding_units, bindings_of, has_hosts, nat_rule_input, nat_rule_units, neighbour_input, neighbour_units, port_in_input, port_in_units, port_route_input, port_route_units, router_nat_units, router_units, static_route_input, static_route_units, vip_addr_input, vip_addr_units, vip_router_input, vip_router_units}
+use Rattle.lr_units.specs.Units.{binding_input, binding_units, bindings_of, has_hosts, nat_rule_input, nat_rule_units, neighbour_input, neighbour_units, port_in_input, port_in_units, port_route_input, port_route_units, router_nat_units, router_units, static_route_input, static_route_units, vip_addr_input, vip_addr_units, vip_router_units}
 use Rattle.lr_units.specs.Words.{across, addresses_once}
 use Rattle.lr_units.proofs.ApartKinds as kind
 use Rattle.lr_units.proofs.ApartKinds.{rows_differ}
@@ -48,6 +48,7 @@ use Rattle.lr_units.proofs.Numbers.{nat_is_no_lb, port_is_no_binding, port_is_no
 use Rattle.lr_units.proofs.Sources.{each_of_balancers, each_of_map, each_of_pieces, every_of_kind}
 use Rattle.lr_units.proofs.Stages.{binding_at, nat_at, neighbour_at, port_in_at, port_route_at, router_in_at, router_nat_at, router_route_at, static_route_at, vip_addr_at, vip_router_at}
 use Rattle.lr_units.proofs.Typed.{across_member, attached_member}
+use Rattle.net_rows.specs.Build.{vip_input}
 
 -- ---- stages
 
@@ -194,7 +195,7 @@ module _ (net : Network) (sound : IsSound net) where
   vip_router_hints : AllByRecursion (HasHint (lb_ids net)) (vip_router_rows net)
   vip_router_hints =
       of_keys (λ n. Contains (lb_ids net) n) _ _ (vip_router_units net)
-      (each_of_balancers (λ (u : (ObjId × Frontend × ObjId) × VipRouterInput). Contains (lb_ids net) u.0.0) net (λ (lb : Lb). lb.vips) (λ router lb (vip : Vip). ((lb.id, vip.at, router.id), vip_router_input lb vip))
+      (each_of_balancers (λ (u : (ObjId × Frontend × ObjId) × VipInput). Contains (lb_ids net) u.0.0) net (λ (lb : Lb). lb.vips) (λ router lb (vip : Vip). ((lb.id, vip.at, router.id), vip_input lb vip))
       (λ router there lb attached vip in_lb. Contains-map (λ (x : Lb). x.id) net.lbs lb (attached_member net sound router lb attached)))
 
   vip_addr_hints : AllByRecursion (HasHint (lb_ids net)) (vip_addr_rows net)

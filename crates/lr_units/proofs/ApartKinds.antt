@@ -25,12 +25,15 @@ use Rattle.nb_router.specs.Vocabulary.{is_attached, lbs_of}
 use Rattle.nv_table.specs.Table.{record_of}
 use Rattle.nv_table.proofs.Found.{own_record}
 use Rattle.sb_model.specs.declared.row.Row.{Row}
+use Rattle.sb_model.specs.declared.stage.Stage.TheVariants.{LrInDnat}
 use Rattle.net_rows.specs.Unit.{row_of, said_by, unit_of, unit_of_datapath}
 use Rattle.net_rows.specs.declared.rule.Rule.{Rule}
 use Rattle.net_rows.specs.declared.rule.Unit.{Unit}
 use Rattle.net_rows.proofs.Differ.{Differ, RulesDiffer, dp_of_unit, dps_differ, hint_of_unit, hints_differ, unit_rows_differ}
 use Rattle.net_rows.proofs.Elements.{one_of, one_of_none, Contains-from_filter, Contains-from_map}
 use Rattle.net_rows.proofs.Pairs.{Across, OfPairs, every_from_members, every_member, pairs_as, pairs_filter, pairs_flat_map, pairs_map, pairs_weaker}
+use Rattle.net_rows.proofs.SoundVips.{IsSoundVip, OtherVips, vips_apart, vips_are_sound}
+use Rattle.net_rows.proofs.VipRules.{opens_printable, vips_differ}
 use Rattle.lr_rows.specs.Balancers.{balancing_rule, vip_addr_rules, vip_router_rules}
 use Rattle.lr_rows.specs.Input.{port_in_rules, router_in_rules}
 use Rattle.lr_rows.specs.Make.{arp_rule_for}
@@ -45,18 +48,19 @@ use Rattle.lr_rows.specs.declared.inputs.PortInInput.{PortInInput}
 use Rattle.lr_rows.specs.declared.inputs.PortRouteInput.{PortRouteInput}
 use Rattle.lr_rows.specs.declared.inputs.StaticRouteInput.{StaticRouteInput}
 use Rattle.lr_rows.specs.declared.inputs.VipAddrInput.{VipAddrInput}
-use Rattle.lr_rows.specs.declared.inputs.VipRouterInput.{VipRouterInput}
+use Rattle.net_rows.specs.declared.inputs.VipInput.{VipInput}
 use Rattle.lr_units.specs.Build.{binding_rows, nat_rule_rows, neighbour_rows, port_in_rows, port_route_rows, router_in_rows, router_nat_rows, router_route_rows, rows_of, static_route_rows, vip_addr_rows, vip_router_rows}
-use Rattle.lr_units.specs.Units.{binding_input, bindings_of, has_hosts, nat_rule_input, neighbour_input, of_balancers, port_in_input, port_route_input, router_nat_input, static_route_input, vip_addr_input, vip_router_input}
+use Rattle.lr_units.specs.Units.{binding_input, bindings_of, has_hosts, nat_rule_input, neighbour_input, of_balancers, port_in_input, port_route_input, router_nat_input, static_route_input, vip_addr_input}
 use Rattle.lr_units.specs.Words.{across, addresses_once, beside, hosts_at, is_beside}
-use Rattle.lr_units.proofs.ApartRules.{addrs_differ, binding_apart, names_differ, nat_apart, neighbour_apart, port_in_apart, port_route_apart, router_in_apart, router_nat_apart, router_route_apart, static_route_apart, vip_addr_apart, vip_router_apart, vips_differ}
+use Rattle.lr_units.proofs.ApartRules.{addrs_differ, binding_apart, names_differ, nat_apart, neighbour_apart, port_in_apart, port_route_apart, router_in_apart, router_nat_apart, router_route_apart, static_route_apart, vip_addr_apart, vip_router_apart}
 use Rattle.lr_units.proofs.Hosts.{hosts_apart, names_apart}
-use Rattle.lr_units.proofs.Matches.{HasLow, balancing_printable}
+use Rattle.lr_units.proofs.Matches.{HasLow}
 use Rattle.lr_units.proofs.Numbers.{Before, bindings_rise, lbs_rise, nats_rise, ports_rise, router_ports_rise, routers_rise, routes_rise}
-use Rattle.lr_units.proofs.SoundRouters.{IsSoundVip, OtherVips, free_low, hosts_are_low, once_low, router_port_is_sound, vips_apart, vips_are_sound}
+use Rattle.lr_units.proofs.SoundRouters.{free_low, hosts_are_low, once_low, router_port_is_sound}
 use Rattle.lr_units.proofs.Sources.{each_of_map, each_of_pieces}
 use Rattle.lr_units.proofs.Tests.{IsLow}
 use Rattle.lr_units.proofs.Typed.{across_member, attached_member}
+use Rattle.net_rows.specs.Build.{vip_input}
 
 -- ---- rows of two units
 
@@ -298,7 +302,7 @@ module _ (net : Network) (sound : IsSound net) where
         (routers_rise net sound)))
 
   -- the rule of a VIP
-  only_rule : (i : VipRouterInput) (r : Rule) → Contains (vip_router_rules i) r → balancing_rule i ≡ r
+  only_rule : (i : VipInput) (r : Rule) → Contains (vip_router_rules i) r → balancing_rule i ≡ r
   unfolding vip_router_rules
   only_rule i r there = by (is_empty i.backends) there
     where
@@ -312,13 +316,13 @@ module _ (net : Network) (sound : IsSound net) where
 
   pub vip_router : OfPairs Differ (vip_router_rows net)
   vip_router =
-      of_balancers_apart vip_router_rules (λ (lb : Lb). lb.vips) (λ (vip : Vip). vip.at) vip_router_input vip_router_apart
+      of_balancers_apart vip_router_rules (λ (lb : Lb). lb.vips) (λ (vip : Vip). vip.at) vip_input vip_router_apart
       (λ lb there.
       pairs_weaker IsSoundVip (OtherVips net sound) _ lb.vips
       (λ a b of_a of_b other r s in_r in_s.
-      subst (λ (z : Rule). RulesDiffer z s) (only_rule (vip_router_input lb a) r in_r)
-      (subst (λ (z : Rule). RulesDiffer (balancing_rule (vip_router_input lb a)) z) (only_rule (vip_router_input lb b) s in_s)
-      (vips_differ (vip_router_input lb a) (vip_router_input lb b) (balancing_printable (vip_router_input lb a) of_a.low of_a.service) (balancing_printable (vip_router_input lb b) of_b.low of_b.service) other)))
+      subst (λ (z : Rule). RulesDiffer z s) (only_rule (vip_input lb a) r in_r)
+      (subst (λ (z : Rule). RulesDiffer (balancing_rule (vip_input lb a)) z) (only_rule (vip_input lb b) s in_s)
+      (vips_differ LrInDnat (balancing_rule (vip_input lb a)).actions (balancing_rule (vip_input lb b)).actions (vip_input lb a) (vip_input lb b) (opens_printable (vip_input lb a) of_a.low of_a.service) (opens_printable (vip_input lb b) of_b.low of_b.service) other)))
       (vips_are_sound net sound lb there) (vips_apart net sound lb there))
 
   -- the rule of an address

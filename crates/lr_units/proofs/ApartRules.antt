@@ -32,7 +32,7 @@ use Rattle.net_rows.proofs.Elements.{every_append}
 use Rattle.net_rows.proofs.Pairs.{Across, OfPairs, every_member, pairs_append, pairs_as, pairs_map, pairs_weaker}
 use Rattle.net_rows.proofs.PortParts.{last_number, second_number}
 use Rattle.net_rows.proofs.SoundObjects.{IsBlock, Unlike, unlike_pairs}
-use Rattle.lr_rows.specs.Balancers.{balancing_rule, is_to_port, priority_of_vip, vip_addr_rules, vip_router_rules}
+use Rattle.lr_rows.specs.Balancers.{balancing_rule, vip_addr_rules, vip_router_rules}
 use Rattle.lr_rows.specs.Input.{address_rules, admitting_rules, by_first, expiring_rules, free_rules, port_in_rules, port_in_rules_from, router_in_rules}
 use Rattle.lr_rows.specs.Make.{arp_rule_for}
 use Rattle.lr_rows.specs.Nat.{connection_rules, nat_rules, passing_rules, router_nat_rules, translating_rules}
@@ -48,7 +48,7 @@ use Rattle.lr_rows.specs.declared.inputs.PortRouteInput.{PortRouteInput}
 use Rattle.lr_rows.specs.declared.inputs.RouterNatInput.{RouterNatInput}
 use Rattle.lr_rows.specs.declared.inputs.StaticRouteInput.{StaticRouteInput}
 use Rattle.lr_rows.specs.declared.inputs.VipAddrInput.{VipAddrInput}
-use Rattle.lr_rows.specs.declared.inputs.VipRouterInput.{VipRouterInput}
+use Rattle.net_rows.specs.declared.inputs.VipInput.{VipInput}
 use Rattle.lr_units.proofs.Matches.{HasLow, IsPort, address_printable, arp_printable, free_printable, network_printable, resolving_printable}
 use Rattle.lr_units.proofs.SoundRouters.{OtherNets}
 use Rattle.lr_units.proofs.Tests.{IsLow}
@@ -265,7 +265,7 @@ nat_apart input = by input.kind
     by Dnat = placed (arp_rule_for input.external ∷ translating_rules Dnat input) refl
     by DnatAndSnat = placed (arp_rule_for input.external ∷ translating_rules DnatAndSnat input) refl
 
-pub vip_router_apart : (input : VipRouterInput) → OfPairs RulesDiffer (vip_router_rules input)
+pub vip_router_apart : (input : VipInput) → OfPairs RulesDiffer (vip_router_rules input)
 unfolding vip_router_rules
 vip_router_apart input = by (is_empty input.backends)
   where
@@ -277,43 +277,7 @@ pub vip_addr_apart : (input : VipAddrInput) → OfPairs RulesDiffer (vip_addr_ru
 unfolding vip_addr_rules
 vip_addr_apart input = (tt, tt)
 
--- ---- of two VIPs of one load balancer
-
--- the match of the rule of a VIP, where its port is this one
-abbrev opened : VipRouterInput → Option ℕ → Formula TypedAtom
-opened input port = all_of (is_predicate pred.CtNew ∷ equals Ip4Dst (as_ip4 input.at.addr.0) ∷ is_to_port input.proto port)
-
--- at two addresses, or at two ports, or one without a port
-pub vips_differ : (a b : VipRouterInput) → HasPrintable (balancing_rule a) → HasPrintable (balancing_rule b) → same_frontend a.at b.at ≡ false → RulesDiffer (balancing_rule a) (balancing_rule b)
-vips_differ a b can_a can_b other = by (eqb a.at.addr.0 b.at.addr.0) refl
-  where
-    -- at one address the ports are not the same
-    unlike : eqb a.at.addr.0 b.at.addr.0 ≡ true → (p q : Option ℕ) → a.at.port ≡ p → b.at.port ≡ q → same_port p q ≡ true → ⊥
-    unlike addrs p q is_p is_q is =
-        false≢true
-        (sym other
-        ∙ and_from (eqb a.at.addr.0 b.at.addr.0) (same_port a.at.port b.at.port) addrs (ap (λ (port : Option ℕ). same_port port b.at.port) is_p ∙ ap (λ (port : Option ℕ). same_port p port) is_q ∙ is))
-
-    two_ports : eqb a.at.addr.0 b.at.addr.0 ≡ true → (p q : ℕ) → a.at.port ≡ Some p → b.at.port ≡ Some q → RulesDiffer (balancing_rule a) (balancing_rule b)
-    two_ports addrs p q is_p is_q =
-        by_number last_number _ _ can_a can_b
-        (λ same.
-        let first : last_number (opened a a.at.port) ≡ p = ap (λ (port : Option ℕ). last_number (opened a port)) is_p in
-        let second : last_number (opened b b.at.port) ≡ q = ap (λ (port : Option ℕ). last_number (opened b port)) is_q in
-        unlike addrs (Some p) (Some q) is_p is_q (eq-eqb p q (sym first ∙ same ∙ second)))
-
-    first_comes : (m n : ℕ) → m ≡ 110 → n ≡ 120 → m ≢ n
-    first_comes m n is_m is_n e = absurd (omega (arith, is_m, is_n, e))
-
-    ports : eqb a.at.addr.0 b.at.addr.0 ≡ true → (p q : Option ℕ) → a.at.port ≡ p → b.at.port ≡ q → RulesDiffer (balancing_rule a) (balancing_rule b)
-    ports addrs None None is_p is_q = absurd (unlike addrs None None is_p is_q refl)
-    ports addrs None (Some q) is_p is_q = by_priority _ _ (first_comes _ _ (ap priority_of_vip is_p) (ap priority_of_vip is_q))
-    ports addrs (Some p) None is_p is_q = by_priority _ _ (λ same. first_comes _ _ (ap priority_of_vip is_q) (ap priority_of_vip is_p) (sym same))
-    ports addrs (Some p) (Some q) is_p is_q = two_ports addrs p q is_p is_q
-
-    by : (same : Bool) → eqb a.at.addr.0 b.at.addr.0 ≡ same → RulesDiffer (balancing_rule a) (balancing_rule b)
-    by false addrs = by_number second_number _ _ can_a can_b (λ is. false≢true (sym addrs ∙ eq-eqb _ _ is))
-    by true addrs = ports addrs a.at.port b.at.port refl refl
+-- ---- of two addresses of VIPs of one load balancer
 
 -- the rules of an address of VIPs are for that address
 pub addrs_differ : (a b : Ip4) → IsLow a → IsLow b → a.0 ≢ b.0 → RulesDiffer (arp_rule_for a) (arp_rule_for b)

@@ -38,13 +38,14 @@ use Rattle.lr_rows.specs.declared.inputs.PortRouteInput.{PortRouteInput}
 use Rattle.lr_rows.specs.declared.inputs.RouterNatInput.{RouterNatInput}
 use Rattle.lr_rows.specs.declared.inputs.StaticRouteInput.{StaticRouteInput}
 use Rattle.lr_rows.specs.declared.inputs.VipAddrInput.{VipAddrInput}
-use Rattle.lr_rows.specs.declared.inputs.VipRouterInput.{VipRouterInput}
+use Rattle.net_rows.specs.declared.inputs.VipInput.{VipInput}
 use Rattle.lr_units.specs.Build.{router_rows, rows_of}
-use Rattle.lr_units.specs.Units.{binding_input, binding_units, bindings_of, has_hosts, nat_rule_input, nat_rule_units, neighbour_input, neighbour_units, port_in_input, port_in_units, port_route_input, port_route_units, router_nat_input, router_nat_units, router_units, static_route_input, static_route_units, vip_addr_input, vip_addr_units, vip_router_input, vip_router_units}
+use Rattle.lr_units.specs.Units.{binding_input, binding_units, bindings_of, has_hosts, nat_rule_input, nat_rule_units, neighbour_input, neighbour_units, port_in_input, port_in_units, port_route_input, port_route_units, router_nat_input, router_nat_units, router_units, static_route_input, static_route_units, vip_addr_input, vip_addr_units, vip_router_units}
 use Rattle.lr_units.specs.Words.{across, addresses_once}
 use Rattle.lr_units.proofs.Numbers.{switch_is_no_router}
 use Rattle.lr_units.proofs.Stages.{binding_at, nat_at, neighbour_at, port_in_at, port_route_at, router_in_at, router_nat_at, router_route_at, static_route_at, vip_addr_at, vip_router_at}
 use Rattle.lr_units.proofs.Sources.{EachKind, each_of_balancers, each_of_map, each_of_pieces, every_of_kind, every_row}
+use Rattle.net_rows.specs.Build.{vip_input}
 
 -- ---- stages
 
@@ -123,7 +124,7 @@ module _ (net : Network) (sound : IsSound net) where
     nat_rule = on_router _ _ (nat_rule_units net) (each_of_map (λ (u : ObjId × NatRuleInput). IsRouter u.1.dp) (λ (n : Nat). (n.id, nat_rule_input n)) net.nats of_nat);
     vip_router =
         on_router _ _ (vip_router_units net)
-        (each_of_balancers (λ (u : (ObjId × Frontend × ObjId) × VipRouterInput). IsRouter u.0.2) net (λ (lb : Lb). lb.vips) (λ router lb (vip : Vip). ((lb.id, vip.at, router.id), vip_router_input lb vip))
+        (each_of_balancers (λ (u : (ObjId × Frontend × ObjId) × VipInput). IsRouter u.0.2) net (λ (lb : Lb). lb.vips) (λ router lb (vip : Vip). ((lb.id, vip.at, router.id), vip_input lb vip))
         (λ router there lb of_router vip in_lb. its_router router there));
     vip_addr =
         on_router _ _ (vip_addr_units net)

@@ -29,10 +29,11 @@ use Rattle.sb_model.specs.Make.{as_ip4, as_mac, differs, equals, in_decimal, is_
 use Rattle.net_rows.specs.declared.rule.Rule.{Rule}
 use Rattle.net_rows.proofs.Differ.{HasPrintable}
 use Rattle.net_rows.proofs.Elements.{every_append}
-use Rattle.net_rows.proofs.Operands.{IsOperand, asks_for, either_operand, from_addresses, from_port, is_request, joined_printable, leaf_printable, tells_address, to_addresses, to_mac, to_port}
+use Rattle.net_rows.proofs.Operands.{IsOperand, asks_for, either_operand, from_addresses, from_port, is_request, joined_printable, leaf_printable, tells_address, to_address, to_addresses, to_mac, to_port}
 use Rattle.net_rows.proofs.Pairs.{every_weaker}
 use Rattle.net_rows.proofs.SoundObjects.{IsBlock}
-use Rattle.lr_rows.specs.Balancers.{balancing_rule, is_to_port, vip_addr_rules, vip_router_rules}
+use Rattle.net_rows.proofs.VipRules.{IsService, opens_printable}
+use Rattle.lr_rows.specs.Balancers.{balancing_rule, vip_addr_rules, vip_router_rules}
 use Rattle.lr_rows.specs.Input.{address_rules, admitting_rules, by_first, expiring_rules, free_rules, port_in_rules, port_in_rules_from, router_in_rules}
 use Rattle.lr_rows.specs.Make.{addresses_of, arp_rule_for, as_address, is_within}
 use Rattle.lr_rows.specs.Nat.{connection_rules, nat_rules, router_nat_rules, translating_rules}
@@ -48,8 +49,8 @@ use Rattle.lr_rows.specs.declared.inputs.PortRouteInput.{PortRouteInput}
 use Rattle.lr_rows.specs.declared.inputs.RouterNatInput.{RouterNatInput}
 use Rattle.lr_rows.specs.declared.inputs.StaticRouteInput.{StaticRouteInput}
 use Rattle.lr_rows.specs.declared.inputs.VipAddrInput.{VipAddrInput}
-use Rattle.lr_rows.specs.declared.inputs.VipRouterInput.{VipRouterInput}
-use Rattle.lr_units.proofs.Tests.{IsLow, are_items, are_network_items, are_own_items, asks_for_one, cleared_block, from_network, is_echo_code, is_echo_type, is_expired, is_multicast, is_new, is_tcp, is_udp, next_is, tells_some_mac, tells_unicast, to_address, to_network, to_tcp, to_udp}
+use Rattle.net_rows.specs.declared.inputs.VipInput.{VipInput}
+use Rattle.lr_units.proofs.Tests.{IsLow, are_items, are_network_items, are_own_items, asks_for_one, cleared_block, from_network, is_echo_code, is_echo_type, is_expired, is_multicast, is_tcp, is_udp, next_is, tells_some_mac, tells_unicast, to_network}
 
 -- all can be told by their texts
 abbrev pub ArePrintable : List Rule → Type 0
@@ -217,29 +218,13 @@ nat_typed input low is = ((arp_printable input.external low).typed, by input.kin
     by Dnat = ((refl, (to, tt)), tt)
     by DnatAndSnat = (to, ((refl, (from, tt)), ((refl, (to, tt)), tt)))
 
--- the port of a VIP, where it has one
-abbrev pub IsService : Option ℕ → Type 0
-IsService None = Unit {0}
-IsService (Some port) = port < 2 ^ 16
-
-pub balancing_printable : (input : VipRouterInput) → IsLow input.at.addr → IsService input.at.port → HasPrintable (balancing_rule input)
-balancing_printable input low service = by input.at.port service input.proto
-  where
-    to : IsOperand (equals Ip4Dst (as_ip4 input.at.addr.0))
-    to = to_address input.at.addr.0 low
-
-    by : (port : Option ℕ) → IsService port → (proto : Proto) → IsPrintable role.Row (all_of (is_predicate pred.CtNew ∷ equals Ip4Dst (as_ip4 input.at.addr.0) ∷ is_to_port proto port))
-    by None service proto = joined_printable _ _ [] (is_new, (to, tt))
-    by (Some port) service Tcp = joined_printable _ _ (equals TcpDst (in_decimal port) ∷ []) (is_new, (to, (to_tcp port service, tt)))
-    by (Some port) service Udp = joined_printable _ _ (equals UdpDst (in_decimal port) ∷ []) (is_new, (to, (to_udp port service, tt)))
-
-pub vip_router_printable : (input : VipRouterInput) → IsLow input.at.addr → IsService input.at.port → ArePrintable (vip_router_rules input)
+pub vip_router_printable : (input : VipInput) → IsLow input.at.addr → IsService input.at.port → ArePrintable (vip_router_rules input)
 unfolding vip_router_rules
 vip_router_printable input low service = by (is_empty input.backends)
   where
     by : (b : Bool) → ArePrintable (if b then [] else balancing_rule input ∷ [])
     by true = tt
-    by false = (balancing_printable input low service, tt)
+    by false = (opens_printable input low service, tt)
 
 pub vip_addr_printable : (input : VipAddrInput) → IsLow input.addr → ArePrintable (vip_addr_rules input)
 unfolding vip_addr_rules

@@ -29,9 +29,10 @@ use Rattle.nv_table.proofs.Found.{found_there}
 use Rattle.net_rows.proofs.Pairs.{OfPairs, every_filter, every_flat_map, every_map, every_piece, every_weaker}
 use Rattle.net_rows.proofs.Sound.{each_passes}
 use Rattle.net_rows.proofs.SoundObjects.{IsBlock, Unlike, every, port_is_sound, unlike_pairs}
+use Rattle.net_rows.proofs.SoundVips.{IsSoundVip}
 use Rattle.nb_router.specs.Vocabulary.{addresses_at}
 use Rattle.lr_units.specs.Words.{addresses_once, free_addresses, hosts_at, hosts_of, hosts_of_peer}
-use Rattle.lr_units.proofs.Matches.{HasLow, IsPort, IsService}
+use Rattle.lr_units.proofs.Matches.{HasLow, IsPort}
 use Rattle.lr_units.proofs.Tests.{IsLow}
 
 -- ---- numbers of MACs, addresses and prefixes
@@ -70,24 +71,6 @@ one_port port all =
 -- its addresses have 32 bits
 pub own_low : (port : RouterPort) → IsSoundPort port → AllByRecursion IsLow (addresses_at port)
 own_low port of = every_map IsLow (λ (net : Block). net.base) port.nets (every_weaker IsBlock (λ (net : Block). IsLow net.base) port.nets (λ net is. is.base) of.is.blocks)
-
--- ---- VIPs
-
--- an address, and a port where there is one
-pub record IsSoundVip (vip : Vip) : Type 0 where
-  pub low : IsLow vip.at.addr
-  pub service : IsService vip.at.port
-
-service_is : (port : Option ℕ) → IsTrue (is_service port) → IsService port
-service_is None is = tt
-service_is (Some port) is = ltb-true port (2 ^ 16) (and_parts (nat_lt 0 port) (nat_lt port 65536) is).1
-
-one_vip : (vip : Vip) → IsTrue (is_vip vip) → IsSoundVip vip
-one_vip vip all =
-    let last = and_parts (is_frontend vip.at && nat_lt 0 (length vip.backends)) _ all in
-    let first = and_parts (is_frontend vip.at) (nat_lt 0 (length vip.backends)) last.0 in
-    let at = and_parts (is_ip4 vip.at.addr) (is_service vip.at.port) first.0 in
-    record { low = ip_below vip.at.addr at.0; service = service_is vip.at.port at.1 }
 
 -- ---- hosts
 
@@ -132,19 +115,6 @@ module _ (net : Network) (sound : IsSound net) where
       by DnatAndSnat is = one_address is
 
   -- ---- load balancers
-
-  -- two VIPs of a load balancer are at two addresses or ports
-  abbrev pub OtherVips : Vip → Vip → Type 0
-  OtherVips = Unlike (λ a b. same_frontend a.at b.at)
-
-  pub vips_are_sound : (lb : Lb) → Contains net.lbs lb → AllByRecursion IsSoundVip lb.vips
-  vips_are_sound lb there =
-      let all = each_passes of_lb net.lbs lb sound.readable.lbs there in
-      let last = and_parts (is_object_name lb.name && nat_lt 0 (length lb.vips)) (list_all is_vip lb.vips) all in
-      every_weaker (λ vip. IsTrue (is_vip vip)) IsSoundVip lb.vips one_vip (every is_vip lb.vips last.1)
-
-  pub vips_apart : (lb : Lb) → Contains net.lbs lb → OfPairs OtherVips lb.vips
-  vips_apart lb there = unlike_pairs (λ (a b : Vip). same_frontend a.at b.at) lb.vips (each_passes (λ (x : Lb). are_apart (λ (a b : Vip). same_frontend a.at b.at) x.vips) net.lbs lb sound.apart.vips there)
 
   -- the addresses of VIPs have 32 bits
   pub once_low : (vips : List Vip) → AllByRecursion IsSoundVip vips → AllByRecursion IsLow (addresses_once vips)

@@ -26,7 +26,7 @@ use Rattle.lr_rows.specs.declared.inputs.PortRouteInput.{PortRouteInput}
 use Rattle.lr_rows.specs.declared.inputs.RouterNatInput.{RouterNatInput}
 use Rattle.lr_rows.specs.declared.inputs.StaticRouteInput.{StaticRouteInput}
 use Rattle.lr_rows.specs.declared.inputs.VipAddrInput.{VipAddrInput}
-use Rattle.lr_rows.specs.declared.inputs.VipRouterInput.{VipRouterInput}
+use Rattle.net_rows.specs.declared.inputs.VipInput.{VipInput}
 
 -- what holds of the stages of a unit holds of the stage of each of its rules
 module _ (P : Stage → Type 0) where
@@ -122,7 +122,7 @@ module _ (P : Stage → Type 0) where
       by Dnat = (dnat, tt)
       by DnatAndSnat = (unsnat, (snat, (dnat, tt)))
 
-  pub vip_router_at : P LrInDnat → (input : VipRouterInput) → AreAt (vip_router_rules input)
+  pub vip_router_at : P LrInDnat → (input : VipInput) → AreAt (vip_router_rules input)
   unfolding vip_router_rules
   vip_router_at dnat input = by (is_empty input.backends)
     where

@@ -73,12 +73,9 @@ asks_for_one net nets all =
     let fits = (and_parts _ _ like.typed).0 in
     test _ (and_from _ _ fits (all_suit (net ∷ nets))) ((refl, tt), like.formed.1)
 
--- the destination, or what the packet goes to next, is an address
+-- what the packet goes to next is an address
 ip_fits : (ip : ℕ) → ip < 2 ^ 32 → (nat_lt ip (2 ^ 32) && true) ≡ true
 ip_fits ip low = and_from (nat_lt ip (2 ^ 32)) true (lt-ltb ip (2 ^ 32) low) refl
-
-pub to_address : (ip : ℕ) → ip < 2 ^ 32 → IsOperand (equals Ip4Dst (as_ip4 ip))
-to_address ip low = test _ (ip_fits ip low) ((refl, tt), low)
 
 pub next_is : (ip : ℕ) → ip < 2 ^ 32 → IsOperand (equals Reg0 (as_ip4 ip))
 next_is ip low = test _ (ip_fits ip low) ((refl, tt), low)
@@ -112,20 +109,6 @@ is_echo_code = test _ refl ((refl, tt), lit< tt)
 pub is_expired : IsOperand (is_one_of IpTtl (One (in_decimal 0) ∷ One (in_decimal 1) ∷ []))
 is_expired = test _ refl ((refl, tt), (lit< tt, (lit< tt, tt)))
 
--- ports of services
-port_fits : (port : ℕ) → port < 2 ^ 16 → (nat_lt port (2 ^ 16) && true) ≡ true
-port_fits port low = and_from (nat_lt port (2 ^ 16)) true (lt-ltb port (2 ^ 16) low) refl
-
--- a number of 16 bits can be spelled
-spelled : (port : ℕ) → port < 2 ^ 16 → port < 2 ^ 128
-spelled port low = omega arith
-
-pub to_tcp : (port : ℕ) → port < 2 ^ 16 → IsOperand (equals TcpDst (in_decimal port))
-to_tcp port low = test _ (port_fits port low) ((refl, tt), spelled port low)
-
-pub to_udp : (port : ℕ) → port < 2 ^ 16 → IsOperand (equals UdpDst (in_decimal port))
-to_udp port low = test _ (port_fits port low) ((refl, tt), spelled port low)
-
 -- predicates
 pub is_multicast : IsOperand (is_predicate pred.EthMcast)
 is_multicast = test (Holds pred.EthMcast) refl (refl, tt)
@@ -135,6 +118,3 @@ is_tcp = test (Holds pred.Tcp) refl (refl, tt)
 
 pub is_udp : IsOperand (is_predicate pred.Udp)
 is_udp = test (Holds pred.Udp) refl (refl, tt)
-
-pub is_new : IsOperand (is_predicate pred.CtNew)
-is_new = test (Holds pred.CtNew) refl (refl, tt)

@@ -20,6 +20,7 @@ use Rattle.sb_rows.specs.Row.{HasTypedMatch}
 use Rattle.net_rows.specs.Unit.{unit_of_datapath}
 use Rattle.net_rows.proofs.Elements.{one_of_none, Contains-from_filter}
 use Rattle.net_rows.proofs.Pairs.{every_member}
+use Rattle.net_rows.proofs.SoundVips.{IsSoundVip, vips_are_sound}
 use Rattle.lr_rows.specs.Balancers.{vip_addr_rules, vip_router_rules}
 use Rattle.lr_rows.specs.Input.{port_in_rules, router_in_rules}
 use Rattle.lr_rows.specs.Nat.{nat_rules}
@@ -32,15 +33,16 @@ use Rattle.lr_rows.specs.declared.inputs.PortInInput.{PortInInput}
 use Rattle.lr_rows.specs.declared.inputs.PortRouteInput.{PortRouteInput}
 use Rattle.lr_rows.specs.declared.inputs.StaticRouteInput.{StaticRouteInput}
 use Rattle.lr_rows.specs.declared.inputs.VipAddrInput.{VipAddrInput}
-use Rattle.lr_rows.specs.declared.inputs.VipRouterInput.{VipRouterInput}
+use Rattle.net_rows.specs.declared.inputs.VipInput.{VipInput}
 use Rattle.lr_units.specs.Build.{router_rows}
-use Rattle.lr_units.specs.Units.{binding_input, binding_units, bindings_of, has_hosts, nat_rule_input, nat_rule_units, neighbour_input, neighbour_units, port_in_input, port_in_units, port_route_input, port_route_units, router_nat_units, router_units, static_route_input, static_route_units, vip_addr_input, vip_addr_units, vip_router_input, vip_router_units}
+use Rattle.lr_units.specs.Units.{binding_input, binding_units, bindings_of, has_hosts, nat_rule_input, nat_rule_units, neighbour_input, neighbour_units, port_in_input, port_in_units, port_route_input, port_route_units, router_nat_units, router_units, static_route_input, static_route_units, vip_addr_input, vip_addr_units, vip_router_units}
 use Rattle.nb_router.specs.Vocabulary.{is_attached, lbs_of}
 use Rattle.lr_units.specs.Words.{across, addresses_once, beside, is_beside}
 use Rattle.lr_units.proofs.Matches.{AreTypedRules, ArePrintable, binding_printable, nat_typed, neighbour_printable, port_in_printable, port_route_printable, printable_typed, router_in_typed, router_nat_typed, router_route_typed, static_route_printable, vip_addr_printable, vip_router_printable}
-use Rattle.lr_units.proofs.SoundRouters.{IsSoundVip, binding_is_sound, free_low, hosts_are_low, nat_is_sound, once_low, route_is_sound, router_port_is_sound, vips_are_sound}
+use Rattle.lr_units.proofs.SoundRouters.{binding_is_sound, free_low, hosts_are_low, nat_is_sound, once_low, route_is_sound, router_port_is_sound}
 use Rattle.lr_units.proofs.Sources.{EachKind, each_of_balancers, each_of_map, each_of_pieces, every_of_kind, every_row}
 use Rattle.lr_units.proofs.Tests.{IsLow}
+use Rattle.net_rows.specs.Build.{vip_input}
 
 -- the ports across a router port are ports
 pub across_member : (net : Network) (port : RouterPort) (other : Port) → Contains (across net port) other → Contains net.ports other
@@ -91,12 +93,12 @@ module _ (net : Network) (sound : IsSound net) where
   pub attached_member : (router : Router) (lb : Lb) → Contains (lbs_of net router.id) lb → Contains net.lbs lb
   attached_member router lb there = Contains-from_filter (is_attached net router.id) net.lbs lb there
 
-  vip_router_each : (u : (ObjId × Frontend × ObjId) × VipRouterInput) → Contains (vip_router_units net) u → ArePrintable (vip_router_rules u.1)
+  vip_router_each : (u : (ObjId × Frontend × ObjId) × VipInput) → Contains (vip_router_units net) u → ArePrintable (vip_router_rules u.1)
   vip_router_each =
-      each_of_balancers (λ (u : (ObjId × Frontend × ObjId) × VipRouterInput). ArePrintable (vip_router_rules u.1)) net (λ (lb : Lb). lb.vips) (λ router lb (vip : Vip). ((lb.id, vip.at, router.id), vip_router_input lb vip))
+      each_of_balancers (λ (u : (ObjId × Frontend × ObjId) × VipInput). ArePrintable (vip_router_rules u.1)) net (λ (lb : Lb). lb.vips) (λ router lb (vip : Vip). ((lb.id, vip.at, router.id), vip_input lb vip))
       (λ router there lb of_router vip in_lb.
       let is = every_member IsSoundVip lb.vips vip (vips_are_sound net sound lb (attached_member router lb of_router)) in_lb in
-      vip_router_printable (vip_router_input lb vip) is.low is.service)
+      vip_router_printable (vip_input lb vip) is.low is.service)
 
   vip_addr_each : (u : (ObjId × Ip4 × ObjId) × VipAddrInput) → Contains (vip_addr_units net) u → ArePrintable (vip_addr_rules u.1)
   vip_addr_each =

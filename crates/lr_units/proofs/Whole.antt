@@ -70,7 +70,8 @@ module _ (net : Network) (sound : IsSound net) where
       by : IsRow net row → Contains (switch_ids net) row.dp
       by (inl of) = on of.switch.id (its_switch of.switch of.among) (ap (λ (r : Row). r.dp) of.is)
       by (inr (inl of)) = on of.port.switch (of_port of.port of.among) (ap (λ (r : Row). r.dp) of.is)
-      by (inr (inr of)) = on of.switch.id (its_switch of.switch (Contains-from_filter (λ (s : Switch). applies net s.id of.acl) net.switches of.switch of.applied)) (ap (λ (r : Row). r.dp) of.is)
+      by (inr (inr (inl of))) = on of.switch.id (its_switch of.switch (Contains-from_filter (λ (s : Switch). applies net s.id of.acl) net.switches of.switch of.applied)) (ap (λ (r : Row). r.dp) of.is)
+      by (inr (inr (inr of))) = on of.switch.id (its_switch of.switch of.among) (ap (λ (r : Row). r.dp) of.is)
 
   -- and one of routers is on none
   two_kinds : Across Differ (all_rows net) (router_rows net)

@@ -22,9 +22,10 @@ use Rattle.lr_rows.specs.declared.inputs.PortRouteInput.{PortRouteInput}
 use Rattle.lr_rows.specs.declared.inputs.RouterNatInput.{RouterNatInput}
 use Rattle.lr_rows.specs.declared.inputs.StaticRouteInput.{StaticRouteInput}
 use Rattle.lr_rows.specs.declared.inputs.VipAddrInput.{VipAddrInput}
-use Rattle.lr_rows.specs.declared.inputs.VipRouterInput.{VipRouterInput}
+use Rattle.net_rows.specs.declared.inputs.VipInput.{VipInput}
 use Rattle.nb_router.specs.Vocabulary.{dnats, lbs_of}
 use Rattle.lr_units.specs.Words.{across, addresses_once, exit_of, free_addresses, hosts_at}
+use Rattle.net_rows.specs.Build.{vip_input}
 
 -- ---- units of a router, which depend on no more than that it is there
 
@@ -103,11 +104,8 @@ abbrev pub of_balancers : {X : Type 0} → Network → (Router → Lb → List X
 of_balancers net give = flat_map (λ router. flat_map (give router) (lbs_of net router.id)) net.routers
 
 -- of a VIP at a router
-abbrev pub vip_router_input : Lb → Vip → VipRouterInput
-vip_router_input lb vip = record { at = vip.at; proto = lb.proto; backends = vip.backends }
-
-abbrev pub vip_router_units : Network → List ((ObjId × Frontend × ObjId) × VipRouterInput)
-vip_router_units net = of_balancers net (λ router lb. map (λ vip. ((lb.id, vip.at, router.id), vip_router_input lb vip)) lb.vips)
+abbrev pub vip_router_units : Network → List ((ObjId × Frontend × ObjId) × VipInput)
+vip_router_units net = of_balancers net (λ router lb. map (λ vip. ((lb.id, vip.at, router.id), vip_input lb vip)) lb.vips)
 
 -- of an address of VIPs at a router
 abbrev pub vip_addr_input : Ip4 → VipAddrInput

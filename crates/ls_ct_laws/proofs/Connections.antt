@@ -1,5 +1,5 @@
 -- What the stages around the decision do with a packet, where a switch tracks connections: the first notes which packets are to be tracked, the
--- second tracks them, and the last keeps the connections that are to be kept.
+-- second tracks them, and translates them where the switch balances load, and the last keeps the connections that are to be kept.
 use Rattle.std.proofs.Common.{◌≡◌, ℕ, ◌+◌, ◌<◌, Bool, true, false, cond, List, [], ◌∷◌, sym, ap, refl, ◌∙◌, subst, ◌⊎◌, inl, inr, arith}
 use Rattle.std.specs.Prelude.{◌&&◌, ◌||◌, not, if◌then◌else◌}
 use Rattle.std.specs.List.{Contains}
@@ -22,7 +22,7 @@ use Rattle.nb_records.specs.declared.acl.Way.{Way}
 use Rattle.nb_records.specs.declared.acl.Way.TheVariants.{From, To}
 use Rattle.nb_records.specs.declared.switch.Port.{Port}
 use Rattle.nb_records.specs.declared.switch.Switch.{Switch}
-use Rattle.nb_model.specs.Applies.{acls, applies, tracks}
+use Rattle.nb_model.specs.Applies.{acls, applies, balances, tracks}
 use Rattle.nb_model.specs.Belongs.{is_to_router, same_way}
 use Rattle.nb_model.specs.Names.{names}
 use Rattle.nb_model.specs.Network.{Network}
@@ -35,7 +35,7 @@ use Rattle.sb_model.specs.declared.stage.Stage.{Stage}
 use Rattle.sb_model.specs.declared.stage.Stage.TheVariants.{LsInPreAcl, LsInStateful, LsInArpRsp, LsOutStateful, LsOutCheckPortSec}
 use Rattle.net_meaning.specs.Address.{is_multicast}
 use Rattle.net_meaning.specs.Tracked.{is_stateless, is_tracked, passes_untracked}
-use Rattle.net_rows.specs.Acls.{asks_to_track, first_stage_of, stage_of, switch_acl_rules, acl_on_rules}
+use Rattle.net_rows.specs.Acls.{tracking as track, asks_to_track, first_stage_of, stage_of, switch_acl_rules, acl_on_rules}
 use Rattle.net_rows.specs.Build.{acl_on_input, has_unknown, switch_rules}
 use Rattle.net_rows.specs.Lookup.{switch_l2_rules}
 use Rattle.net_rows.specs.Unit.{rule, row_of, unit_of, unit_of_datapath}
@@ -47,11 +47,13 @@ use Rattle.lr_units.specs.Network.{network_rows}
 use Rattle.tr_pipe.specs.Machine.{Effect, after, kept, run_actions, step}
 use Rattle.tr_pipe.specs.Machine.StageEnd.{On}
 use Rattle.tr_pipe.specs.Tracking.{Flight, committed, tracked, zone_of}
+use Rattle.tr_pipe.specs.Translating.{tracked_by}
+use Rattle.ct_core.specs.Translation.{followed}
 use Rattle.ls_laws.specs.Steps.{IsOn, IsPortOf, flows_at}
 use Rattle.ls_laws.proofs.AtPort.{at_port-from, at_port-gives, same_port}
-use Rattle.ls_laws.proofs.RuleStages.{rules_at, among_rules_at, from_rules_at, is_first, is_of_ports, port_rule_stage}
-use Rattle.ls_laws.proofs.Tables.{IsSwitchRule, IsPortRule, IsAclRule, IsRule, filter_passes, row_of_acl, row_of_port, row_of_switch}
-use Rattle.ls_ct_laws.specs.Tracking.{Asks, Keeps, LooksUp, after_stateful, has_bit, keeps, pipeline_for, port_field, pre_stateful, stateful, with_bit}
+use Rattle.ls_laws.proofs.RuleStages.{rules_at, among_rules_at, from_rules_at, is_first, is_of_balancing, is_of_ports, port_rule_stage}
+use Rattle.ls_laws.proofs.Tables.{IsSwitchRule, IsPortRule, IsAclRule, IsRule, filter_passes, of_no_vip, row_of_acl, row_of_port, row_of_switch}
+use Rattle.ls_ct_laws.specs.Tracking.{Asks, Keeps, LooksUp, after_stateful, has_bit, keeps, looked_up, pipeline_for, port_field, pre_stateful, stateful, with_bit}
 use Rattle.ls_ct_laws.proofs.Meets.{meets_above}
 use Rattle.ls_ct_laws.proofs.TrackedRules.{passing, tracked_switch_rules, switch_rules-tracked, acl_rule_stages, first_from, first_gives, first_rules, is_deciding, own_rules, own_stage, port_rule, port_rule-from, port_rule-gives, tracked_from, tracked_gives}
 
@@ -73,10 +75,14 @@ module _ (net : Network) (dp : ObjId) (flight : Flight) where
   second_passes From = refl
   second_passes To = refl
 
-  second_tracks : (w : Way) → run_actions (names net) dp (pre_stateful w) (steps (action_step.CtNext ∷ [])) flight ≡ On (stage_of w) (tracked (zone_of (pipeline_for w) flight.packet) flight)
+  second_tracks : (balancing : Bool) (w : Way)
+      → run_actions (names net) dp (pre_stateful w) (track balancing) flight
+      ≡ On (stage_of w) (if balancing then tracked_by followed (zone_of (pipeline_for w) flight.packet) flight else tracked (zone_of (pipeline_for w) flight.packet) flight)
   unfolding next_stage stage_at all_stages pipeline_of
-  second_tracks From = refl
-  second_tracks To = refl
+  second_tracks true From = refl
+  second_tracks true To = refl
+  second_tracks false From = refl
+  second_tracks false To = refl
 
   last_passes : (w : Way) → run_actions (names net) dp (stateful w) goes_on flight ≡ On (after_stateful w) flight
   unfolding next_stage stage_at all_stages
@@ -102,35 +108,32 @@ module _ (net : Network) (dp : ObjId) (flight : Flight) where
 abbrev notes : List Action
 notes = steps (asks_to_track ∷ action_step.Next ∷ [])
 
-abbrev tracks_it : List Action
-tracks_it = steps (action_step.CtNext ∷ [])
-
 abbrev keeps_it : List Action
 keeps_it = steps (action_step.CtCommit false ∷ action_step.Next ∷ [])
 
-first_are : (w : Way) (unknown : Bool) → rules_at (first_stage_of w) (tracked_switch_rules unknown)
+first_are : (w : Way) (balancing unknown : Bool) → rules_at (first_stage_of w) (tracked_switch_rules balancing unknown)
     ≡ passing (first_stage_of w) ∷ rule (first_stage_of w) 110 (is_predicate EthMcast) goes_on ∷ rule (first_stage_of w) 100 (is_predicate Ip4) notes ∷ []
 unfolding switch_acl_rules switch_l2_rules stage_place
-first_are From true = refl
-first_are From false = refl
-first_are To true = refl
-first_are To false = refl
+first_are From balancing true = refl
+first_are From balancing false = refl
+first_are To balancing true = refl
+first_are To balancing false = refl
 
-second_are : (w : Way) (unknown : Bool) → rules_at (pre_stateful w) (tracked_switch_rules unknown) ≡ passing (pre_stateful w) ∷ rule (pre_stateful w) 100 (bit_is_set Reg0 0) tracks_it ∷ []
+second_are : (w : Way) (balancing unknown : Bool) → rules_at (pre_stateful w) (tracked_switch_rules balancing unknown) ≡ passing (pre_stateful w) ∷ rule (pre_stateful w) 100 (bit_is_set Reg0 0) (track balancing) ∷ []
 unfolding switch_acl_rules switch_l2_rules stage_place
-second_are From true = refl
-second_are From false = refl
-second_are To true = refl
-second_are To false = refl
+second_are From balancing true = refl
+second_are From balancing false = refl
+second_are To balancing true = refl
+second_are To balancing false = refl
 
-last_are : (w : Way) (unknown : Bool) → rules_at (stateful w) (tracked_switch_rules unknown) ≡ passing (stateful w) ∷ rule (stateful w) 100 (bit_is_set Reg0 1) keeps_it ∷ []
+last_are : (w : Way) (balancing unknown : Bool) → rules_at (stateful w) (tracked_switch_rules balancing unknown) ≡ passing (stateful w) ∷ rule (stateful w) 100 (bit_is_set Reg0 1) keeps_it ∷ []
 unfolding switch_acl_rules switch_l2_rules stage_place
-last_are From true = refl
-last_are From false = refl
-last_are To true = refl
-last_are To false = refl
+last_are From balancing true = refl
+last_are From balancing false = refl
+last_are To balancing true = refl
+last_are To balancing false = refl
 
--- neither a port nor an ACL has a rule in the second and in the last
+-- neither a port nor an ACL nor a VIP has a rule in the second and in the last
 abbrev of_acls : Stage → Bool
 of_acls stage = is_first stage || is_deciding stage
 
@@ -142,6 +145,10 @@ second_not_acls : (w : Way) → of_acls (pre_stateful w) ≡ false
 second_not_acls From = refl
 second_not_acls To = refl
 
+second_not_vips : (w : Way) → is_of_balancing (pre_stateful w) ≡ false
+second_not_vips From = refl
+second_not_vips To = refl
+
 last_not_ports : (w : Way) → is_of_ports (stateful w) ≡ false
 last_not_ports From = refl
 last_not_ports To = refl
@@ -149,6 +156,15 @@ last_not_ports To = refl
 last_not_acls : (w : Way) → of_acls (stateful w) ≡ false
 last_not_acls From = refl
 last_not_acls To = refl
+
+last_not_vips : (w : Way) → is_of_balancing (stateful w) ≡ false
+last_not_vips From = refl
+last_not_vips To = refl
+
+-- nor has a VIP one in the first
+first_not_vips : (w : Way) → is_of_balancing (first_stage_of w) ≡ false
+first_not_vips From = refl
+first_not_vips To = refl
 
 -- ---- directions
 
@@ -188,9 +204,9 @@ module _ (net : Network) (switch : Switch) (flight : Flight) (on : IsOn net swit
   row_at says = row_of (unit_of_datapath dp) says
 
   -- the rows of the switch in a stage, by its rules there
-  module _ (stage : Stage) (some : List Rule) (are : (unknown : Bool) → rules_at stage (tracked_switch_rules unknown) ≡ some) where
+  module _ (stage : Stage) (some : List Rule) (are : (unknown : Bool) → rules_at stage (tracked_switch_rules (balances net dp) unknown) ≡ some) where
     at_stage : rules_at stage (switch_rules net dp) ≡ some
-    at_stage = ap (rules_at stage) (switch_rules-tracked net dp on.plain tracking) ∙ are (has_unknown net dp)
+    at_stage = ap (rules_at stage) (switch_rules-tracked net dp tracking) ∙ are (has_unknown net dp)
 
     row_there : (says : Rule) → Contains some says → Contains (network_rows net) (row_at says)
     row_there says there = row_of_switch net switch says on.among (from_rules_at stage (switch_rules net dp) some says at_stage there)
@@ -206,8 +222,8 @@ module _ (net : Network) (switch : Switch) (flight : Flight) (on : IsOn net swit
 
   -- ---- a stage with two rules: of the packets that the second takes, and of others
 
-  module _ (stage : Stage) (m : Formula TypedAtom) (actions : List Action) (are : (unknown : Bool) → rules_at stage (tracked_switch_rules unknown) ≡ passing stage ∷ rule stage 100 m actions ∷ [])
-      (no_port : is_of_ports stage ≡ false) (no_acl : of_acls stage ≡ false) where
+  module _ (stage : Stage) (m : Formula TypedAtom) (actions : List Action) (are : (unknown : Bool) → rules_at stage (tracked_switch_rules (balances net dp) unknown) ≡ passing stage ∷ rule stage 100 m actions ∷ [])
+      (no_port : is_of_ports stage ≡ false) (no_acl : of_acls stage ≡ false) (no_vip : is_of_balancing stage ≡ false) where
     abbrev low : Rule
     low = passing stage
 
@@ -238,7 +254,8 @@ module _ (net : Network) (switch : Switch) (flight : Flight) (on : IsOn net swit
     of_rule : (x : Row) → IsRule net dp stage x → (x ≡ row_at low) ⊎ (x ≡ row_at high)
     of_rule x (inl of) = of_switch x of
     of_rule x (inr (inl of)) = absurd (of_no_port stage no_port x of)
-    of_rule x (inr (inr of)) = absurd (of_no_acl stage no_acl x of)
+    of_rule x (inr (inr (inl of))) = absurd (of_no_acl stage no_acl x of)
+    of_rule x (inr (inr (inr of))) = absurd (of_no_vip net dp stage x no_vip of)
 
     two_rules : step (flows_at net dp) stage flight ≡ run_actions (names net) dp stage (cond (takes m) actions goes_on) flight
     two_rules = by (takes m) refl
@@ -263,19 +280,20 @@ module _ (net : Network) (switch : Switch) (flight : Flight) (on : IsOn net swit
 
 module _ (net : Network) (switch : Switch) (flight : Flight) (on : IsOn net switch flight.packet) (tracking : tracks net switch.id ≡ true) where
   -- what is noted to be tracked is tracked
-  pub tracks_noted : (way : Way) → step (flows_at net switch.id) (pre_stateful way) flight ≡ On (stage_of way) (if has_bit 0 flight.packet then tracked (zone_of (pipeline_for way) flight.packet) flight else flight)
+  pub tracks_noted : (way : Way) → step (flows_at net switch.id) (pre_stateful way) flight ≡ On (stage_of way) (if has_bit 0 flight.packet then looked_up net switch.id (zone_of (pipeline_for way) flight.packet) flight else flight)
   tracks_noted way =
-      two_rules net switch flight on tracking (pre_stateful way) (bit_is_set Reg0 0) tracks_it (second_are way) (second_not_ports way) (second_not_acls way)
+      two_rules net switch flight on tracking (pre_stateful way) (bit_is_set Reg0 0) (track (balances net switch.id)) (second_are way (balances net switch.id)) (second_not_ports way) (second_not_acls way) (second_not_vips way)
       ∙ by (has_bit 0 flight.packet)
     where
-      by : (b : Bool) → run_actions (names net) switch.id (pre_stateful way) (cond b tracks_it goes_on) flight ≡ On (stage_of way) (cond b (tracked (zone_of (pipeline_for way) flight.packet) flight) flight)
-      by true = second_tracks net switch.id flight way
+      by : (b : Bool) → run_actions (names net) switch.id (pre_stateful way) (cond b (track (balances net switch.id)) goes_on) flight
+          ≡ On (stage_of way) (cond b (looked_up net switch.id (zone_of (pipeline_for way) flight.packet) flight) flight)
+      by true = second_tracks net switch.id flight (balances net switch.id) way
       by false = second_passes net switch.id flight way
 
   -- the connection of what is noted to be kept is kept
   pub keeps_noted : (way : Way) → step (flows_at net switch.id) (stateful way) flight ≡ (if has_bit 1 flight.packet then keeps way flight else On (after_stateful way) flight)
   keeps_noted way =
-      two_rules net switch flight on tracking (stateful way) (bit_is_set Reg0 1) keeps_it (last_are way) (last_not_ports way) (last_not_acls way)
+      two_rules net switch flight on tracking (stateful way) (bit_is_set Reg0 1) keeps_it (last_are way (balances net switch.id)) (last_not_ports way) (last_not_acls way) (last_not_vips way)
       ∙ by (has_bit 1 flight.packet)
     where
       by : (b : Bool) → run_actions (names net) switch.id (stateful way) (cond b keeps_it goes_on) flight ≡ cond b (keeps way flight) (On (after_stateful way) flight)
@@ -426,12 +444,13 @@ module _ (net : Network) (switch : Switch) (flight : Flight) (on : IsOn net swit
       first (inr later) = second (one_of of_many (of_ip4 ∷ []) says later)
 
   each_row : (x : Row) → IsRule net switch.id at x → IsOneOf x
-  each_row x (inl of) = of_three x of.says of.is (among_some net switch flight on tracking at three (first_are way) x of)
+  each_row x (inl of) = of_three x of.says of.is (among_some net switch flight on tracking at three (first_are way (balances net switch.id)) x of)
   each_row x (inr (inl of)) = inr (inr (inr (inr (of_router x of))))
-  each_row x (inr (inr of)) = inr (inr (inr (inl (of_acl x of))))
+  each_row x (inr (inr (inl of))) = inr (inr (inr (inl (of_acl x of))))
+  each_row x (inr (inr (inr of))) = absurd (of_no_vip net switch.id at x (first_not_vips way) of)
 
   three_there : (says : Rule) → Contains three says → Contains (network_rows net) (switch_row says)
-  three_there says there = row_there net switch flight on tracking at three (first_are way) says there
+  three_there says there = row_there net switch flight on tracking at three (first_are way (balances net switch.id)) says there
 
   -- but those of IPv4 packets, all rows say that the packet goes on
   going : (x : Row) (priority : ℕ) → 100 < priority → IsOneOf x → (x.actions ≡ goes_on) ⊎ (x.priority < priority)

@@ -1,7 +1,9 @@
 pub mod Alike
+pub mod Balancing
 pub mod Connections
 pub mod Flags
 pub mod Independent
+pub mod Matches
 pub mod Meets
 pub mod Noted
 pub mod Onward

@@ -22,9 +22,9 @@ use Rattle.tr_stage.proofs.PacketRuns as steps
 use Rattle.tr_pipe.specs.Machine.{acted, ended, step}
 use Rattle.tr_pipe.specs.Tracking.{Flight}
 use Rattle.tr_pipe.proofs.Plain.{plain_actions}
-use Rattle.ls_laws.specs.Steps.{BalancesNone, flows_at}
+use Rattle.ls_laws.specs.Steps.{flows_at}
 use Rattle.ls_laws.proofs.Tables.{IsRule, table-gives}
-use Rattle.ls_ct_laws.proofs.RuleRuns.{IsRun, acl_rules_run, asks_for_connections, port_rules_run, switch_rules_run}
+use Rattle.ls_ct_laws.proofs.RuleRuns.{IsRun, acl_rules_run, asks_for_connections, port_rules_run, switch_rules_run, vip_rule_runs}
 
 -- where the row that acts asks for no connection
 pub plain_at : (flows : Flows) (stage : Stage) (flight : Flight) → ((row : Row) → acting flows stage flight.packet ≡ Some row → IsTrue (steps.are_run flows.net stage row.actions))
@@ -36,8 +36,8 @@ plain_at flows stage flight asks_none = by (acting flows stage flight.packet) re
     by None none = refl
     by (Some row) is = plain_actions flows.net flows.dp stage row.actions flight (asks_none row is)
 
--- of a plain network, where a switch tracks no connections or the stage asks for none
-module _ (net : Network) (sound : IsSound net) (plain : BalancesNone net) (switch : Switch) (among : Contains net.switches switch) (stage : Stage) (none : (tracks net switch.id && asks_for_connections stage) ≡ false) where
+-- where a switch tracks no connections or the stage asks for none
+module _ (net : Network) (sound : IsSound net) (switch : Switch) (among : Contains net.switches switch) (stage : Stage) (none : (tracks net switch.id && asks_for_connections stage) ≡ false) where
   said : (says : Rule) (row : Row) → IsTrue (steps.are_run (names net) says.stage says.actions) → says.stage ≡ stage → row.actions ≡ says.actions → IsTrue (steps.are_run (names net) stage row.actions)
   said says row run of_stage actions =
       subst (λ done. IsTrue (steps.are_run (names net) stage done)) (sym actions) (subst (λ s. IsTrue (steps.are_run (names net) s says.actions)) of_stage run)
@@ -47,13 +47,16 @@ module _ (net : Network) (sound : IsSound net) (plain : BalancesNone net) (switc
 
   of_row : (row : Row) → IsRule net switch.id stage row → IsTrue (steps.are_run (names net) stage row.actions)
   of_row row (inl of) =
-      let is = every_member (IsRun (names net) (tracks net switch.id)) (switch_rules net switch.id) of.says (switch_rules_run net plain switch.id) of.in_rules in
+      let is = every_member (IsRun (names net) (tracks net switch.id)) (switch_rules net switch.id) of.says (switch_rules_run net switch.id) of.in_rules in
       said of.says row (is.plain (at_stage of.says of.of_stage)) of.of_stage (ap (λ (r : Row). r.actions) of.is)
   of_row row (inr (inl of)) =
       let is = every_member (IsRun (names net) false) (port_rules net of.port) of.says (port_rules_run net sound of.port of.among) of.in_rules in
       said of.says row (is.plain refl) of.of_stage (ap (λ (r : Row). r.actions) of.is)
-  of_row row (inr (inr of)) =
+  of_row row (inr (inr (inl of))) =
       let is = every_member (IsRun (names net) (tracks net switch.id)) (acl_on_rules (acl_on_input net of.acl switch.id)) of.says (acl_rules_run net of.acl switch.id) of.in_rules in
+      said of.says row (is.plain (at_stage of.says of.of_stage)) of.of_stage (ap (λ (r : Row). r.actions) of.is)
+  of_row row (inr (inr (inr of))) =
+      let is = vip_rule_runs net sound switch.id of.lb of.attached of.vip of.in_lb of.says of.in_rules in
       said of.says row (is.plain (at_stage of.says of.of_stage)) of.of_stage (ap (λ (r : Row). r.actions) of.is)
 
   pub plain_stage : (flight : Flight) → step (flows_at net switch.id) stage flight ≡ ended flight (packets.step (flows_at net switch.id) stage flight.packet)
@@ -65,15 +68,15 @@ module _ (net : Network) (sound : IsSound net) (plain : BalancesNone net) (switc
           of_row row (table-gives net sound switch among stage row of.among (in_table-from switch.id stage row of.of_dp of.of_stage))
 
 -- at each switch, a stage that asks for none
-pub plain_stage_of : (net : Network) → IsSound net → BalancesNone net → (switch : Switch) → Contains net.switches switch → (stage : Stage) → asks_for_connections stage ≡ false → (flight : Flight)
+pub plain_stage_of : (net : Network) → IsSound net → (switch : Switch) → Contains net.switches switch → (stage : Stage) → asks_for_connections stage ≡ false → (flight : Flight)
     → step (flows_at net switch.id) stage flight ≡ ended flight (packets.step (flows_at net switch.id) stage flight.packet)
-plain_stage_of net sound plain switch among stage asks_none = plain_stage net sound plain switch among stage (by (tracks net switch.id))
+plain_stage_of net sound switch among stage asks_none = plain_stage net sound switch among stage (by (tracks net switch.id))
   where
     by : (b : Bool) → (b && asks_for_connections stage) ≡ false
     by true = asks_none
     by false = refl
 
 -- and each stage of a switch that tracks none
-pub plain_where_untracked : (net : Network) → IsSound net → BalancesNone net → (switch : Switch) → Contains net.switches switch → (stage : Stage) → tracks net switch.id ≡ false → (flight : Flight)
+pub plain_where_untracked : (net : Network) → IsSound net → (switch : Switch) → Contains net.switches switch → (stage : Stage) → tracks net switch.id ≡ false → (flight : Flight)
     → step (flows_at net switch.id) stage flight ≡ ended flight (packets.step (flows_at net switch.id) stage flight.packet)
-plain_where_untracked net sound plain switch among stage untracked = plain_stage net sound plain switch among stage (ap (λ b. b && asks_for_connections stage) untracked)
+plain_where_untracked net sound switch among stage untracked = plain_stage net sound switch among stage (ap (λ b. b && asks_for_connections stage) untracked)

@@ -1,34 +1,37 @@
--- The machine runs the rules of a plain network, and which of them ask for no connection.
+-- The machine runs the rules of switches, and which of them ask for no connection.
 use Rattle.std.proofs.Common.{◌≡◌, ℕ, ◌+◌, ◌^◌, Bool, true, false, cond, List, [], ◌∷◌, ◌++◌, map, sym, ap, refl, inl, inr, subst}
-use Rattle.std.specs.Prelude.{◌&&◌, ◌||◌, not, nat_lt, is_some}
+use Rattle.std.specs.Prelude.{◌&&◌, ◌||◌, nat_lt, is_some}
 use Rattle.std.specs.Bool.{IsTrue}
-use Rattle.std.specs.List.{AllByRecursion, Contains, flat_map, list_all, list_any}
+use Rattle.std.specs.List.{AllByRecursion, Contains, flat_map, list_all}
 use Rattle.std.proofs.lemmas.Bool.{and_parts}
 use Rattle.nv_base.specs.declared.ip4.Ip4.{Ip4}
 use Rattle.nv_base.specs.declared.object.ObjId.{ObjId}
 use Rattle.nv_base.specs.Name.{is_object_name, is_quotable}
 use Rattle.expr_core.specs.Lookup.{Lookup}
-use Rattle.act_core.specs.WellFormed.{is_well_formed}
+use Rattle.act_core.specs.WellFormed.{is_step, is_well_formed}
 use Rattle.nb_records.specs.declared.acl.Acl.{Acl}
 use Rattle.nb_records.specs.declared.acl.Verdict.{Verdict}
 use Rattle.nb_records.specs.declared.acl.Verdict.TheVariants.{Allow, AllowRelated, AllowStateless, Drop, Reject}
 use Rattle.nb_records.specs.declared.acl.Way.{Way}
 use Rattle.nb_records.specs.declared.acl.Way.TheVariants.{From, To}
+use Rattle.nb_records.specs.declared.balancer.Lb.{Lb}
+use Rattle.nb_records.specs.declared.balancer.Vip.{Vip}
 use Rattle.nb_records.specs.declared.switch.Addr.{Addr}
 use Rattle.nb_records.specs.declared.switch.Addr.TheVariants as addr
 use Rattle.nb_records.specs.declared.switch.Guard.{Guard}
 use Rattle.nb_records.specs.declared.switch.Port.{Port}
 use Rattle.nb_records.specs.declared.switch.Switch.{Switch}
 use Rattle.nb_model.specs.Addresses.{macs}
-use Rattle.nb_model.specs.Applies.{balances, is_empty, tracks}
+use Rattle.nb_model.specs.Applies.{balances, is_empty, lbs_on, tracks}
 use Rattle.nb_model.specs.Belongs.{is_router_kind}
 use Rattle.nb_model.specs.Names.{names}
-use Rattle.nb_model.specs.Network.{Network, same}
+use Rattle.nb_model.specs.Network.{Network}
 use Rattle.nb_model.specs.Readable.{are_addresses, are_apart, are_guards, ips_of, is_ip4, is_mac, is_priority, macs_of, may_name, same_number}
 use Rattle.nb_model.specs.Sound.{IsSound}
 use Rattle.nb_model.proofs.Readable.{of_port}
 use Rattle.net_rows.specs.Acls.{acl_on_rules, ending, port_acl_rules, stage_of, switch_acl_rules, tracked_rules, untracking_rules}
-use Rattle.net_rows.specs.Build.{acl_on_input, acl_rules_of_port, has_unknown, is_untracked, port_acl_input, port_l2_input, port_rules, port_sec_input, switch_rules}
+use Rattle.net_rows.specs.Build.{acl_on_input, acl_rules_of_port, has_unknown, is_untracked, port_acl_input, port_l2_input, port_rules, port_sec_input, switch_rules, vip_input}
+use Rattle.net_rows.specs.LoadBalancers.{balances_to, vip_switch_rule, vip_switch_rules}
 use Rattle.net_rows.specs.Lookup.{arp_rules, arp_rules_of, lookup_rule, looked_up, port_l2_rules, switch_l2_rules}
 use Rattle.net_rows.specs.PortSecurity.{closed_rules, disabled_rules, guard_rules, guarded_rules, open_rules, port_sec_rules}
 use Rattle.net_rows.specs.Unit.{rule}
@@ -36,29 +39,33 @@ use Rattle.net_rows.specs.declared.inputs.AclOnInput.{AclOnInput}
 use Rattle.net_rows.specs.declared.inputs.PortAclInput.{PortAclInput}
 use Rattle.net_rows.specs.declared.inputs.PortL2Input.{PortL2Input}
 use Rattle.net_rows.specs.declared.inputs.PortSecInput.{PortSecInput}
+use Rattle.net_rows.specs.declared.inputs.VipInput.{VipInput}
 use Rattle.net_rows.specs.declared.rule.Rule.{Rule}
 use Rattle.net_rows.proofs.Elements.{Contains-flat_map, every_append, one_first, one_later}
 use Rattle.net_rows.proofs.Pairs.{every_member}
 use Rattle.net_rows.proofs.Sound.{each_passes, port_of_sound}
 use Rattle.net_rows.proofs.Units.{IsRow}
+use Rattle.net_rows.proofs.VipRules.{vip_switch_only}
 use Rattle.sb_model.specs.Make.{goes_on, goes_out, drops}
 use Rattle.sb_model.specs.Stage.{all_stages, next_stage, stage_at}
 use Rattle.sb_model.specs.declared.row.Row.{Row}
 use Rattle.sb_model.specs.declared.stage.Stage.{Stage}
-use Rattle.sb_model.specs.declared.stage.Stage.TheVariants.{LsInCheckPortSec, LsInPreStateful, LsInAclEval, LsInStateful, LsOutPreStateful, LsOutAclEval, LsOutStateful, LsOutCheckPortSec}
+use Rattle.sb_model.specs.declared.stage.Stage.TheVariants.{LsInCheckPortSec, LsInPreStateful, LsInAclEval, LsInLb, LsInStateful, LsOutPreStateful, LsOutAclEval, LsOutStateful, LsOutCheckPortSec}
 use Rattle.tr_stage.specs.Machine.{number_of}
 use Rattle.tr_stage.proofs.PacketRuns as steps
-use Rattle.ls_laws.specs.Steps.{BalancesNone}
 use Rattle.tr_pipe.specs.Runnable.{are_run}
 use Rattle.ls_laws.proofs.PortNames.{number_of_port}
+use Rattle.ls_laws.proofs.ChosenVips.{vip_is}
 use Rattle.ls_laws.proofs.RuleStages.{later_rules, rules_where, rules_where_tracked, untracked_rule}
-use Rattle.ls_laws.proofs.Tables.{at_switch-gives}
+use Rattle.ls_laws.proofs.Tables.{at_switch-gives, attached_tracks, is_attached_to}
+use Rattle.ls_laws.proofs.VipTargets.{balances_formed}
 use Rattle.lr_units.specs.Network.{network_rows}
 
 -- the stages in which rules of a switch that tracks connections ask for connections
 abbrev pub asks_for_connections : Stage → Bool
 asks_for_connections LsInPreStateful = true
 asks_for_connections LsInAclEval = true
+asks_for_connections LsInLb = true
 asks_for_connections LsInStateful = true
 asks_for_connections LsOutPreStateful = true
 asks_for_connections LsOutAclEval = true
@@ -105,12 +112,14 @@ module _ (known : Lookup) (tracking : Bool) where
 module _ (known : Lookup) where
   -- ---- the rules of switches
 
-  of_switch : (tracking unknown : Bool) → AreRun known tracking (rules_where tracking false unknown)
+  of_switch : (tracking balancing unknown : Bool) → AreRun known tracking (rules_where tracking balancing unknown)
   unfolding switch_acl_rules switch_l2_rules next_stage stage_at all_stages
-  of_switch true true = all_run known true (rules_where true false true) refl
-  of_switch true false = all_run known true (rules_where true false false) refl
-  of_switch false true = all_run known false (rules_where false false true) refl
-  of_switch false false = all_run known false (rules_where false false false) refl
+  of_switch true true true = all_run known true (rules_where true true true) refl
+  of_switch true true false = all_run known true (rules_where true true false) refl
+  of_switch true false true = all_run known true (rules_where true false true) refl
+  of_switch true false false = all_run known true (rules_where true false false) refl
+  of_switch false balancing true = all_run known false (rules_where false balancing true) refl
+  of_switch false balancing false = all_run known false (rules_where false balancing false) refl
 
   -- ---- those of ACLs
 
@@ -160,6 +169,12 @@ module _ (known : Lookup) where
           every_append (IsRun known true) (untracking_rules input.way (input.priority + 1000) input.matching input.verdict) (tracked_rules (stage_of input.way) (input.priority + 1000) input.matching input.verdict)
           (untracking_run (input.priority + 1000) input.matching input.way input.verdict) (tracked_run (input.priority + 1000) input.matching input.way input.verdict)
       by true false = (untracked_run (input.priority + 1000) input.matching input.way input.verdict, tt)
+
+  -- ---- those of VIPs, where connections are tracked
+
+  of_vip : (input : VipInput) → is_step (balances_to input.backends) ≡ true → IsRun known true (vip_switch_rule input)
+  unfolding next_stage stage_at all_stages
+  of_vip input formed = one_run known true (vip_switch_rule input) (rw formed refl)
 
   -- ---- those of port security, which ask for no connection
 
@@ -240,26 +255,21 @@ module _ (known : Lookup) where
           every_append (IsRun known false) (flat_map (arp_rules_of input.name) input.addresses) (map (lookup_rule input.name) (looked_up input)) (of_addresses input.name input.addresses macs_fit ips_fit)
           (every_image (IsRun known false) (lookup_rule input.name) (looked_up input) (λ mac. of_lookup input.name mac quotable there))
 
--- ---- the rules of a plain network
+-- ---- the rules of a network
 
--- no load balancer is attached to a switch
-none_attached : (dp : ObjId) (switches : List Switch) → AllByRecursion (λ (switch : Switch). switch.lbs ≡ []) switches → list_any (λ (own : Switch). same own.id dp && not (is_empty own.lbs)) switches ≡ false
-none_attached dp [] all = refl
-none_attached dp (switch ∷ switches) all = by (same switch.id dp) (none_attached dp switches all.1)
-  where
-    by : (b : Bool) → list_any (λ (own : Switch). same own.id dp && not (is_empty own.lbs)) switches ≡ false → (b && not (is_empty switch.lbs) || list_any (λ (own : Switch). same own.id dp && not (is_empty own.lbs)) switches) ≡ false
-    by true rest = rw all.0 rest
-    by false rest = rest
-
-pub none_balances : (net : Network) → BalancesNone net → (dp : ObjId) → balances net dp ≡ false
-none_balances net plain dp = none_attached dp net.switches plain
-
-pub switch_rules_run : (net : Network) → BalancesNone net → (dp : ObjId) → AreRun (names net) (tracks net dp) (switch_rules net dp)
-switch_rules_run net plain dp =
-    subst (λ (b : Bool). AreRun (names net) (tracks net dp) (rules_where (tracks net dp) b (has_unknown net dp))) (sym (none_balances net plain dp)) (of_switch (names net) (tracks net dp) (has_unknown net dp))
+pub switch_rules_run : (net : Network) (dp : ObjId) → AreRun (names net) (tracks net dp) (switch_rules net dp)
+switch_rules_run net dp = of_switch (names net) (tracks net dp) (balances net dp) (has_unknown net dp)
 
 pub acl_rules_run : (net : Network) (acl : Acl) (dp : ObjId) → AreRun (names net) (tracks net dp) (acl_on_rules (acl_on_input net acl dp))
 acl_rules_run net acl dp = of_acl (names net) (acl_on_input net acl dp)
+
+-- a switch to which a load balancer is attached tracks connections
+pub vip_rule_runs : (net : Network) → IsSound net → (dp : ObjId) (lb : Lb) → Contains (lbs_on net dp) lb → (vip : Vip) → Contains lb.vips vip → (says : Rule) → Contains (vip_switch_rules (vip_input lb vip)) says
+    → IsRun (names net) (tracks net dp) says
+vip_rule_runs net sound dp lb attached vip in_lb says there =
+    subst (IsRun (names net) (tracks net dp)) (vip_switch_only (vip_input lb vip) says there)
+    (subst (λ (b : Bool). IsRun (names net) b (vip_switch_rule (vip_input lb vip))) (sym (attached_tracks net dp lb attached))
+    (of_vip (names net) (vip_input lb vip) (balances_formed vip (vip_is net sound (is_attached_to net dp) lb attached vip in_lb))))
 
 -- those of ports ask for no connection
 pub port_rules_run : (net : Network) → IsSound net → (port : Port) → Contains net.ports port → AreRun (names net) false (port_rules net port)
@@ -280,7 +290,7 @@ port_rules_run net sound port there =
 
 -- ---- its rows
 
-module _ (net : Network) (sound : IsSound net) (plain : BalancesNone net) (row : Row) where
+module _ (net : Network) (sound : IsSound net) (row : Row) where
   said : (tracking : Bool) (says : Rule) → IsRun (names net) tracking says → says.stage ≡ row.stage → says.actions ≡ row.actions → IsTrue (is_well_formed row.actions) × IsTrue (are_run (names net) row.stage row.actions)
   said tracking says is stage actions =
       (subst (λ done. IsTrue (is_well_formed done)) actions is.formed, subst (λ s. IsTrue (are_run (names net) s row.actions)) stage (subst (λ done. IsTrue (are_run (names net) says.stage done)) actions is.run))
@@ -289,14 +299,17 @@ module _ (net : Network) (sound : IsSound net) (plain : BalancesNone net) (row :
   pub row_runs : IsRow net row → IsTrue (is_well_formed row.actions) × IsTrue (are_run (names net) row.stage row.actions)
   row_runs (inl at) =
       let dp = at.switch.id in
-      said (tracks net dp) at.says (every_member (IsRun (names net) (tracks net dp)) (switch_rules net dp) at.says (switch_rules_run net plain dp) at.in_rules) (ap (λ (r : Row). r.stage) at.is) (ap (λ (r : Row). r.actions) at.is)
+      said (tracks net dp) at.says (every_member (IsRun (names net) (tracks net dp)) (switch_rules net dp) at.says (switch_rules_run net dp) at.in_rules) (ap (λ (r : Row). r.stage) at.is) (ap (λ (r : Row). r.actions) at.is)
   row_runs (inr (inl at)) =
       said false at.says (every_member (IsRun (names net) false) (port_rules net at.port) at.says (port_rules_run net sound at.port at.among) at.in_rules) (ap (λ (r : Row). r.stage) at.is) (ap (λ (r : Row). r.actions) at.is)
-  row_runs (inr (inr at)) =
+  row_runs (inr (inr (inl at))) =
       let dp = at.switch.id in
       said (tracks net dp) at.says (every_member (IsRun (names net) (tracks net dp)) (acl_on_rules (acl_on_input net at.acl dp)) at.says (acl_rules_run net at.acl dp) at.in_rules) (ap (λ (r : Row). r.stage) at.is) (ap (λ (r : Row). r.actions) at.is)
+  row_runs (inr (inr (inr at))) =
+      let dp = at.switch.id in
+      said (tracks net dp) at.says (vip_rule_runs net sound dp at.lb at.attached at.vip at.in_lb at.says at.in_rules) (ap (λ (r : Row). r.stage) at.is) (ap (λ (r : Row). r.actions) at.is)
 
 -- so does it run the actions of each row of the network at a switch
-pub row_at_switch_runs : (net : Network) → IsSound net → BalancesNone net → (switch : Switch) → Contains net.switches switch → (row : Row) → Contains (network_rows net) row → row.dp ≡ switch.id
+pub row_at_switch_runs : (net : Network) → IsSound net → (switch : Switch) → Contains net.switches switch → (row : Row) → Contains (network_rows net) row → row.dp ≡ switch.id
     → IsTrue (is_well_formed row.actions) × IsTrue (are_run (names net) row.stage row.actions)
-row_at_switch_runs net sound plain switch among row there of_dp = row_runs net sound plain row (at_switch-gives net sound switch among row there of_dp)
+row_at_switch_runs net sound switch among row there of_dp = row_runs net sound row (at_switch-gives net sound switch among row there of_dp)

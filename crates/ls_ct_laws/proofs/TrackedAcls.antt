@@ -57,10 +57,10 @@ use Rattle.tr_pipe.specs.Machine.StageEnd.{On, Ends}
 use Rattle.tr_pipe.specs.Tracking.{Flight}
 use Rattle.tr_pipe.proofs.Plain.{plain_actions}
 use Rattle.ls_laws.specs.Steps.{IsOn, decided, flows_at}
-use Rattle.ls_laws.proofs.AclEval.{does, next_of, not_of_ports, same_way-is, same_way-self, stage_tells}
+use Rattle.ls_laws.proofs.AclEval.{does, next_of, not_of_balancing, not_of_ports, same_way-is, same_way-self, stage_tells}
 use Rattle.ls_laws.proofs.Deciding.{Rises, IsAfter, IsFirst, first_of, rises_kept}
 use Rattle.ls_laws.proofs.RuleStages.{rules_at, among_rules_at, from_rules_at, the_only, is_of_decisions, is_of_ports, port_rule_stage}
-use Rattle.ls_laws.proofs.Tables.{IsSwitchRule, IsPortRule, IsAclRule, IsRule, filter_passes, row_of_acl, row_of_switch}
+use Rattle.ls_laws.proofs.Tables.{IsSwitchRule, IsPortRule, IsAclRule, IsVipRule, IsRule, filter_passes, of_no_vip, row_of_acl, row_of_switch}
 use Rattle.ls_laws.proofs.Takers.{lower_after, later_after}
 use Rattle.ls_ct_laws.specs.Tracking.{IsNoted, Rules, goes, goes_again, marking, ruled_on, with_bit}
 use Rattle.ls_ct_laws.proofs.Flags.{is_est, is_answer, is_refused, est_is, not_est_is, answer_is, refused_is}
@@ -342,6 +342,9 @@ module _ (net : Network) (switch : Switch) (way : Way) (flight : Flight) (on : I
   of_no_port : (x : Row) → IsPortRule net dp stage x → ⊥
   of_no_port x of = false≢true (sym (not_of_ports way) ∙ sym (ap is_of_ports of.of_stage) ∙ port_rule_stage net of.port of.says of.in_rules)
 
+  of_no_balancer : (x : Row) → IsVipRule net dp stage x → ⊥
+  of_no_balancer x of = of_no_vip net dp stage x (not_of_balancing way) of
+
   -- ---- rows of ACLs
 
   abbrev rule_for : Acl → Rule
@@ -413,7 +416,8 @@ module _ (net : Network) (switch : Switch) (way : Way) (flight : Flight) (on : I
       others : (x : Row) → IsRule net dp stage x → holds known packet x.matching ≡ true → IsOther (row_at (shut_rule stage)) x
       others x (inl of) takes = switch_by x (of_switch x of)
       others x (inr (inl of)) takes = absurd (of_no_port x of)
-      others x (inr (inr of)) takes = inr (acl_below (row_at (shut_rule stage)) refl refl (omega arith) x of takes)
+      others x (inr (inr (inl of))) takes = inr (acl_below (row_at (shut_rule stage)) refl refl (omega arith) x of takes)
+      others x (inr (inr (inr of))) takes = absurd (of_no_balancer x of)
 
   -- where the rule that shuts out does not take the packet
   module _ (let_on : is_refused found ≡ false) where
@@ -431,7 +435,8 @@ module _ (net : Network) (switch : Switch) (way : Way) (flight : Flight) (on : I
         others : (x : Row) → IsRule net dp stage x → holds known packet x.matching ≡ true → IsOther (row_at (answer_rule stage)) x
         others x (inl of) takes = switch_by x takes (of_switch x of)
         others x (inr (inl of)) takes = absurd (of_no_port x of)
-        others x (inr (inr of)) takes = inr (acl_below (row_at (answer_rule stage)) refl refl (omega arith) x of takes)
+        others x (inr (inr (inl of))) takes = inr (acl_below (row_at (answer_rule stage)) refl refl (omega arith) x of takes)
+        others x (inr (inr (inr of))) takes = absurd (of_no_balancer x of)
 
     -- ---- packets on which ACLs decide
 
@@ -455,7 +460,8 @@ module _ (net : Network) (switch : Switch) (way : Way) (flight : Flight) (on : I
           others : (x : Row) → IsRule net dp stage x → holds known packet x.matching ≡ true → IsOther (row_at (keeping_rule stage)) x
           others x (inl of) takes = same (row_at (keeping_rule stage)) x (switch_last x of takes)
           others x (inr (inl of)) takes = absurd (of_no_port x of)
-          others x (inr (inr of)) takes = absurd (one_of_none of.acl (subst (λ list. Contains list of.acl) none (of_acl x of takes).held))
+          others x (inr (inr (inr of))) takes = absurd (of_no_balancer x of)
+          others x (inr (inr (inl of))) takes = absurd (one_of_none of.acl (subst (λ list. Contains list of.acl) none (of_acl x of takes).held))
 
       -- where one decides, its row is met
       module _ (f : Acl) (more : List Acl) (some : holding ≡ f ∷ more) where
@@ -496,7 +502,8 @@ module _ (net : Network) (switch : Switch) (way : Way) (flight : Flight) (on : I
         others x (inl of) takes =
             inr (ap (λ (r : Row). is_gt (row_cmp r (row_for acl))) (switch_last x of takes) ∙ lower_after (row_at (keeping_rule stage)) (row_for acl) refl (sym its_stage) (omega arith))
         others x (inr (inl of)) takes = absurd (of_no_port x of)
-        others x (inr (inr of)) takes = by (first.others of.acl (subst (λ list. Contains list of.acl) some taking.held))
+        others x (inr (inr (inr of))) takes = absurd (of_no_balancer x of)
+        others x (inr (inr (inl of))) takes = by (first.others of.acl (subst (λ list. Contains list of.acl) some taking.held))
           where
             taking : IsTaking x of.acl
             taking = of_acl x of takes

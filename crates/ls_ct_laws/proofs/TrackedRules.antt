@@ -1,8 +1,7 @@
--- Which rules a switch that tracks connections has in a stage, those of its ports, and those of ACLs that apply to it. No load balancer is
--- attached.
+-- Which rules a switch that tracks connections has in a stage, those of its ports, and those of ACLs that apply to it.
 use Rattle.std.proofs.Common.{◌≡◌, ℕ, ◌+◌, Bool, true, false, cond, List, [], ◌∷◌, ◌++◌, sym, ap, refl, ◌∙◌, ◌⊎◌, inl, inr, subst}
-use Rattle.std.specs.Prelude.{◌&&◌, ◌||◌, not}
-use Rattle.std.specs.List.{AllByRecursion, Contains, list_any}
+use Rattle.std.specs.Prelude.{◌||◌}
+use Rattle.std.specs.List.{AllByRecursion, Contains}
 use Rattle.std.proofs.lemmas.Bool.{false≢true}
 use Rattle.std.proofs.lemmas.List.Elements.{Contains-append_cases, Contains-append_left, Contains-append_right}
 use Rattle.nv_base.specs.declared.object.ObjId.{ObjId}
@@ -13,26 +12,23 @@ use Rattle.nb_records.specs.declared.acl.Verdict.TheVariants.{Allow, AllowRelate
 use Rattle.nb_records.specs.declared.acl.Way.{Way}
 use Rattle.nb_records.specs.declared.acl.Way.TheVariants.{From, To}
 use Rattle.nb_records.specs.declared.switch.Port.{Port}
-use Rattle.nb_records.specs.declared.switch.Switch.{Switch}
-use Rattle.nb_model.specs.Applies.{balances, is_empty, tracks}
-use Rattle.nb_model.specs.Network.{Network, same}
+use Rattle.nb_model.specs.Applies.{balances, tracks}
+use Rattle.nb_model.specs.Network.{Network}
 use Rattle.nb_model.specs.Readable.{is_priority}
 use Rattle.sb_model.specs.Make.{takes_each, goes_on, is_port}
 use Rattle.sb_model.specs.declared.stage.Stage.{Stage}
 use Rattle.sb_model.specs.declared.stage.Stage.TheVariants.{LsInPreAcl, LsInAclEval, LsOutAclEval}
 use Rattle.net_meaning.specs.Tracked.{is_stateless}
-use Rattle.net_rows.specs.Acls.{switch_acl_rules, port_acl_rules, first_stage_of, stage_of, acl_rules_at, acl_on_rules, tracked_rules, untracking_rules}
+use Rattle.net_rows.specs.Acls.{port_acl_rules, first_stage_of, stage_of, acl_rules_at, acl_on_rules, tracked_rules, untracking_rules}
 use Rattle.net_rows.specs.Build.{acl_rules_of_port, has_unknown, is_untracked, port_acl_input, port_l2_input, port_rules, port_sec_input, switch_rules}
-use Rattle.net_rows.specs.LoadBalancers.{switch_lb_rules}
-use Rattle.net_rows.specs.Lookup.{port_l2_rules, switch_l2_rules}
-use Rattle.net_rows.specs.PortSecurity.{port_sec_rules, switch_sec_rules}
+use Rattle.net_rows.specs.Lookup.{port_l2_rules}
+use Rattle.net_rows.specs.PortSecurity.{port_sec_rules}
 use Rattle.net_rows.specs.Unit.{rule}
 use Rattle.net_rows.specs.declared.inputs.AclOnInput.{AclOnInput}
 use Rattle.net_rows.specs.declared.rule.Rule.{Rule}
 use Rattle.net_rows.proofs.Elements.{one_first, one_later, one_of, one_of_none}
-use Rattle.ls_laws.proofs.RuleStages.{acl_rules_of_port-gives, each_of, is_first, is_of_addresses, is_of_security, later_rules, of_port_l2, of_port_sec, the_only}
+use Rattle.ls_laws.proofs.RuleStages.{acl_rules_of_port-gives, each_of, is_first, is_of_addresses, is_of_security, later_rules, of_port_l2, of_port_sec, rules_where, the_only}
 use Rattle.ls_ct_laws.specs.Tracking.{port_field}
-use Rattle.ls_laws.specs.Steps.{BalancesNone}
 
 -- ---- the rules of a switch
 
@@ -40,27 +36,12 @@ use Rattle.ls_laws.specs.Steps.{BalancesNone}
 abbrev pub passing : Stage → Rule
 passing stage = rule stage 0 takes_each goes_on
 
--- those of a switch that tracks
-abbrev pub tracked_switch_rules : Bool → List Rule
-tracked_switch_rules unknown =
-    switch_sec_rules ++ (switch_acl_rules (record { tracks = true; balances = false }) ++ (switch_lb_rules ++ switch_l2_rules (record { unknown = unknown })))
+-- those of a switch that tracks, to which load balancers are attached or not
+abbrev pub tracked_switch_rules : (balances unknown : Bool) → List Rule
+tracked_switch_rules balances unknown = rules_where true balances unknown
 
--- where no load balancer is attached, no switch balances
-no_balancer : (switch : ObjId) (list : List Switch) → AllByRecursion (λ (s : Switch). s.lbs ≡ []) list → list_any (λ (own : Switch). same own.id switch && not (is_empty own.lbs)) list ≡ false
-no_balancer switch [] all = refl
-no_balancer switch (own ∷ list) all = rw (all.0, no_balancer switch list all.1) (never (same own.id switch))
-  where
-    never : (b : Bool) → ((b && false) || false) ≡ false
-    never true = refl
-    never false = refl
-
-pub balances_none : (net : Network) → BalancesNone net → (switch : ObjId) → balances net switch ≡ false
-balances_none net plain switch = no_balancer switch net.switches plain
-
-pub switch_rules-tracked : (net : Network) (switch : ObjId) → BalancesNone net → tracks net switch ≡ true → switch_rules net switch ≡ tracked_switch_rules (has_unknown net switch)
-switch_rules-tracked net switch plain tracking =
-    ap (λ (t : Bool). switch_sec_rules ++ (switch_acl_rules (record { tracks = t; balances = balances net switch }) ++ (switch_lb_rules ++ switch_l2_rules (record { unknown = has_unknown net switch })))) tracking
-    ∙ ap (λ (t : Bool). switch_sec_rules ++ (switch_acl_rules (record { tracks = true; balances = t }) ++ (switch_lb_rules ++ switch_l2_rules (record { unknown = has_unknown net switch })))) (balances_none net plain switch)
+pub switch_rules-tracked : (net : Network) (switch : ObjId) → tracks net switch ≡ true → switch_rules net switch ≡ tracked_switch_rules (balances net switch) (has_unknown net switch)
+switch_rules-tracked net switch tracking = ap (λ (t : Bool). rules_where t (balances net switch) (has_unknown net switch)) tracking
 
 -- ---- the rules of ports in the first stage of a direction
 

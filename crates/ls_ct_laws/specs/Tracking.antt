@@ -1,16 +1,21 @@
--- What a packet's step through the stages of ACLs and of connections does on a switch that tracks connections, said of the network's
--- objects and of the connections: the stage laws, each of both directions.
+-- What a packet's step through the stages of ACLs, of load balancers and of connections does on a switch that tracks connections, said of the
+-- network's objects and of the connections: the stage laws, each of both directions but that of load balancers, which are asked on arriving.
 use Rattle.std.specs.Prelude.{◌≡◌, ℕ, Bool, true, false, ◌==◌, if◌then◌else◌, Option, Some}
 use Rattle.std.specs.Option.{option_map_or}
 use Rattle.nv_base.specs.declared.field.Field.{Field}
 use Rattle.nv_base.specs.declared.field.Field.TheVariants.{Inport, Outport, CtState, CtMarkBlocked, Reg0}
+use Rattle.nv_base.specs.declared.object.ObjId.{ObjId}
+use Rattle.pkt_core.specs.declared.tuple.Tuple.{Tuple}
 use Rattle.pkt_core.specs.Packet.{Values, value}
+use Rattle.pkt_core.specs.Prerequisite.{is_ip4}
 use Rattle.ct_core.specs.declared.look.Look.{Look}
-use Rattle.ct_core.specs.declared.look.Look.TheVariants.{Invalid, Found}
+use Rattle.ct_core.specs.declared.look.Look.TheVariants.{Invalid, New, Found}
 use Rattle.ct_core.specs.declared.look.Side.TheVariants.{Orig}
 use Rattle.ct_core.specs.Changes.{marked}
 use Rattle.ct_core.specs.Look.{flags_of, is_marked}
 use Rattle.ct_core.specs.State.{with_conns}
+use Rattle.ct_core.specs.Translation.{followed}
+use Rattle.ct_core.specs.declared.zone.Zone.{Zone}
 use Rattle.expr_core.specs.Width.{bits_of}
 use Rattle.expr_core.specs.declared.part.Bits.TheVariants.{Bit}
 use Rattle.nb_records.specs.declared.acl.Acl.{Acl}
@@ -18,7 +23,7 @@ use Rattle.nb_records.specs.declared.acl.Way.{Way}
 use Rattle.nb_records.specs.declared.acl.Way.TheVariants.{From, To}
 use Rattle.nb_records.specs.declared.switch.Port.{Port}
 use Rattle.nb_records.specs.declared.switch.Switch.{Switch}
-use Rattle.nb_model.specs.Applies.{tracks}
+use Rattle.nb_model.specs.Applies.{balances, lbs_on, tracks}
 use Rattle.nb_model.specs.Network.{Network}
 use Rattle.sb_model.specs.declared.stage.Pipeline.{Pipeline}
 use Rattle.sb_model.specs.declared.stage.Pipeline.TheVariants.{Ingress, Egress}
@@ -26,13 +31,15 @@ use Rattle.sb_model.specs.declared.stage.Stage.{Stage}
 use Rattle.sb_model.specs.declared.stage.Stage.TheVariants.{LsInPreAcl, LsInPreStateful, LsInAclEval, LsInLb, LsInStateful, LsInArpRsp, LsOutPreAcl, LsOutPreStateful, LsOutAclEval, LsOutStateful, LsOutCheckPortSec}
 use Rattle.net_meaning.specs.AclVerdict.{Decision, deciding, decided_by}
 use Rattle.net_meaning.specs.AclVerdict.Decision.{Allowed}
+use Rattle.net_meaning.specs.Balancing.{balanced_tuple}
 use Rattle.net_meaning.specs.Tracked.{is_to_keep, is_tracked}
 use Rattle.net_meaning.specs.declared.cause.Cause.TheVariants.{Acl as acl_cause}
 use Rattle.tr_stage.specs.Part.{with_part}
 use Rattle.tr_stage.specs.declared.outcome.Outcome.TheVariants.{Drop}
-use Rattle.tr_pipe.specs.Machine.{StageEnd, after, ended, kept, step}
+use Rattle.tr_pipe.specs.Machine.{StageEnd, after, bound, ended, kept, step}
 use Rattle.tr_pipe.specs.Machine.StageEnd.{On, Ends}
 use Rattle.tr_pipe.specs.Tracking.{Flight, bit, committed, tracked, with_packet, zone_of}
+use Rattle.tr_pipe.specs.Translating.{tracked_by}
 use Rattle.ls_laws.specs.Steps.{IsOn, IsPortOf, decided, flows_at}
 
 -- ---- the stages of a direction
@@ -93,11 +100,15 @@ Asks way =
     (net : Network) (switch : Switch) (flight : Flight) (port : Port) → IsPortOf net switch port → value flight.packet (port_field way) ≡ port.id.0
     → Steps net switch (pre_acl way) flight (On (pre_stateful way) (if is_tracked net way port flight.packet then with_bit 0 flight else flight))
 
+-- a packet is looked up in a zone; where the switch balances load, one of a connection gets the addresses that this gives it
+abbrev pub looked_up : Network → ObjId → Zone → Flight → Flight
+looked_up net switch zone flight = if balances net switch then tracked_by followed zone flight else tracked zone flight
+
 -- it is looked up in the zone of its port
 abbrev pub LooksUp : Way → Type 0
 LooksUp way =
     (net : Network) (switch : Switch) (flight : Flight)
-    → Steps net switch (pre_stateful way) flight (On (acl_eval way) (if has_bit 0 flight.packet then tracked (zone_of (pipeline_for way) flight.packet) flight else flight))
+    → Steps net switch (pre_stateful way) flight (On (acl_eval way) (if has_bit 0 flight.packet then looked_up net switch.id (zone_of (pipeline_for way) flight.packet) flight else flight))
 
 -- ---- what ACLs do with it
 
@@ -132,6 +143,23 @@ abbrev pub Rules : Way → Type 0
 Rules way =
     (net : Network) (switch : Switch) (flight : Flight) → IsNoted flight.look flight.packet
     → Steps net switch (acl_eval way) flight (ruled_on (deciding net switch.id way flight.packet) (after_acls way) flight flight.look)
+
+-- ---- what goes to a backend
+
+-- the connection is not to be kept as it is
+abbrev pub kept_no_more : Flight → Flight
+kept_no_more flight = with_packet flight (with_part flight.packet Reg0 (Bit 1) 0)
+
+-- a packet that begins a connection, and gets this tuple, goes on with it, and that connection is recorded; where there is no room it is
+-- dropped
+abbrev pub balanced : Option Tuple → Flight → Option Look → StageEnd
+balanced (Some t) flight (Some New) = bound (Some LsInStateful) (zone_of Ingress flight.packet) t (kept_no_more flight)
+balanced to flight found = On LsInStateful flight
+
+abbrev pub Balances : Type 0
+Balances =
+    (net : Network) (switch : Switch) (flight : Flight) → IsNoted flight.look flight.packet
+    → Steps net switch LsInLb flight (if is_ip4 flight.packet then balanced (balanced_tuple (lbs_on net switch.id) flight.packet) flight flight.look else On LsInStateful flight)
 
 -- ---- what is kept
 

@@ -50,9 +50,9 @@ use Rattle.tr_stage.specs.Machine.StageEnd.{On, Ends}
 use Rattle.ls_laws.specs.Steps.{IsOn, IsUntracked, DecidesIn, DecidesOut, decided, flows_at, rejected, sent_back}
 use Rattle.ls_laws.proofs.Deciding.{Rises, IsAfter, IsFirst, first_of, rises_kept}
 use Rattle.ls_laws.proofs.PassingStages.{passing}
-use Rattle.ls_laws.proofs.RuleStages.{rules_at, among_rules_at, from_rules_at, the_only, is_of_ports, port_rule_stage, untracked_rule, rules_where, switch_rules-untracked, acl_rule-gives}
+use Rattle.ls_laws.proofs.RuleStages.{rules_at, among_rules_at, from_rules_at, the_only, is_of_balancing, is_of_ports, port_rule_stage, untracked_rule, rules_where, switch_rules-untracked, acl_rule-gives}
 use Rattle.ls_laws.proofs.Selected.{first_of_takers}
-use Rattle.ls_laws.proofs.Tables.{IsSwitchRule, IsPortRule, IsAclRule, IsRule, filter_passes, row_of_acl, row_of_switch, table-gives}
+use Rattle.ls_laws.proofs.Tables.{IsSwitchRule, IsPortRule, IsAclRule, IsVipRule, IsRule, filter_passes, of_no_vip, row_of_acl, row_of_switch, table-gives}
 use Rattle.ls_laws.proofs.Takers.{lower_after, later_after, step_by}
 use Rattle.sb_model.specs.Stage.{last_table}
 use Rattle.sb_model.specs.declared.stage.DatapathKind.TheVariants as datapath
@@ -134,6 +134,10 @@ pub not_of_ports : (w : Way) → is_of_ports (stage_of w) ≡ false
 not_of_ports From = refl
 not_of_ports To = refl
 
+pub not_of_balancing : (w : Way) → is_of_balancing (stage_of w) ≡ false
+not_of_balancing From = refl
+not_of_balancing To = refl
+
 -- the only rule of a switch in the stage, which passes each packet on
 only_rule : (w : Way) (balances unknown : Bool) → rules_at (stage_of w) (rules_where false balances unknown) ≡ passing (stage_of w) ∷ []
 unfolding switch_acl_rules switch_l2_rules stage_place
@@ -170,6 +174,9 @@ module _ (net : Network) (switch : Switch) (way : Way) (packet : Values) (on : I
   of_no_port : (x : Row) → IsPortRule net dp stage x → ⊥
   of_no_port x of = false≢true (sym (not_of_ports way) ∙ sym (ap is_of_ports of.of_stage) ∙ port_rule_stage net of.port of.says of.in_rules)
 
+  of_no_balancer : (x : Row) → IsVipRule net dp stage x → ⊥
+  of_no_balancer x of = of_no_vip net dp stage x (not_of_balancing way) of
+
   -- the rule of an ACL
   abbrev rule_for : Acl → Rule
   rule_for acl = untracked_rule (acl_on_input net acl dp)
@@ -198,7 +205,8 @@ module _ (net : Network) (switch : Switch) (way : Way) (packet : Values) (on : I
         by : (x : Row) → IsRule net dp stage x → holds (names net) packet x.matching ≡ true → x.actions ≡ goes_on
         by x (inl of) takes = ap (λ (r : Row). r.actions) (of_switch x of)
         by x (inr (inl of)) takes = absurd (of_no_port x of)
-        by x (inr (inr of)) takes = absurd (one_of_none of.acl (subst (λ list. Contains list of.acl) none (of_acl-held x of takes)))
+        by x (inr (inr (inl of))) takes = absurd (one_of_none of.acl (subst (λ list. Contains list of.acl) none (of_acl-held x of takes)))
+        by x (inr (inr (inr of))) takes = absurd (of_no_balancer x of)
 
   -- where one decides, its row is met
   module _ (f : Acl) (more : List Acl) (some : holding ≡ f ∷ more) where
@@ -247,7 +255,8 @@ module _ (net : Network) (switch : Switch) (way : Way) (packet : Values) (on : I
     others x (inl of) takes =
         inr (ap (λ (r : Row). is_gt (row_cmp r (row_for acl))) (of_switch x of) ∙ lower_after (row_of (unit_of_datapath dp) (passing stage)) (row_for acl) refl (sym its_stage) (omega arith))
     others x (inr (inl of)) takes = absurd (of_no_port x of)
-    others x (inr (inr of)) takes = by (first.others of.acl (subst (λ list. Contains list of.acl) some (of_acl-held x of takes)))
+    others x (inr (inr (inr of))) takes = absurd (of_no_balancer x of)
+    others x (inr (inr (inl of))) takes = by (first.others of.acl (subst (λ list. Contains list of.acl) some (of_acl-held x of takes)))
       where
         stages : (row_for of.acl).stage ≡ (row_for acl).stage
         stages = ap stage_of (of_acl-way x of) ∙ sym its_stage

@@ -54,7 +54,7 @@ use Rattle.ls_laws.proofs.Packets.{other_value}
 use Rattle.ls_laws.proofs.PassingStages.{passing}
 use Rattle.ls_laws.proofs.RuleStages.{rules_at, among_rules_at, from_rules_at, the_only, is_before_addresses, is_of_acls, rules_where, acl_rule_stage}
 use Rattle.ls_laws.proofs.Selected.{first_of_takers}
-use Rattle.ls_laws.proofs.Tables.{IsSwitchRule, IsPortRule, IsRule, row_of_port, row_of_switch, table-gives}
+use Rattle.ls_laws.proofs.Tables.{IsSwitchRule, IsPortRule, IsRule, of_no_vip, row_of_port, row_of_switch, table-gives}
 use Rattle.ls_laws.proofs.Takers.{lower_after, later_after, step_by}
 
 -- ---- the packet that answers
@@ -271,7 +271,8 @@ module _ (net : Network) (switch : Switch) (packet : Values) (on : IsOn net swit
     taker : IsRule net dp LsInArpRsp row → IsTaker row
     taker (inl of) = by_switch_rule of
     taker (inr (inl of)) = by_port_rule of
-    taker (inr (inr of)) = absurd (false≢true (sym (ap is_of_acls of.of_stage) ∙ acl_rule_stage (acl_on_input net of.acl dp) of.says of.in_rules))
+    taker (inr (inr (inl of))) = absurd (false≢true (sym (ap is_of_acls of.of_stage) ∙ acl_rule_stage (acl_on_input net of.acl dp) of.says of.in_rules))
+    taker (inr (inr (inr of))) = absurd (of_no_vip net dp LsInArpRsp row refl of)
 
   -- ---- what is done
 

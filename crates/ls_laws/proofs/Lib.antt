@@ -2,11 +2,14 @@ pub mod AclEval
 pub mod AddressRules
 pub mod ArpReplies
 pub mod AtPort
+pub mod ChosenVips
 pub mod Coverage
 pub mod Deciding
+pub mod Firsts
 pub mod FoundPorts
 pub mod GuardTerms
 pub mod LookUp
+pub mod MeantVips
 pub mod Packets
 pub mod PassingStages
 pub mod PortNames
@@ -16,3 +19,5 @@ pub mod SecurityRules
 pub mod Selected
 pub mod Tables
 pub mod Takers
+pub mod VipMatches
+pub mod VipTargets

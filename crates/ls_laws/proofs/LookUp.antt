@@ -46,7 +46,7 @@ use Rattle.ls_laws.proofs.FoundPorts.{IsFoundPort, found_port, found_none}
 use Rattle.ls_laws.proofs.PortNames.{number_of_port}
 use Rattle.ls_laws.proofs.RuleStages.{rules_at, among_rules_at, from_rules_at, is_before_addresses, is_of_acls, is_of_ports, port_rule_stage, rules_where, acl_rule_stage}
 use Rattle.ls_laws.proofs.Selected.{first_of_takers}
-use Rattle.ls_laws.proofs.Tables.{IsSwitchRule, IsPortRule, IsRule, row_of_port, row_of_switch, table-gives}
+use Rattle.ls_laws.proofs.Tables.{IsSwitchRule, IsPortRule, IsRule, of_no_vip, row_of_port, row_of_switch, table-gives}
 use Rattle.ls_laws.proofs.Takers.{lower_after, later_after, step_by}
 use Rattle.nv_base.specs.Object.{flood_number, unknown_number}
 
@@ -137,7 +137,8 @@ module _ (net : Network) (switch : Switch) (packet : Values) (on : IsOn net swit
     taker : IsRule net dp LsInL2Lkup row → IsTaker row
     taker (inl of) = by_switch_rule of
     taker (inr (inl of)) = by_port_rule of
-    taker (inr (inr of)) = absurd (false≢true (sym (ap is_of_acls of.of_stage) ∙ acl_rule_stage (acl_on_input net of.acl dp) of.says of.in_rules))
+    taker (inr (inr (inl of))) = absurd (false≢true (sym (ap is_of_acls of.of_stage) ∙ acl_rule_stage (acl_on_input net of.acl dp) of.says of.in_rules))
+    taker (inr (inr (inr of))) = absurd (of_no_vip net dp LsInL2Lkup row refl of)
 
   -- ---- what is done
 
@@ -253,7 +254,8 @@ module _ (net : Network) (switch : Switch) (packet : Values) (on : IsOn net swit
     of_switch : (row : Row) → IsRule net at_dp LsInL2Unknown row → (says : Rule) × Contains (drop_rule ∷ unknown_rules unknown) says × (row ≡ row_of (unit_of_datapath at_dp) says)
     of_switch row (inl of) = (of.says, subst (λ rs. Contains rs of.says) they_are (among_rules_at LsInL2Unknown (switch_rules net at_dp) of.says of.in_rules of.of_stage), of.is)
     of_switch row (inr (inl of)) = absurd (false≢true (sym (ap is_of_ports of.of_stage) ∙ port_rule_stage net of.port of.says of.in_rules))
-    of_switch row (inr (inr of)) = absurd (false≢true (sym (ap is_of_acls of.of_stage) ∙ acl_rule_stage (acl_on_input net of.acl at_dp) of.says of.in_rules))
+    of_switch row (inr (inr (inl of))) = absurd (false≢true (sym (ap is_of_acls of.of_stage) ∙ acl_rule_stage (acl_on_input net of.acl at_dp) of.says of.in_rules))
+    of_switch row (inr (inr (inr of))) = absurd (of_no_vip net at_dp LsInL2Unknown row refl of)
 
     -- what the highest rule does is done
     done_by : (r : Rule) → Contains (drop_rule ∷ unknown_rules unknown) r → r.stage ≡ LsInL2Unknown → r.matching ≡ takes_each

@@ -40,7 +40,7 @@ use Rattle.ls_laws.proofs.GuardTerms.{Terms, AreNets, in_meaning, out_meaning}
 use Rattle.ls_laws.proofs.RuleStages.{rules_at, among_rules_at, from_rules_at, is_of_acls, acl_rule_stage}
 use Rattle.ls_laws.proofs.SecurityRules.{Side, IsSide, many_rule, off_rule, let_rule, shut_rule, last_rule, ingress_side, egress_side, ingress_is, egress_is, IsSecRule, sec_rule-gives, off-from, shut-from, let-from}
 use Rattle.ls_laws.proofs.SecurityRules.IsSecRule.{Off, Shut, Lets}
-use Rattle.ls_laws.proofs.Tables.{IsSwitchRule, IsPortRule, IsRule, row_of_port, row_of_switch}
+use Rattle.ls_laws.proofs.Tables.{IsSwitchRule, IsPortRule, IsRule, of_no_vip, row_of_port, row_of_switch}
 use Rattle.ls_laws.proofs.Takers.{step_by}
 
 -- the networks of the guards of a port of a sound network have addresses of 32 bits
@@ -149,7 +149,8 @@ module _ (side : Side) (is : IsSide side) (net : Network) (switch : Switch) (pac
     taker : IsRule net switch.id side.stage row → IsTaker row
     taker (inl from) = by_switch_rule from
     taker (inr (inl from)) = by_port_rule from
-    taker (inr (inr from)) = absurd (false≢true (sym is.no_acl ∙ sym (ap is_of_acls from.of_stage) ∙ acl_rule_stage (acl_on_input net from.acl switch.id) from.says from.in_rules))
+    taker (inr (inr (inl from))) = absurd (false≢true (sym is.no_acl ∙ sym (ap is_of_acls from.of_stage) ∙ acl_rule_stage (acl_on_input net from.acl switch.id) from.says from.in_rules))
+    taker (inr (inr (inr from))) = absurd (of_no_vip net switch.id side.stage row is.no_vip from)
 
   -- ---- what is done
 

@@ -1,4 +1,4 @@
--- Which stages the rules of switches are of, of their ports, and of ACLs that apply to them; and which rules there are where a switch
+-- Which stages the rules of switches are of, of their ports, of ACLs that apply to them, and of VIPs; and which rules there are where a switch
 -- tracks no connections.
 use Rattle.std.proofs.Common.{◌≡◌, ℕ, ◌+◌, Bool, true, false, cond, List, [], ◌∷◌, ◌++◌, map, eqb, sym, ap, refl, ◌∙◌, subst, ◌⊎◌, inl, inr}
 use Rattle.std.specs.Prelude.{◌||◌}
@@ -22,10 +22,10 @@ use Rattle.nb_model.specs.Readable.{is_priority}
 use Rattle.nb_model.specs.Applies.{is_empty, tracks, balances}
 use Rattle.sb_model.specs.Stage.{stage_place}
 use Rattle.sb_model.specs.declared.stage.Stage.{Stage}
-use Rattle.sb_model.specs.declared.stage.Stage.TheVariants.{LsInCheckPortSec, LsInPreAcl, LsInAclEval, LsInArpRsp, LsInL2Lkup, LsOutPreAcl, LsOutAclEval, LsOutCheckPortSec}
+use Rattle.sb_model.specs.declared.stage.Stage.TheVariants.{LsInCheckPortSec, LsInPreAcl, LsInAclEval, LsInLb, LsInArpRsp, LsInL2Lkup, LsOutPreAcl, LsOutAclEval, LsOutCheckPortSec}
 use Rattle.net_rows.specs.Acls.{switch_acl_rules, port_acl_rules, first_stage_of, stage_of, ending, tracked_rules, untracking_rules, acl_on_rules}
 use Rattle.net_rows.specs.Build.{port_sec_input, port_acl_input, acl_rules_of_port, is_untracked, acl_on_input, has_unknown, port_l2_input, switch_rules, port_rules}
-use Rattle.net_rows.specs.LoadBalancers.{switch_lb_rules}
+use Rattle.net_rows.specs.LoadBalancers.{switch_lb_rules, vip_switch_rule, vip_switch_rules}
 use Rattle.net_rows.specs.Lookup.{switch_l2_rules, arp_rules, arp_rules_of, lookup_rule, looked_up, host_rules, port_l2_rules}
 use Rattle.net_rows.specs.PortSecurity.{switch_sec_rules, open_rules, closed_rules, guard_rules, guarded_rules, disabled_rules, port_sec_rules}
 use Rattle.net_rows.specs.Unit.{rule}
@@ -33,8 +33,10 @@ use Rattle.net_rows.specs.declared.inputs.AclOnInput.{AclOnInput}
 use Rattle.net_rows.specs.declared.inputs.PortAclInput.{PortAclInput}
 use Rattle.net_rows.specs.declared.inputs.PortL2Input.{PortL2Input}
 use Rattle.net_rows.specs.declared.inputs.PortSecInput.{PortSecInput}
+use Rattle.net_rows.specs.declared.inputs.VipInput.{VipInput}
 use Rattle.net_rows.specs.declared.rule.Rule.{Rule}
-use Rattle.net_rows.proofs.Elements.{one_of, one_of_none, every_append, Contains-filter, Contains-from_filter}
+use Rattle.net_rows.proofs.VipRules.{vip_switch_only}
+use Rattle.net_rows.proofs.Elements.{one_first, one_of, one_of_none, every_append, Contains-filter, Contains-from_filter}
 
 -- ---- the rules of a stage
 
@@ -97,6 +99,11 @@ abbrev pub is_of_decisions : Stage → Bool
 is_of_decisions LsInAclEval = true
 is_of_decisions LsOutAclEval = true
 is_of_decisions _ = false
+
+-- that of load balancers
+abbrev pub is_of_balancing : Stage → Bool
+is_of_balancing LsInLb = true
+is_of_balancing _ = false
 
 -- those of ports but of port security
 abbrev pub is_later : Stage → Bool
@@ -328,6 +335,17 @@ untracked_gives input says none there = by (is_priority input.priority) input.tr
     by false t e at = absurd (one_of_none says at)
     by true true e at = absurd (false≢true (sym e))
     by true false e at = the_only (untracked_rule input) says at
+
+-- ---- the rules of VIPs
+
+-- a VIP that has backends has its rule
+pub vip_rule-from : (input : VipInput) → is_empty input.backends ≡ false → Contains (vip_switch_rules input) (vip_switch_rule input)
+unfolding vip_switch_rules
+vip_rule-from input some = rw some (one_first (vip_switch_rule input) [] (vip_switch_rule input) refl)
+
+-- which is of the stage of load balancers
+pub vip_rule_stage : (input : VipInput) (says : Rule) → Contains (vip_switch_rules input) says → says.stage ≡ LsInLb
+vip_rule_stage input says there = ap (λ (r : Rule). r.stage) (sym (vip_switch_only input says there))
 
 -- ---- the rules of switches
 

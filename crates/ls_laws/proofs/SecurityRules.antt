@@ -28,7 +28,7 @@ use Rattle.net_rows.specs.Unit.{rule}
 use Rattle.net_rows.specs.declared.rule.Rule.{Rule}
 use Rattle.net_rows.proofs.Elements.{one_of, one_of_none, one_first, one_later, Contains-from_map, Contains-map, Contains-from_flat_map, Contains-flat_map, Contains-from_filter}
 use Rattle.ls_laws.proofs.GuardTerms.{Terms, open_in_terms, closed_in_terms, in_terms, open_out_terms, closed_out_terms, out_terms}
-use Rattle.ls_laws.proofs.RuleStages.{is_at, rules_at, among_rules_at, from_rules_at, the_only, is_of_acls, is_later, later_rules, later_stage, rules_where}
+use Rattle.ls_laws.proofs.RuleStages.{is_at, rules_at, among_rules_at, from_rules_at, the_only, is_of_acls, is_of_balancing, is_later, later_rules, later_stage, rules_where}
 
 -- The stage of port security of a pipeline: the fields of the port and of its MAC, what is done with what may pass, what guards ask for,
 -- what all that is for many or from many meets, and whether a disabled port lets in nothing.
@@ -71,6 +71,7 @@ pub record IsSide (side : Side) : Type 0 where
   pub of_guard : (name : List ℕ) (guard : Guard) → rules_at side.stage (guard_rules name guard) ≡ map (let_rule side name guard) (side.terms guard)
   pub no_other : is_later side.stage ≡ false
   pub no_acl : is_of_acls side.stage ≡ false
+  pub no_vip : is_of_balancing side.stage ≡ false
   pub plain_port : field_prerequisite side.port ≡ Nothing
   pub plain_mac : field_prerequisite side.mac ≡ Nothing
   pub off_drops : side.disables ≡ true → side.many_does ≡ drops
@@ -92,6 +93,7 @@ ingress_is = record {
   of_guard = λ name guard. of_guard name guard (is_empty guard.nets);
   no_other = refl;
   no_acl = refl;
+  no_vip = refl;
   plain_port = refl;
   plain_mac = refl;
   off_drops = λ e. refl;
@@ -121,6 +123,7 @@ egress_is = record {
   of_guard = λ name guard. of_guard name guard (is_empty guard.nets);
   no_other = refl;
   no_acl = refl;
+  no_vip = refl;
   plain_port = refl;
   plain_mac = refl;
   off_drops = λ e. absurd (false≢true e);

@@ -1,9 +1,7 @@
--- What a packet's step through each stage of a switch does, said of the network's objects: the stage laws. They are of networks in which no
--- load balancer is attached to a switch.
--- Where a switch tracks connections, its stages of ACLs and of connections ask for connections, of which nothing is said here: the laws
--- of these are of switches that track none.
+-- What a packet's step through each stage of a switch does, said of the network's objects: the stage laws.
+-- Where a switch tracks connections, its stages of ACLs, of load balancers and of connections ask for connections, of which nothing is said
+-- here: the laws of these are of switches that track none.
 use Rattle.std.specs.Prelude.{◌≡◌, ℕ, false, not, ◌&&◌, if◌then◌else◌, List, [], ◌∷◌, Contains, Option, Some, None}
-use Rattle.std.specs.List.{AllByRecursion}
 use Rattle.nv_base.specs.declared.object.ObjId.{ObjId}
 use Rattle.nv_base.specs.declared.field.Field.TheVariants.{Inport, Outport, FlagsLoopback, EthDst, ArpTpa}
 use Rattle.pkt_core.specs.Packet.{Values, IsPacket, value, with_value, with_values}
@@ -36,14 +34,9 @@ use Rattle.nv_base.specs.Object.{flood_number, unknown_number}
 abbrev pub flows_at : Network → ObjId → Flows
 flows_at net dp = flows_of (network_rows net) (names net) dp
 
--- no load balancer is attached to a switch of the network
-abbrev pub BalancesNone : Network → Type 0
-BalancesNone net = AllByRecursion (λ (switch : Switch). switch.lbs ≡ []) net.switches
-
 -- the networks and the packets of which the laws speak: on one of the network's switches
 pub record IsOn (net : Network) (switch : Switch) (packet : Values) : Type 0 where
   pub sound : IsSound net
-  pub plain : BalancesNone net
   pub among : Contains net.switches switch
   pub formed : IsPacket packet
 
@@ -58,10 +51,6 @@ Does net switch stage packet end = step (flows_at net switch.id) stage packet �
 -- the switch tracks no connections
 abbrev pub IsUntracked : Network → Switch → Type 0
 IsUntracked net switch = tracks net switch.id ≡ false
-
--- each packet goes on at the next stage
-abbrev pub Passes : Stage → Stage → Type 0
-Passes stage next = (net : Network) (switch : Switch) (packet : Values) → IsOn net switch packet → Does net switch stage packet (On next packet)
 
 -- each packet goes on at the next stage where the switch tracks no connections
 abbrev pub PassesUntracked : Stage → Stage → Type 0

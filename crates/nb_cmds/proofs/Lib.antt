@@ -1,4 +1,3 @@
-pub mod BuiltLines
 pub mod EachEdit
 pub mod Known
 pub mod Microflows

@@ -3,7 +3,7 @@ use Rattle.std.specs.Prelude.{ℕ, Bool, false, List, [], ◌∷◌, Option, cod
 use Rattle.std.specs.List.{find}
 use Rattle.std.specs.Str.{bytes_eq}
 use Rattle.nb_edit.specs.Forms.{form}
-use Rattle.nb_edit.specs.declared.verb.Verb.TheVariants.{LsAdd, LsDel, LspAdd, LspDel, LspSetAddresses, LspSetPortSecurity, LspSetType, LspSetOptions, LspSetEnabled, LrAdd, LrDel, LrpAdd, LrpDel, LrpSetEnabled, LrRouteAdd, LrRouteDel, LrNatAdd, LrNatDel, LbAdd, LbDel, LrLbAdd, LrLbDel, AclAdd, AclDel, PgAdd, PgSetPorts, PgDel, AsAdd, AsSet, AsDel, SmbAdd, SmbDel}
+use Rattle.nb_edit.specs.declared.verb.Verb.TheVariants.{LsAdd, LsDel, LspAdd, LspDel, LspSetAddresses, LspSetPortSecurity, LspSetType, LspSetOptions, LspSetEnabled, LrAdd, LrDel, LrpAdd, LrpDel, LrpSetEnabled, LrRouteAdd, LrRouteDel, LrNatAdd, LrNatDel, LbAdd, LbDel, LsLbAdd, LsLbDel, LrLbAdd, LrLbDel, AclAdd, AclDel, PgAdd, PgSetPorts, PgDel, AsAdd, AsSet, AsDel, SmbAdd, SmbDel}
 use Rattle.nb_words.specs.declared.word.Word.{Word}
 use Rattle.nb_cmds.specs.declared.task.Question.{Question}
 use Rattle.nb_cmds.specs.declared.task.Question.TheVariants.{FlowList, Trace, CtList, CtFlush, NbrList, NbrFlush, Dump}
@@ -15,7 +15,7 @@ unfoldable pub tasks : List Task
 tasks =
     Edit LsAdd ∷ Edit LsDel ∷ Edit LspAdd ∷ Edit LspDel ∷ Edit LspSetAddresses ∷ Edit LspSetPortSecurity ∷ Edit LspSetType ∷ Edit LspSetOptions ∷ Edit LspSetEnabled ∷
     Edit LrAdd ∷ Edit LrDel ∷ Edit LrpAdd ∷ Edit LrpDel ∷ Edit LrpSetEnabled ∷ Edit LrRouteAdd ∷ Edit LrRouteDel ∷
-    Edit LrNatAdd ∷ Edit LrNatDel ∷ Edit LbAdd ∷ Edit LbDel ∷ Edit LrLbAdd ∷ Edit LrLbDel ∷
+    Edit LrNatAdd ∷ Edit LrNatDel ∷ Edit LbAdd ∷ Edit LbDel ∷ Edit LsLbAdd ∷ Edit LsLbDel ∷ Edit LrLbAdd ∷ Edit LrLbDel ∷
     Edit AclAdd ∷ Edit AclDel ∷ Edit PgAdd ∷ Edit PgSetPorts ∷ Edit PgDel ∷
     Edit AsAdd ∷ Edit AsSet ∷ Edit AsDel ∷ Edit SmbAdd ∷ Edit SmbDel ∷
     Query FlowList ∷ Query Trace ∷ Query CtList ∷ Query CtFlush ∷ Query NbrList ∷ Query NbrFlush ∷ Query Dump ∷ []

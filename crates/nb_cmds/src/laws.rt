@@ -4,7 +4,6 @@ ghost use Rattle.std.specs.List.{AllByRecursion};
 ghost use Rattle.nb_records.specs.declared.edit.Edit.{Edit};
 ghost use Rattle.nb_model.specs.Readable.{IsReadable};
 ghost use Rattle.nv_base.specs.Name.{is_object_name, is_quotable};
-ghost use Rattle.nb_cmds.specs.Asked.{IsAsked};
 ghost use Rattle.nb_cmds.specs.Lines.{read_line};
 ghost use Rattle.nb_cmds.specs.declared.line.Line.TheVariants.{Edits, Query};
 ghost use Rattle.nb_cmds.specs.declared.query.Query.TheVariants.{FlowList, Trace};
@@ -15,12 +14,6 @@ ghost use Rattle.pkt_micro.specs.declared.microflow.Micro.{Micro};
 #[tactic(auto, using(crate::proofs::ReadableLines::line_readable))]
 pub fn lines_ask_for_readable_edits()
     ensures { (text : List ℕ) (list : List Edit) → read_line text ≡ Ok (Edits list) → AllByRecursion IsReadable list }
-{}
-
-/// No edit that a line asks for attaches a load balancer to a switch, or detaches one: those of switches are not built.
-#[tactic(auto, using(crate::proofs::BuiltLines::line_built))]
-pub fn lines_ask_for_built_edits()
-    ensures { (text : List ℕ) (list : List Edit) → read_line text ≡ Ok (Edits list) → AllByRecursion IsAsked list }
 {}
 
 /// A line asks for no more edits than it has bytes.

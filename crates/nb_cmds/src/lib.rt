@@ -9,8 +9,7 @@ mod readings;
 mod task;
 
 pub use laws::{
-    lines_ask_for_built_edits, lines_ask_for_readable_edits, lines_have_no_more_edits_than_bytes,
-    queries_have_well_read_words,
+    lines_ask_for_readable_edits, lines_have_no_more_edits_than_bytes, queries_have_well_read_words,
 };
 pub use line::{Line, read_line};
 pub use query::Query;

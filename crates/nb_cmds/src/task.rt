@@ -34,7 +34,7 @@ pub enum Task {
 }
 
 // The table.
-static TASKS: [Task; 39] = [
+static TASKS: [Task; 41] = [
     Task::Edit(Verb::LsAdd),
     Task::Edit(Verb::LsDel),
     Task::Edit(Verb::LspAdd),
@@ -55,6 +55,8 @@ static TASKS: [Task; 39] = [
     Task::Edit(Verb::LrNatDel),
     Task::Edit(Verb::LbAdd),
     Task::Edit(Verb::LbDel),
+    Task::Edit(Verb::LsLbAdd),
+    Task::Edit(Verb::LsLbDel),
     Task::Edit(Verb::LrLbAdd),
     Task::Edit(Verb::LrLbDel),
     Task::Edit(Verb::AclAdd),
@@ -79,7 +81,7 @@ static TASKS: [Task; 39] = [
 impl Task {
     /// All that is built.
     #[tactic(auto, unfolding(crate::specs::Tasks::tasks))]
-    pub fn all() -> &'static [Task; 39]
+    pub fn all() -> &'static [Task; 41]
         ensures { result.now ≡ tasks }
     {
         &TASKS

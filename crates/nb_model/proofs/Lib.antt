@@ -38,4 +38,3 @@ pub mod Totals
 pub mod Whole
 pub mod Within
 pub mod WordReadings
-pub mod Plain

@@ -1,4 +1,5 @@
--- Which ACLs apply to a switch, and whether it tracks connections (ovn-nb(5), 'ACL TABLE').
+-- Which ACLs apply to a switch, which load balancers are attached to it, and whether it tracks connections (ovn-nb(5), 'ACL TABLE' and
+-- 'Load_Balancer TABLE').
 use Rattle.std.specs.Prelude.{Bool, true, false, not, ◌&&◌, ◌||◌, List, [], ◌∷◌, filter}
 use Rattle.std.specs.List.{list_any}
 use Rattle.nv_base.specs.declared.object.ObjId.{ObjId}
@@ -6,7 +7,7 @@ use Rattle.nb_records.specs.declared.acl.Verdict.{Verdict}
 use Rattle.nb_records.specs.declared.acl.Verdict.TheVariants.{AllowRelated}
 use Rattle.nb_records.specs.declared.acl.Way.{Way}
 use Rattle.nb_model.specs.Belongs.{is_among, same_way}
-use Rattle.nb_model.specs.Network.{Network, same, Acl, Switch}
+use Rattle.nb_model.specs.Network.{Network, same, Acl, Lb, Switch}
 
 -- a list of nothing
 abbrev pub is_empty : {X : Type 0} → List X → Bool
@@ -34,6 +35,10 @@ is_related _ = false
 -- a load balancer is attached to the switch
 abbrev pub balances : Network → ObjId → Bool
 balances net switch = list_any (λ own. same own.id switch && not (is_empty own.lbs)) net.switches
+
+-- the load balancers that are attached to the switch
+abbrev pub lbs_on : Network → ObjId → List Lb
+lbs_on net switch = filter (λ lb. list_any (λ own. same own.id switch && is_among lb.id own.lbs) net.switches) net.lbs
 
 -- a switch tracks connections where an `allow-related` ACL applies to it, or a load balancer is attached
 abbrev pub tracks : Network → ObjId → Bool

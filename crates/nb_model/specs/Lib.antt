@@ -5,7 +5,6 @@ pub mod Belongs
 pub mod Effect
 pub mod Names
 pub mod Network
-pub mod Plain
 pub mod Ports
 pub mod Readable
 pub mod Rises

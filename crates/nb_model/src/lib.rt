@@ -5,7 +5,6 @@
 mod laws;
 mod limits;
 mod numbers;
-mod plain_laws;
 mod records;
 
 pub use laws::{edits_leave_sound_networks, the_empty_network_is_sound};
@@ -13,5 +12,4 @@ pub use limits::edits_raise_few_kinds;
 pub use numbers::{
     edits_draw_one_number, edits_keep_limits, edits_keep_numbers, edits_keep_references,
 };
-pub use plain_laws::built_edits_leave_plain_networks;
 pub use records::{edits_keep_names, edits_keep_records_apart, edits_keep_records_readable};

@@ -1,20 +1,22 @@
 -- The rows that are made of the network's objects are the rows of its units.
 use Rattle.std.proofs.Common.{◌≡◌, true, List, [], ◌++◌, append_assoc, map, sym, ap, ◌∙◌, subst}
-use Rattle.std.specs.Prelude.{◌↔◌, filter}
+use Rattle.std.specs.Prelude.{◌↔◌, filter, Some}
 use Rattle.std.proofs.lemmas.Bool.{eqb-true, eq-eqb}
 use Rattle.std.specs.List.{Contains, flat_map}
 use Rattle.std.proofs.lemmas.List.{map-append}
 use Rattle.nv_base.specs.declared.object.ObjId.{ObjId}
 use Rattle.nb_records.specs.declared.acl.Acl.{Acl}
+use Rattle.nb_records.specs.declared.balancer.Lb.{Lb}
+use Rattle.nb_records.specs.declared.balancer.Vip.{Vip}
 use Rattle.nb_records.specs.declared.switch.Port.{Port}
 use Rattle.nb_records.specs.declared.switch.Switch.{Switch}
 use Rattle.nb_model.specs.Belongs.{is_among}
 use Rattle.nb_model.specs.Network.{Network, same}
 use Rattle.nb_model.specs.Sound.{IsSound}
-use Rattle.nb_model.specs.Applies.{applies, tracks}
+use Rattle.nb_model.specs.Applies.{applies, lbs_on, tracks}
 use Rattle.net_rows.specs.Acls.{acl_on_rules, switch_acl_rules}
-use Rattle.net_rows.specs.Build.{acl_on_input, acl_on_rows, acl_rows, acl_rules_of_port, all_rows, port_l2_input, port_rows, port_sec_input, switch_acl_input, switch_l2_input, switch_rows}
-use Rattle.net_rows.specs.LoadBalancers.{switch_lb_rules}
+use Rattle.net_rows.specs.Build.{acl_on_input, acl_on_rows, acl_rows, acl_rules_of_port, all_rows, lb_on_rows, lb_rows, port_l2_input, port_rows, port_sec_input, switch_acl_input, switch_l2_input, switch_rows, vip_input, vip_on_rows}
+use Rattle.net_rows.specs.LoadBalancers.{switch_lb_rules, vip_switch_rules}
 use Rattle.net_rows.specs.Lookup.{port_l2_rules, switch_l2_rules}
 use Rattle.net_rows.specs.PortSecurity.{port_sec_rules, switch_sec_rules}
 use Rattle.net_rows.specs.Unit.{row_of, said_by, unit_of, unit_of_datapath, unit_rows}
@@ -25,18 +27,20 @@ use Rattle.net_rows.specs.declared.rule.Unit.{Unit}
 use Rattle.net_rows.proofs.Elements.{any_gives, Contains-filter, Contains-flat_map, Contains-from_filter, Contains-from_flat_map, Contains-from_map}
 use Rattle.net_rows.proofs.Sound.{each_passes}
 use Rattle.sb_model.specs.declared.row.Row.{Row}
-use Rattle.sb_rows.specs.Row.{put_rows}
-use Rattle.sb_rows.proofs.AllAtOnce.{put_members}
 use Rattle.lr_units.specs.Build.{router_rows}
 use Rattle.lr_units.specs.Network.{rows_of_units}
 use Rattle.nd_full.specs.inner.Between.{rows_of_each}
-use Rattle.nd_full.specs.inner.Made.{acl_unit, acl_units, datapath_rows, port_units, rows_at, switch_units}
+use Rattle.nd_full.specs.inner.Made.{acl_unit, acl_units, balancer_units, datapath_rows, port_units, rows_at, switch_units, vip_unit}
 use Rattle.nd_router.specs.Members.{HaveSameRows}
+use Rattle.nd_router.specs.inner.Made.{of_number}
 use Rattle.nd_router.proofs.All.{on_each}
+use Rattle.nd_router.proofs.Attached.{attached_to_listed, listed_to_attached}
 use Rattle.nd_full.specs.inner.Owners.{acls_of, AreOwners, ports_on}
 use Rattle.nd_router.proofs.Any.{kept_passes}
 use Rattle.nd_full.proofs.Applied.{applies_to, has_owner}
-use Rattle.nd_router.proofs.Same.{same_both, same_equal, same_itself, same_pieces, same_split, same_through, same_unit, same_turned_round}
+use Rattle.nd_full.proofs.Sound.{switches_rise}
+use Rattle.nv_table.specs.Table.{record_of}
+use Rattle.nd_router.proofs.Same.{same_appended, same_both, same_equal, same_itself, same_pieces, same_split, same_through, same_unit, same_turned_round}
 
 -- the rules of two parts of a unit
 two_parts : (unit : Unit) (first second : List Rule) (rest : List Row) → HaveSameRows rest (said_by unit second) → HaveSameRows (unit_rows unit first ++ rest) (said_by unit (first ++ second))
@@ -103,24 +107,61 @@ module _ (net : Network) where
           let in_unit = Contains-flat_map unit (acls_of net owned.0) acl r owned.2 (((same_acl acl switch).members r).1 at.2) in
           Contains-flat_map units owners owned.0 r owned.1 in_unit
 
+  -- the rows of a switch and of the ACLs that apply to it
+  abbrev with_applied : Switch → List Row
+  with_applied switch = switch_rows net switch ++ applied switch
+
   -- the rows of a switch and of its owners' ACLs come to the others
   pub same_at : (switch : Switch) (owners : List ObjId) (old : List Row) → AreOwners net switch.id owners
-      → HaveSameRows ((old ++ switch_units switch.id (switch_acl_input net switch.id) (switch_l2_input net switch.id)) ++ flat_map (acl_units net switch.id (tracks net switch.id)) owners) (old ++ rows_at net switch)
+      → HaveSameRows ((old ++ switch_units switch.id (switch_acl_input net switch.id) (switch_l2_input net switch.id)) ++ flat_map (acl_units net switch.id (tracks net switch.id)) owners) (old ++ with_applied switch)
   same_at switch owners old are =
       let units = switch_units switch.id (switch_acl_input net switch.id) (switch_l2_input net switch.id) in
       let acls = flat_map (acl_units net switch.id (tracks net switch.id)) owners in
-      same_through ((old ++ units) ++ acls) (old ++ (units ++ acls)) (old ++ rows_at net switch) (same_equal ((old ++ units) ++ acls) (old ++ (units ++ acls)) (append_assoc old units acls))
-      (same_both old old (units ++ acls) (rows_at net switch) (same_itself old) (same_both units (switch_rows net switch) acls (applied switch) (same_switch switch) (same_applied switch owners are)))
+      same_through ((old ++ units) ++ acls) (old ++ (units ++ acls)) (old ++ with_applied switch) (same_equal ((old ++ units) ++ acls) (old ++ (units ++ acls)) (append_assoc old units acls))
+      (same_both old old (units ++ acls) (with_applied switch) (same_itself old) (same_both units (switch_rows net switch) acls (applied switch) (same_switch switch) (same_applied switch owners are)))
 
   pub made_at : (switch : Switch) (owners : List ObjId) (old made all : List Row) (acl : SwitchAclInput) (lookup : SwitchL2Input) → AreOwners net switch.id owners → acl ≡ switch_acl_input net switch.id → lookup ≡ switch_l2_input net switch.id
-      → made ≡ old ++ switch_units switch.id acl lookup → all ≡ made ++ flat_map (acl_units net switch.id acl.tracks) owners → HaveSameRows all (old ++ rows_at net switch)
+      → made ≡ old ++ switch_units switch.id acl lookup → all ≡ made ++ flat_map (acl_units net switch.id acl.tracks) owners → HaveSameRows all (old ++ with_applied switch)
   made_at switch owners old made all acl lookup are is_acl is_lookup is_made is_all =
-      same_through all (at (switch_acl_input net switch.id) (switch_l2_input net switch.id)) (old ++ rows_at net switch)
+      same_through all (at (switch_acl_input net switch.id) (switch_l2_input net switch.id)) (old ++ with_applied switch)
       (same_equal all (at (switch_acl_input net switch.id) (switch_l2_input net switch.id))
       (is_all ∙ ap (λ rows. rows ++ flat_map (acl_units net switch.id acl.tracks) owners) is_made ∙ ap (λ input. at input lookup) is_acl ∙ ap (at (switch_acl_input net switch.id)) is_lookup)) (same_at switch owners old are)
     where
       at : SwitchAclInput → SwitchL2Input → List Row
       at a l = (old ++ switch_units switch.id a l) ++ flat_map (acl_units net switch.id a.tracks) owners
+
+  -- a load balancer on a switch
+  same_vip : (switch : Switch) (lb : Lb) (vip : Vip) → HaveSameRows (vip_unit switch.id lb vip) (vip_on_rows switch lb vip)
+  unfolding vip_on_rows
+  same_vip switch lb vip = same_unit (unit_of switch.id lb.id) (vip_switch_rules (vip_input lb vip))
+
+  same_balancer : (switch : Switch) (lb : Lb) → HaveSameRows (balancer_units switch.id lb) (lb_on_rows switch lb)
+  same_balancer switch lb = same_pieces (vip_unit switch.id lb) (vip_on_rows switch lb) lb.vips (same_vip switch lb)
+
+  module _ (sound : IsSound net) (switch : Switch) (there : record_of (λ (s : Switch). s.id) switch.id net.switches ≡ Some switch) where
+    -- the load balancers that a switch lists are those that are attached to it
+    same_balancers : HaveSameRows (flat_map (of_number net (balancer_units switch.id)) switch.lbs) (lb_rows net switch)
+    same_balancers =
+        let units = balancer_units switch.id in
+        let rise = switches_rise net sound in
+        same_through (flat_map (of_number net units) switch.lbs) (flat_map units (lbs_on net switch.id)) (lb_rows net switch)
+        (record {
+          members = λ r. (
+            listed_to_attached (λ (s : Switch). s.id) (λ (s : Switch). s.lbs) net.switches net sound rise switch there units r,
+            attached_to_listed (λ (s : Switch). s.id) (λ (s : Switch). s.lbs) net.switches net sound rise switch there units r,
+          );
+        })
+        (same_pieces units (lb_on_rows switch) (lbs_on net switch.id) (same_balancer switch))
+
+    -- their rows come to those of the switch and of the ACLs
+    pub made_with : (old made all : List Row) → HaveSameRows made (old ++ with_applied switch) → all ≡ made ++ flat_map (of_number net (balancer_units switch.id)) switch.lbs → HaveSameRows all (old ++ rows_at net switch)
+    made_with old made all same is_all =
+        let own = switch_rows net switch in
+        let acls = applied switch in
+        let lbs = lb_rows net switch in
+        same_through all (made ++ lbs) (old ++ rows_at net switch) (same_appended made (flat_map (of_number net (balancer_units switch.id)) switch.lbs) lbs all is_all same_balancers)
+        (same_through (made ++ lbs) ((old ++ (own ++ acls)) ++ lbs) (old ++ rows_at net switch) (same_both made (old ++ (own ++ acls)) lbs lbs same (same_itself lbs))
+        (same_equal ((old ++ (own ++ acls)) ++ lbs) (old ++ (own ++ (acls ++ lbs))) (append_assoc old (own ++ acls) lbs ∙ ap (λ rows. old ++ rows) (append_assoc own acls lbs))))
 
   -- switch by switch the same ACLs are applied as ACL by ACL
   same_acls : HaveSameRows (flat_map applied net.switches) (flat_map (acl_rows net) net.acls)
@@ -157,10 +198,16 @@ module _ (net : Network) where
   abbrev of_acls : List Row
   of_acls = flat_map (acl_rows net) net.acls
 
-  same_switches : HaveSameRows (flat_map (rows_at net) net.switches) (of_switches ++ of_acls)
+  abbrev of_lbs : List Row
+  of_lbs = flat_map (lb_rows net) net.switches
+
+  same_switches : HaveSameRows (flat_map (rows_at net) net.switches) (of_switches ++ (of_acls ++ of_lbs))
   same_switches =
-      same_through (flat_map (rows_at net) net.switches) (of_switches ++ flat_map applied net.switches) (of_switches ++ of_acls)
-      (same_split (switch_rows net) applied net.switches) (same_both of_switches of_switches (flat_map applied net.switches) of_acls (same_itself of_switches) same_acls)
+      let on : Switch → List Row = λ switch. applied switch ++ lb_rows net switch in
+      same_through (flat_map (rows_at net) net.switches) (of_switches ++ flat_map on net.switches) (of_switches ++ (of_acls ++ of_lbs)) (same_split (switch_rows net) on net.switches)
+      (same_both of_switches of_switches (flat_map on net.switches) (of_acls ++ of_lbs) (same_itself of_switches)
+      (same_through (flat_map on net.switches) (flat_map applied net.switches ++ of_lbs) (of_acls ++ of_lbs) (same_split applied (lb_rows net) net.switches)
+      (same_both (flat_map applied net.switches) of_acls of_lbs of_lbs same_acls (same_itself of_lbs))))
 
   -- the ports of a switch, switch by switch, are all ports
   same_ports : IsSound net → HaveSameRows (flat_map (λ (switch : Switch). flat_map (port_units net) (ports_on net switch.id)) net.switches) (flat_map (port_units net) net.ports)
@@ -188,10 +235,11 @@ module _ (net : Network) where
   -- what is made of the switches, and then of the ports, are the rows of the network's units
   pub same_all : HaveSameRows (flat_map (rows_at net) net.switches ++ flat_map (port_units net) net.ports) (all_rows net)
   same_all =
-      same_through (flat_map (rows_at net) net.switches ++ flat_map (port_units net) net.ports) ((of_switches ++ of_acls) ++ of_ports) (all_rows net)
-      (same_both (flat_map (rows_at net) net.switches) (of_switches ++ of_acls) (flat_map (port_units net) net.ports) of_ports same_switches (same_pieces (port_units net) (port_rows net) net.ports same_port))
-      (same_through ((of_switches ++ of_acls) ++ of_ports) (of_switches ++ (of_acls ++ of_ports)) (all_rows net) (same_equal ((of_switches ++ of_acls) ++ of_ports) (of_switches ++ (of_acls ++ of_ports)) (append_assoc of_switches of_acls of_ports))
-      (same_both of_switches of_switches (of_acls ++ of_ports) (of_ports ++ of_acls) (same_itself of_switches) (same_turned_round of_acls of_ports)))
+      let others = of_acls ++ of_lbs in
+      same_through (flat_map (rows_at net) net.switches ++ flat_map (port_units net) net.ports) ((of_switches ++ others) ++ of_ports) (all_rows net)
+      (same_both (flat_map (rows_at net) net.switches) (of_switches ++ others) (flat_map (port_units net) net.ports) of_ports same_switches (same_pieces (port_units net) (port_rows net) net.ports same_port))
+      (same_through ((of_switches ++ others) ++ of_ports) (of_switches ++ (others ++ of_ports)) (all_rows net) (same_equal ((of_switches ++ others) ++ of_ports) (of_switches ++ (others ++ of_ports)) (append_assoc of_switches others of_ports))
+      (same_both of_switches of_switches (others ++ of_ports) (of_ports ++ others) (same_itself of_switches) (same_turned_round others of_ports)))
 
   -- what is made datapath by datapath are the rows of the network's units
   made_all : IsSound net → HaveSameRows (flat_map (datapath_rows net) net.switches) (all_rows net)

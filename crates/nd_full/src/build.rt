@@ -22,9 +22,10 @@ use nv_base::{ObjId, OutOfMemory};
 use sb_rows::{NewRows, RowList, Rows};
 use std::alloc::Global;
 
-/// The rows of a sound network, made anew: those of each switch, of each port of a switch, and of each ACL on each switch to which
-/// it applies; and those of each router, of its ports, routes, NAT rules and load balancers, and of the hosts across its ports
-/// (modelled on ovn-northd(8)). Where memory runs out the answer is `OutOfMemory`.
+/// The rows of a sound network, made anew: those of each switch, of each port of a switch, of each ACL on each switch to which it
+/// applies, and of each VIP on each switch to which its load balancer is attached; and those of each router, of its ports, routes, NAT
+/// rules and load balancers, and of the hosts across its ports (modelled on ovn-northd(8)). Where memory runs out the answer is
+/// `OutOfMemory`.
 pub fn full(alloc: Global, records: &Records) -> Result<Rows, OutOfMemory>
     requires { IsSound records.now }
     ensures { IfOk result (λ built. built ≡ network_rows records.now) }
@@ -60,7 +61,7 @@ fn add_rows_of_datapaths(
     add_rows_of_routers(alloc, made, records, last, None)
 }
 
-// The rows of a switch, of the ACLs on it and of its ports, in the order of their keys.
+// The rows of a switch, of the ACLs and the load balancers on it, and of its ports, in the order of their keys.
 fn rows_of_datapath(
     alloc: Global,
     records: &Records,

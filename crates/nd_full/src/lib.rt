@@ -1,6 +1,7 @@
 //! The full build: the rows of all units of a network, made anew.
 #![tactic(auto)]
 
+mod balancers;
 mod build;
 mod inputs;
 mod made;

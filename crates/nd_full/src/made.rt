@@ -5,16 +5,18 @@ ghost use Rattle.net_rows.specs.LoadBalancers.{switch_lb_rules};
 ghost use Rattle.net_rows.specs.Lookup.{switch_l2_rules, port_l2_rules};
 ghost use Rattle.net_rows.specs.PortSecurity.{switch_sec_rules, port_sec_rules};
 ghost use Rattle.net_rows.specs.Unit.{unit_of, unit_of_datapath, unit_rows};
-ghost use Rattle.nd_full.specs.inner.Made.{acl_unit, switch_units};
+ghost use Rattle.nd_full.specs.inner.Made.{acl_unit, switch_units, vip_unit};
 
 use crate::inputs::acl_on_input;
 use inc_table::Maker;
 use ls_acl::{AclOn, PortAcl, SwitchAcl};
 use ls_l2::{PortL2, SwitchL2};
-use ls_lb::SwitchLb;
+use ls_lb::{SwitchLb, VipSwitch};
 use ls_sec::{PortSec, SwitchSec};
-use nb_records::Acl;
-use net_rows::{PortAclInput, PortL2Input, PortSecInput, SwitchAclInput, SwitchL2Input, UnitMaker};
+use nb_records::{Acl, Lb, Vip};
+use net_rows::{
+    PortAclInput, PortL2Input, PortSecInput, SwitchAclInput, SwitchL2Input, UnitMaker, vip_input,
+};
 use nv_base::{ObjId, OutOfMemory};
 use sb_rows::NewRows;
 use std::alloc::Global;
@@ -32,6 +34,7 @@ pub(crate) struct MadeRows {
     port_acl: UnitMaker<PortAcl>,
     port_l2: UnitMaker<PortL2>,
     acl_on: UnitMaker<AclOn>,
+    vip_switch: UnitMaker<VipSwitch>,
 }
 
 impl Model for MadeRows {
@@ -62,6 +65,7 @@ impl MadeRows {
             port_acl: UnitMaker::new(PortAcl),
             port_l2: UnitMaker::new(PortL2),
             acl_on: UnitMaker::new(AclOn),
+            vip_switch: UnitMaker::new(VipSwitch),
         }
     }
 
@@ -178,6 +182,23 @@ impl MadeRows {
     {
         let input = acl_on_input(alloc, acl, tracks)?;
         let rows = self.acl_on.make(alloc, &(acl.id, switch), &input)?;
+        self.rows.append(rows)
+    }
+
+    /// The rows of a VIP on a switch come after the others.
+    pub(crate) fn add_vip(
+        &mut self,
+        alloc: Global,
+        switch: ObjId,
+        lb: &Lb,
+        vip: &Vip,
+    ) -> Result<(), OutOfMemory>
+        ensures { OnOk result (self.new ≡ self.old ++ vip_unit switch lb.now vip.now) }
+    {
+        let input = vip_input(alloc, lb, vip)?;
+        let rows = self
+            .vip_switch
+            .make(alloc, &(lb.id, vip.at, switch), &input)?;
         self.rows.append(rows)
     }
 }

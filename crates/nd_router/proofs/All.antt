@@ -21,8 +21,6 @@ use Rattle.nb_router.specs.Vocabulary.{dnats, lbs_of, nats_of, ports_of}
 use Rattle.nv_table.specs.Table.{has_number, record_of}
 use Rattle.nv_table.proofs.Found.{found_there}
 use Rattle.sb_model.specs.declared.row.Row.{Row}
-use Rattle.sb_rows.specs.Row.{put_rows}
-use Rattle.sb_rows.proofs.AllAtOnce.{put_members}
 use Rattle.net_rows.specs.Unit.{said_by, unit_of, unit_of_datapath}
 use Rattle.net_rows.specs.declared.rule.Rule.{Rule}
 use Rattle.net_rows.specs.declared.rule.Unit.{Unit}
@@ -41,9 +39,9 @@ use Rattle.lr_rows.specs.declared.inputs.PortRouteInput.{PortRouteInput}
 use Rattle.lr_rows.specs.declared.inputs.RouterNatInput.{RouterNatInput}
 use Rattle.lr_rows.specs.declared.inputs.StaticRouteInput.{StaticRouteInput}
 use Rattle.lr_rows.specs.declared.inputs.VipAddrInput.{VipAddrInput}
-use Rattle.lr_rows.specs.declared.inputs.VipRouterInput.{VipRouterInput}
+use Rattle.net_rows.specs.declared.inputs.VipInput.{VipInput}
 use Rattle.lr_units.specs.Build.{router_rows, rows_of}
-use Rattle.lr_units.specs.Units.{binding_input, binding_units, bindings_of, has_hosts, nat_rule_input, nat_rule_units, neighbour_input, neighbour_units, port_in_input, port_in_units, port_route_input, port_route_units, router_nat_input, router_nat_units, router_units, static_route_input, static_route_units, vip_addr_input, vip_addr_units, vip_router_input, vip_router_units}
+use Rattle.lr_units.specs.Units.{binding_input, binding_units, bindings_of, has_hosts, nat_rule_input, nat_rule_units, neighbour_input, neighbour_units, port_in_input, port_in_units, port_route_input, port_route_units, router_nat_input, router_nat_units, router_units, static_route_input, static_route_units, vip_addr_input, vip_addr_units, vip_router_units}
 use Rattle.lr_units.specs.Words.{across, addresses_once}
 use Rattle.lr_units.proofs.Datapaths.{row_on_router}
 use Rattle.lr_units.proofs.Sources.{EachKind, each_of_balancers, each_of_map, each_of_pieces, every_row}
@@ -54,6 +52,7 @@ use Rattle.nd_router.proofs.Among.{has_rows, in_balancers, in_map, in_pieces, of
 use Rattle.nd_router.proofs.Any.{is_that, kept_passes, same_turned}
 use Rattle.nd_router.proofs.Attached.{from_attached, to_attached}
 use Rattle.nd_router.proofs.Same.{same_equal, same_through}
+use Rattle.net_rows.specs.Build.{vip_input}
 
 -- parts that come one after the other
 pub three_parts : (old first second third a b c : List Row) → first ≡ old ++ a → second ≡ first ++ b → third ≡ second ++ c → third ≡ old ++ (a ++ (b ++ c))
@@ -169,7 +168,7 @@ module _ (net : Network) (row : Row) where
   vip_is router lb vip there attached in_lb at = by (Contains-append_cases balanced told row at)
     where
       balanced : List Row
-      balanced = said_by (unit_of router.id lb.id) (vip_router_rules (vip_router_input lb vip))
+      balanced = said_by (unit_of router.id lb.id) (vip_router_rules (vip_input lb vip))
 
       told : List Row
       told = said_by (unit_of router.id lb.id) (vip_addr_rules (vip_addr_input vip.at.addr))
@@ -177,8 +176,8 @@ module _ (net : Network) (row : Row) where
       by : Contains balanced row ⊎ Contains told row → IsOn router.id
       by (inl said) = (
         of_vip_router net row
-            (in_balancers (λ (key : ObjId × Frontend × ObjId) input. unit_of key.2 key.0) vip_router_rules net (λ (b : Lb). b.vips) (λ own b (v : Vip). ((b.id, v.at, own.id), vip_router_input b v)) router lb vip row there attached in_lb said),
-        on_unit (unit_of router.id lb.id) (vip_router_rules (vip_router_input lb vip)) row said,
+            (in_balancers (λ (key : ObjId × Frontend × ObjId) input. unit_of key.2 key.0) vip_router_rules net (λ (b : Lb). b.vips) (λ own b (v : Vip). ((b.id, v.at, own.id), vip_input b v)) router lb vip row there attached in_lb said),
+        on_unit (unit_of router.id lb.id) (vip_router_rules (vip_input lb vip)) row said,
       )
       by (inr said) = (
         of_vip_addr net row
@@ -357,18 +356,18 @@ module _ (net : Network) (sound : IsSound net) (router : Router) (there : record
   nat_made nat one on row at = in_nat row nat one on at
 
   module _ (own : Router) (lb : Lb) (attached : Contains (lbs_of net own.id) lb) where
-    vip_router_made : (vip : Vip) → Contains lb.vips vip → HasMade (unit_of own.id lb.id) (vip_router_rules (vip_router_input lb vip))
+    vip_router_made : (vip : Vip) → Contains lb.vips vip → HasMade (unit_of own.id lb.id) (vip_router_rules (vip_input lb vip))
     unfolding vip_rows
     vip_router_made vip in_lb on row at =
         in_vip row own.id lb vip on attached in_lb
-        (Contains-append_left (said_by (unit_of own.id lb.id) (vip_router_rules (vip_router_input lb vip))) (said_by (unit_of own.id lb.id) (vip_addr_rules (vip_addr_input vip.at.addr))) row at)
+        (Contains-append_left (said_by (unit_of own.id lb.id) (vip_router_rules (vip_input lb vip))) (said_by (unit_of own.id lb.id) (vip_addr_rules (vip_addr_input vip.at.addr))) row at)
 
     vip_addr_made : (addr : Ip4) → Contains (addresses_once lb.vips) addr → HasMade (unit_of own.id lb.id) (vip_addr_rules (vip_addr_input addr))
     unfolding vip_rows
     vip_addr_made addr once on row at =
         let from = once_from lb.vips addr once in
         in_vip row own.id lb from.0 on attached from.1
-        (Contains-append_right (said_by (unit_of own.id lb.id) (vip_router_rules (vip_router_input lb from.0))) (said_by (unit_of own.id lb.id) (vip_addr_rules (vip_addr_input from.0.at.addr))) row
+        (Contains-append_right (said_by (unit_of own.id lb.id) (vip_router_rules (vip_input lb from.0))) (said_by (unit_of own.id lb.id) (vip_addr_rules (vip_addr_input from.0.at.addr))) row
         (subst (λ (a : Ip4). Contains (said_by (unit_of own.id lb.id) (vip_addr_rules (vip_addr_input a))) row) (sym from.2) at))
 
   each_made : EachKind IsMade net
@@ -402,7 +401,7 @@ module _ (net : Network) (sound : IsSound net) (router : Router) (there : record
         (each_of_map (λ (u : ObjId × NatRuleInput). HasMade (unit_of u.1.dp u.0) (nat_rules u.1)) (λ (n : Nat). (n.id, nat_rule_input n)) net.nats nat_made);
     vip_router =
         of_kind (λ (key : ObjId × Frontend × ObjId) input. unit_of key.2 key.0) vip_router_rules (vip_router_units net)
-        (each_of_balancers (λ (u : (ObjId × Frontend × ObjId) × VipRouterInput). HasMade (unit_of u.0.2 u.0.0) (vip_router_rules u.1)) net (λ (b : Lb). b.vips) (λ own b (v : Vip). ((b.id, v.at, own.id), vip_router_input b v))
+        (each_of_balancers (λ (u : (ObjId × Frontend × ObjId) × VipInput). HasMade (unit_of u.0.2 u.0.0) (vip_router_rules u.1)) net (λ (b : Lb). b.vips) (λ own b (v : Vip). ((b.id, v.at, own.id), vip_input b v))
         (λ own one b attached. vip_router_made own b attached));
     vip_addr =
         of_kind (λ (key : ObjId × Ip4 × ObjId) input. unit_of key.2 key.0) vip_addr_rules (vip_addr_units net)

@@ -5,10 +5,11 @@ ghost use Rattle.nd_router.specs.inner.Made.{balancer_rows, of_number, vip_rows}
 
 use crate::unit::put_unit;
 use lr_nat::{VipAddr, VipRouter};
-use lr_rows::{VipAddrInput, VipRouterInput};
+use lr_rows::VipAddrInput;
 use nb_records::{Lb, Router, Vip};
 use nb_store::Records;
-use nv_base::{Kept, ObjId, OutOfMemory};
+use net_rows::vip_input;
+use nv_base::{ObjId, OutOfMemory};
 use sb_rows::NewRows;
 use std::alloc::Global;
 
@@ -68,11 +69,7 @@ fn put_vip(
 ) -> Result<(), OutOfMemory>
     ensures { OnOk result (rows.new ≡ rows.old ++ vip_rows router lb.now vip.now) }
 {
-    let input = VipRouterInput {
-        at: vip.at,
-        proto: lb.proto,
-        backends: vip.backends.copy(alloc)?,
-    };
+    let input = vip_input(alloc, lb, vip)?;
     put_unit(alloc, rows, &VipRouter, &(lb.id, vip.at, router), &input)?;
     let addr = vip.at.addr;
     let input = VipAddrInput { addr };

@@ -1,5 +1,6 @@
 pub mod AclVerdict
 pub mod Address
+pub mod Balancing
 pub mod Cause
 pub mod Guards
 pub mod Places

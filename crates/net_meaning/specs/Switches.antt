@@ -1,5 +1,5 @@
 -- What a switch does with a packet (ovn-architecture(7), ovn-nb(5)). It knows the network's objects alone, and the connections that packets
--- left. No load balancer is attached.
+-- left.
 use Rattle.std.specs.Prelude.{ℕ, Bool, not, ◌&&◌, ◌==◌, if◌then◌else◌, List, [], ◌∷◌, ◌++◌, map, filter, Option, Some, None, option_map}
 use Rattle.std.specs.List.{find, list_any, flat_map}
 use Rattle.nv_base.specs.declared.ip4.Ip4.{Ip4}
@@ -144,14 +144,14 @@ pub record Did : Type 0 where
   pub passed : Passed
   pub state : State
 
--- what follows what ACLs do with it
-abbrev pub after_acls : Ruled → Values → Passed → Did
-after_acls ruling packet onward = record { passed = decided ruling.what packet onward; state = ruling.state }
+-- what follows what ACLs and load balancers do with it
+abbrev pub after_acls : Ruled → (Values → Passed) → Did
+after_acls ruling onward = record { passed = decided ruling.what ruling.packet (onward ruling.packet); state = ruling.state }
 
 -- what a switch does with a packet that arrives at one of its ports
 abbrev pub arriving_at : Network → Port → Values → State → Did
 arriving_at net port packet state =
-    if is_let_in port packet then after_acls (ruled net From port packet state) packet (asked net port packet) else record { passed = Drops PortSec; state = state }
+    if is_let_in port packet then after_acls (ruled net From port packet state) (asked net port) else record { passed = Drops PortSec; state = state }
 
 -- ---- leaving
 
@@ -161,7 +161,7 @@ let_out port packet = if is_let_out port packet then GoesOn (OnePort port.id) pa
 
 -- what a switch does with a packet that leaves by one of its ports
 abbrev pub leaving_by : Network → Port → Values → State → Did
-leaving_by net port packet state = after_acls (ruled net To port packet state) packet (let_out port packet)
+leaving_by net port packet state = after_acls (ruled net To port packet state) (let_out port)
 
 -- and with one that leaves late: the last step alone
 abbrev pub leaving_late : Port → Values → State → Did

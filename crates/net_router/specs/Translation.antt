@@ -1,15 +1,14 @@
 -- How a router changes the addresses of packets (ovn-nb(5), 'NAT TABLE' and 'Load_Balancer TABLE'; ovn-northd(8), 'Ingress Table: UNSNAT',
 -- 'DEFRAG', 'DNAT' and 'Egress Table: UNDNAT', 'SNAT'). Which connection's rules hold is told by two zones of the router.
-use Rattle.std.specs.Prelude.{ℕ, ◌==◌, nat_lt, Bool, true, false, not, ◌&&◌, if◌then◌else◌, List, fold, filter, length, Option, Some, None, option_map, slice_get, option_and_then}
-use Rattle.std.specs.List.{find, filter_map, list_any}
+use Rattle.std.specs.Prelude.{ℕ, ◌==◌, nat_lt, Bool, not, ◌&&◌, if◌then◌else◌, List, fold, filter, Option, Some, None, option_map}
+use Rattle.std.specs.List.{find, list_any}
 use Rattle.nv_base.specs.declared.ip4.Ip4.{Ip4}
 use Rattle.nv_base.specs.declared.object.ObjId.{ObjId}
 use Rattle.nv_base.specs.declared.field.Field.TheVariants.{Ip4Src, Ip4Dst}
-use Rattle.nv_base.specs.declared.field.Prerequisite.TheVariants as needs
 use Rattle.pkt_core.specs.declared.tuple.Tuple.{Tuple}
 use Rattle.pkt_core.specs.Packet.{Values, value}
-use Rattle.pkt_core.specs.Prerequisite.{is_ip4, meets}
-use Rattle.pkt_core.specs.Tuple.{dport_of, tuple, with_tuple}
+use Rattle.pkt_core.specs.Prerequisite.{is_ip4}
+use Rattle.pkt_core.specs.Tuple.{tuple, with_tuple}
 use Rattle.ct_core.specs.declared.entry.Entry.{Entry}
 use Rattle.ct_core.specs.declared.look.Look.{Look}
 use Rattle.ct_core.specs.declared.look.Look.TheVariants.{New}
@@ -18,12 +17,7 @@ use Rattle.ct_core.specs.declared.zone.Zone.TheVariants.{Dnat, Snat}
 use Rattle.ct_core.specs.Changes.{recorded}
 use Rattle.ct_core.specs.Look.{look}
 use Rattle.ct_core.specs.State.{State, with_conns}
-use Rattle.ct_core.specs.Translation.{back, balance, begun_as, forth, is_reply, snat_port, with_destination, with_source}
-use Rattle.nb_records.specs.declared.balancer.Backend.{Backend}
-use Rattle.nb_records.specs.declared.balancer.Lb.{Lb}
-use Rattle.nb_records.specs.declared.balancer.Proto.{Proto}
-use Rattle.nb_records.specs.declared.balancer.Proto.TheVariants as proto
-use Rattle.nb_records.specs.declared.balancer.Vip.{Vip}
+use Rattle.ct_core.specs.Translation.{back, begun_as, forth, is_reply, snat_port, with_destination, with_source}
 use Rattle.nb_records.specs.declared.router.Nat.{Nat}
 use Rattle.nb_records.specs.declared.router.NatKind.{NatKind}
 use Rattle.nb_records.specs.declared.router.NatKind.TheVariants as kind
@@ -31,6 +25,7 @@ use Rattle.nb_model.specs.Belongs.{either, is_snat, same_nat_kind}
 use Rattle.nb_model.specs.Network.{Network}
 use Rattle.nb_router.specs.Vocabulary.{dnats, lbs_of, nats_of}
 use Rattle.net_router.specs.Input.{is_in_network}
+use Rattle.net_meaning.specs.Balancing.{balanced_tuple}
 use Rattle.net_meaning.specs.declared.cause.Cause.{Cause}
 use Rattle.net_meaning.specs.declared.cause.Cause.TheVariants.{CtFull, NoPort}
 
@@ -51,38 +46,6 @@ bound zone t packet state = where_room (recorded (begun_as zone t packet) state.
 
 -- ---- destinations: load balancers, and rules
 
--- a packet of the protocol
-abbrev pub is_of : Proto → Values → Bool
-is_of proto.Tcp packet = meets packet needs.Tcp
-is_of proto.Udp packet = meets packet needs.Udp
-
--- a packet is to the address of a VIP; and to its port, where it has one, by the protocol of its load balancer
-abbrev pub is_to : Values → Vip → Bool
-is_to packet vip = vip.at.addr.0 == value packet Ip4Dst
-
-abbrev pub is_to_port : Proto → Values → Option ℕ → Bool
-is_to_port proto packet None = false
-is_to_port proto packet (Some port) = is_of proto packet && (port == dport_of packet)
-
-abbrev pub is_for_all : Option ℕ → Bool
-is_for_all None = true
-is_for_all (Some port) = false
-
--- the VIP of a load balancer that is for the packet's port, and the one that is for all
-abbrev pub vip_of_port : Values → Lb → Option Vip
-vip_of_port packet lb = find (λ vip. is_to packet vip && is_to_port lb.proto packet vip.at.port) lb.vips
-
-abbrev pub vip_for_all : Values → Lb → Option Vip
-vip_for_all packet lb = find (λ vip. is_to packet vip && is_for_all vip.at.port) lb.vips
-
--- the VIP that a packet is for: one of its port comes before one that is for all, then the load balancer of the lowest number
-abbrev pub vip : List Lb → Values → Option Vip
-vip lbs packet = either (slice_get (filter_map (vip_of_port packet) lbs) 0) (slice_get (filter_map (vip_for_all packet) lbs) 0)
-
--- the backend to which a packet goes
-abbrev pub backend_for : Values → Vip → Option Backend
-backend_for packet vip = slice_get vip.backends (balance (tuple packet) (length vip.backends))
-
 -- the rule that changes the destination of a packet
 abbrev pub destination_rule : Network → ObjId → Values → Option Nat
 destination_rule net router packet = find (λ nat. not (is_snat nat.kind) && (nat.external.0 == value packet Ip4Dst)) (nats_of net router)
@@ -90,7 +53,7 @@ destination_rule net router packet = find (λ nat. not (is_snat nat.kind) && (na
 -- the tuple that a packet gets which begins a connection: to a backend, else to the logical address of a rule
 abbrev pub new_tuple : Network → ObjId → Values → Option Tuple
 new_tuple net router packet =
-    either (option_map (λ backend. with_destination backend.addr backend.port (tuple packet)) (option_and_then (backend_for packet) (vip (lbs_of net router) packet)))
+    either (balanced_tuple (lbs_of net router) packet)
     (option_map (λ nat. with_destination nat.logical.base None (tuple packet)) (destination_rule net router packet))
 
 abbrev pub bound_if : Zone → Option Tuple → Values → State → Changed

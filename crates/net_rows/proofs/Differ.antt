@@ -116,7 +116,7 @@ pub hints_differ : (x y : Row) → x.hint.0 ≢ y.hint.0 → Differ x y
 hints_differ x y other equal = other (agree x y equal).hint
 
 -- and those of rules that differ
-rules_differ : (unit : Unit) (r s : Rule) → RulesDiffer r s → Differ (row_of unit r) (row_of unit s)
+pub rules_differ : (unit : Unit) (r s : Rule) → RulesDiffer r s → Differ (row_of unit r) (row_of unit s)
 rules_differ unit r s other equal =
     let x = row_of unit r in
     let y = row_of unit s in

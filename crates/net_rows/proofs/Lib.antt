@@ -12,5 +12,7 @@ pub mod PortMatches
 pub mod PortParts
 pub mod Sound
 pub mod SoundObjects
+pub mod SoundVips
 pub mod Typed
 pub mod Units
+pub mod VipRules

@@ -7,7 +7,7 @@ use Rattle.std.specs.Cmp.Lexicographic.{pointwise}
 use Rattle.std.proofs.lemmas.Bool.{and_from, false≢true, le-leb, lt-ltb, or_left}
 use Rattle.nv_base.specs.Name.{is_object_name, is_quotable}
 use Rattle.nv_base.specs.declared.field.Field.{Field}
-use Rattle.nv_base.specs.declared.field.Field.TheVariants.{Inport, Outport, EthSrc, EthDst, EthType, Ip4Src, Ip4Dst, ArpOp, ArpSpa, ArpSha, ArpTpa, UdpSrc, UdpDst}
+use Rattle.nv_base.specs.declared.field.Field.TheVariants.{Inport, Outport, EthSrc, EthDst, EthType, Ip4Src, Ip4Dst, ArpOp, ArpSpa, ArpSha, ArpTpa, TcpDst, UdpSrc, UdpDst}
 use Rattle.expr_core.specs.Formula.{Formula, formulas, formulas_map}
 use Rattle.expr_core.specs.Formula.Formula.{Leaf}
 use Rattle.expr_core.specs.Named.{named, named_atom}
@@ -18,13 +18,15 @@ use Rattle.expr_core.specs.WellTyped.{AreTyped, IsTyped, is_typed_atom}
 use Rattle.expr_core.specs.declared.comparison.Item.{Item}
 use Rattle.expr_core.specs.declared.comparison.Item.TheVariants.{One, Masked, Text, AddrSet, Group}
 use Rattle.expr_core.specs.declared.part.Bits.TheVariants.{Whole}
+use Rattle.expr_core.specs.declared.predicate.Pred.TheVariants as pred
 use Rattle.expr_core.specs.declared.role.Role.TheVariants as role
 use Rattle.expr_core.specs.declared.typed.TypedAtom.{TypedAtom}
+use Rattle.expr_core.specs.declared.typed.TypedAtom.TheVariants.{Holds}
 use Rattle.expr_parse.specs.Grammar.{level_limit}
 use Rattle.expr_parse.specs.Written.{AreItems, IsItem, IsLeaf}
 use Rattle.expr_check.specs.Printed.{IsPrintable}
 use Rattle.sb_model.specs.Make as make
-use Rattle.sb_model.specs.Make.{all_of, as_ip4, as_mac, differs, equals, in_decimal, in_hexadecimal, is_none_of, is_one_of, one_of}
+use Rattle.sb_model.specs.Make.{all_of, as_ip4, as_mac, differs, equals, in_decimal, in_hexadecimal, is_none_of, is_one_of, is_predicate, one_of}
 
 -- an operand of a match of a row: it is well-typed there, it can be spelled, and its text opens few levels
 pub record IsOperand (t : Formula TypedAtom) : Type 0 where
@@ -104,6 +106,10 @@ tells_mac mac low = leaf _ (mac_fits mac low) ((refl, tt), low)
 pub asks_for : (ip : ℕ) → ip < 2 ^ 32 → IsOperand (equals ArpTpa (as_ip4 ip))
 asks_for ip low = leaf _ (and_from (nat_lt ip (2 ^ 32)) true (lt-ltb ip (2 ^ 32) low) refl) ((refl, tt), low)
 
+-- a packet is to this address
+pub to_address : (ip : ℕ) → ip < 2 ^ 32 → IsOperand (equals Ip4Dst (as_ip4 ip))
+to_address ip low = leaf _ (and_from (nat_lt ip (2 ^ 32)) true (lt-ltb ip (2 ^ 32) low) refl) ((refl, tt), low)
+
 -- an ARP request
 pub is_request : IsOperand (equals ArpOp (in_decimal 1))
 is_request = leaf _ refl ((refl, tt), lit< tt)
@@ -178,6 +184,24 @@ is_from_client = leaf _ refl ((refl, tt), lit< tt)
 
 pub is_to_server : IsOperand (equals UdpDst (in_decimal 67))
 is_to_server = leaf _ refl ((refl, tt), lit< tt)
+
+-- a packet is to this port
+port_fits : (port : ℕ) → port < 2 ^ 16 → (nat_lt port (2 ^ 16) && true) ≡ true
+port_fits port low = and_from (nat_lt port (2 ^ 16)) true (lt-ltb port (2 ^ 16) low) refl
+
+-- a number of 16 bits can be spelled
+port_spelled : (port : ℕ) → port < 2 ^ 16 → port < 2 ^ 128
+port_spelled port low = omega arith
+
+pub to_tcp : (port : ℕ) → port < 2 ^ 16 → IsOperand (equals TcpDst (in_decimal port))
+to_tcp port low = leaf _ (port_fits port low) ((refl, tt), port_spelled port low)
+
+pub to_udp : (port : ℕ) → port < 2 ^ 16 → IsOperand (equals UdpDst (in_decimal port))
+to_udp port low = leaf _ (port_fits port low) ((refl, tt), port_spelled port low)
+
+-- a packet is of a new connection
+pub is_new : IsOperand (is_predicate pred.CtNew)
+is_new = leaf (Holds pred.CtNew) refl (refl, tt)
 
 -- packets of other kinds
 pub is_no_arp : IsOperand (differs EthType (in_hexadecimal 0x806))

@@ -11,6 +11,7 @@ use Rattle.nv_base.specs.Name.{is_object_name}
 use Rattle.nv_base.specs.declared.ip4.Ip4.{Ip4}
 use Rattle.nv_base.specs.declared.object.ObjId.{ObjId}
 use Rattle.nb_records.specs.declared.acl.Acl.{Acl}
+use Rattle.nb_records.specs.declared.balancer.Lb.{Lb}
 use Rattle.nb_records.specs.declared.router.RouterPort.{RouterPort}
 use Rattle.nb_records.specs.declared.switch.Guard.{Guard}
 use Rattle.nb_records.specs.declared.switch.Port.{Port}
@@ -160,25 +161,68 @@ module _ (net : Network) (sound : IsSound net) where
   pub acls_from_one : AllByRecursion (λ (a : Acl). 0 < a.id.0) net.acls
   acls_from_one = from_one (λ (a : Acl). a.id) net.next net.acls (are_used net sound.numbered.below).acls
 
+  pub lbs_in_pairs : OfPairs (λ (a b : Lb). a.id.0 < b.id.0) net.lbs
+  lbs_in_pairs = rising_pairs (λ (b : Lb). b.id) net.lbs (rises (λ (b : Lb). b.id) net.lbs sound.numbered.order.lbs)
+
+  pub lbs_from_one : AllByRecursion (λ (b : Lb). 0 < b.id.0) net.lbs
+  lbs_from_one = from_one (λ (b : Lb). b.id) net.next net.lbs (are_used net sound.numbered.below).lbs
+
+  -- the numbers from a kind on
+  abbrev from_acls : List ObjId
+  from_acls = acl_ids net ++ (set_ids net ++ (group_ids net ++ binding_ids net))
+
+  abbrev from_lbs : List ObjId
+  from_lbs = lb_ids net ++ from_acls
+
+  abbrev from_nats : List ObjId
+  from_nats = nat_ids net ++ from_lbs
+
+  abbrev from_routes : List ObjId
+  from_routes = route_ids net ++ from_nats
+
+  abbrev from_router_ports : List ObjId
+  from_router_ports = router_port_ids net ++ from_routes
+
+  abbrev from_routers : List ObjId
+  from_routers = router_ids net ++ from_router_ports
+
+  -- those of load balancers and of what comes after them are among those of routers and of what comes after these
+  later_numbers : (number : ObjId) → Contains from_lbs number → Contains from_routers number
+  later_numbers number there =
+      Contains-append_right (router_ids net) from_router_ports number
+      (Contains-append_right (router_port_ids net) from_routes number (Contains-append_right (route_ids net) from_nats number (Contains-append_right (nat_ids net) from_lbs number there)))
+
+  -- no number of a port is one of these
+  port_is_none : (port : Port) → Contains net.ports port → (number : ObjId) → Contains from_lbs number → port.id.0 ≢ number.0
+  port_is_none port in_ports number there =
+      apart_of_parts (port_ids net) from_routers (apart_later (switch_ids net) (port_ids net ++ from_routers) sound.numbered.apart) port.id number
+      (Contains-map (λ (p : Port). p.id) net.ports port in_ports) (later_numbers number there)
+
+  acl_number : (acl : Acl) → Contains net.acls acl → Contains from_acls acl.id
+  acl_number acl there = Contains-append_left (acl_ids net) (set_ids net ++ (group_ids net ++ binding_ids net)) acl.id (Contains-map (λ (a : Acl). a.id) net.acls acl there)
+
+  lb_number : (lb : Lb) → Contains net.lbs lb → Contains (lb_ids net) lb.id
+  lb_number lb there = Contains-map (λ (b : Lb). b.id) net.lbs lb there
+
   -- no port has the number of an ACL
   pub port_is_no_acl : (port : Port) (acl : Acl) → Contains net.ports port → Contains net.acls acl → port.id.0 ≢ acl.id.0
-  port_is_no_acl port acl in_ports in_acls =
-      let among_ports = Contains-map (λ (p : Port). p.id) net.ports port in_ports in
-      let among_acls = Contains-map (λ (a : Acl). a.id) net.acls acl in_acls in
-      let after_acls = set_ids net ++ (group_ids net ++ binding_ids net) in
-      let from_acls = acl_ids net ++ after_acls in
-      let from_lbs = lb_ids net ++ from_acls in
-      let from_nats = nat_ids net ++ from_lbs in
-      let from_routes = route_ids net ++ from_nats in
-      let from_router_ports = router_port_ids net ++ from_routes in
-      let from_routers = router_ids net ++ from_router_ports in
-      let there = Contains-append_right (router_ids net) from_router_ports acl.id
-      (Contains-append_right (router_port_ids net) from_routes acl.id
-      (Contains-append_right (route_ids net) from_nats acl.id
-      (Contains-append_right (nat_ids net) from_lbs acl.id
-      (Contains-append_right (lb_ids net) from_acls acl.id
-      (Contains-append_left (acl_ids net) after_acls acl.id among_acls))))) in
-      apart_of_parts (port_ids net) from_routers (apart_later (switch_ids net) (port_ids net ++ from_routers) sound.numbered.apart) port.id acl.id among_ports there
+  port_is_no_acl port acl in_ports in_acls = port_is_none port in_ports acl.id (Contains-append_right (lb_ids net) from_acls acl.id (acl_number acl in_acls))
+
+  -- or that of a load balancer
+  pub port_is_no_lb : (port : Port) (lb : Lb) → Contains net.ports port → Contains net.lbs lb → port.id.0 ≢ lb.id.0
+  port_is_no_lb port lb in_ports in_lbs = port_is_none port in_ports lb.id (Contains-append_left (lb_ids net) from_acls lb.id (lb_number lb in_lbs))
+
+  -- and no ACL has that
+  pub acl_is_no_lb : (acl : Acl) (lb : Lb) → Contains net.acls acl → Contains net.lbs lb → acl.id.0 ≢ lb.id.0
+  acl_is_no_lb acl lb in_acls in_lbs e =
+      apart_of_parts (lb_ids net) from_acls from_here lb.id acl.id (lb_number lb in_lbs) (acl_number acl in_acls) (sym e)
+    where
+      from_here : IsTrue (are_apart same from_lbs)
+      from_here =
+          apart_later (nat_ids net) from_lbs
+          (apart_later (route_ids net) from_nats
+          (apart_later (router_port_ids net) from_routes
+          (apart_later (router_ids net) from_router_ports (apart_later (port_ids net) from_routers (apart_later (switch_ids net) (port_ids net ++ from_routers) sound.numbered.apart)))))
 
   -- each port
   pub port_is_sound : (port : Port) → Contains net.ports port → IsSoundPort port

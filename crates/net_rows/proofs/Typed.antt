@@ -25,8 +25,8 @@ use Rattle.sb_model.specs.declared.row.Row.{Row}
 use Rattle.sb_model.specs.declared.stage.Stage.{Stage}
 use Rattle.sb_rows.specs.Row.{HasTypedMatch}
 use Rattle.net_rows.specs.Acls.{acl_on_rules, acl_rules_at, is_reply, is_shut_out, refusing_rules, stage_of, switch_acl_rules, tracked_rules, tracking_rules, untracking_rules}
-use Rattle.net_rows.specs.Build.{acl_on_input, all_rows, port_rules, switch_acl_input, switch_l2_input, switch_rules}
-use Rattle.net_rows.specs.LoadBalancers.{switch_lb_rules}
+use Rattle.net_rows.specs.Build.{acl_on_input, all_rows, port_rules, switch_acl_input, switch_l2_input, switch_rules, vip_input}
+use Rattle.net_rows.specs.LoadBalancers.{switch_lb_rules, vip_switch_rules}
 use Rattle.net_rows.specs.Lookup.{switch_l2_rules, unknown_rules}
 use Rattle.net_rows.specs.PortSecurity.{switch_sec_rules}
 use Rattle.net_rows.specs.Unit.{row_of}
@@ -40,7 +40,9 @@ use Rattle.net_rows.proofs.Differ.{HasPrintable}
 use Rattle.net_rows.proofs.Elements.{every_append, All-from_members}
 use Rattle.net_rows.proofs.Pairs.{every_member, every_weaker}
 use Rattle.net_rows.proofs.SoundObjects.{acl_of_sound}
-use Rattle.net_rows.proofs.Units.{IsRow, IsSwitchRow, IsPortRow, IsAclRow, all_rows-gives}
+use Rattle.net_rows.proofs.SoundVips.{IsSoundVip, balancer_on, vips_are_sound}
+use Rattle.net_rows.proofs.Units.{IsRow, IsSwitchRow, IsPortRow, IsAclRow, IsLbRow, all_rows-gives}
+use Rattle.net_rows.proofs.VipRules.{vip_switch_printable}
 
 -- ---- a row may ask for anything
 
@@ -148,10 +150,17 @@ module _ (net : Network) (sound : IsSound net) (row : Row) where
       let typed = in_row (role_of of.acl.way) of.acl.matching (acl_of_sound net sound of.acl of.among).typed in
       row_typed _ (acl_on_rules (acl_on_input net of.acl of.switch.id)) of.says row (acl_typed (acl_on_input net of.acl of.switch.id) typed) of.in_rules of.is
 
+  lb_row : IsLbRow net row → HasTypedMatch row
+  lb_row of =
+      let input = vip_input of.lb of.vip in
+      let is = every_member IsSoundVip of.lb.vips of.vip (vips_are_sound net sound of.lb (balancer_on net of.switch.id of.lb of.attached)) of.in_lb in
+      row_typed _ (vip_switch_rules input) of.says row (every_weaker HasPrintable IsTypedRule (vip_switch_rules input) (λ r can. can.typed) (vip_switch_printable input is.low is.service)) of.in_rules of.is
+
   one_row : IsRow net row → HasTypedMatch row
   one_row (inl of) = switch_row of
   one_row (inr (inl of)) = port_row of
-  one_row (inr (inr of)) = acl_row of
+  one_row (inr (inr (inl of))) = acl_row of
+  one_row (inr (inr (inr of))) = lb_row of
 
 pub all_rows_typed : (net : Network) → IsSound net → All HasTypedMatch (all_rows net)
 all_rows_typed net sound = All-from_members HasTypedMatch (all_rows net) (λ row there. one_row net sound row (all_rows-gives net row there))

@@ -8,12 +8,15 @@ use Rattle.sb_rows.specs.Row.{IsInRowOrder}
 use Rattle.sb_rows.proofs.AllAtOnce.{put_rows_ordered}
 use Rattle.sb_rows.proofs.Select.{Contains-from_put_rows, Contains-put_rows_new}
 use Rattle.nb_records.specs.declared.acl.Acl.{Acl}
+use Rattle.nb_records.specs.declared.balancer.Lb.{Lb}
+use Rattle.nb_records.specs.declared.balancer.Vip.{Vip}
 use Rattle.nb_records.specs.declared.switch.Port.{Port}
 use Rattle.nb_records.specs.declared.switch.Switch.{Switch}
-use Rattle.nb_model.specs.Applies.{switches_of_acl}
+use Rattle.nb_model.specs.Applies.{lbs_on, switches_of_acl}
 use Rattle.nb_model.specs.Network.{Network}
 use Rattle.net_rows.specs.Acls.{acl_on_rules}
-use Rattle.net_rows.specs.Build.{acl_on_input, switch_rules, port_rules, switch_rows, port_rows, acl_on_rows, acl_rows, all_rows, rows}
+use Rattle.net_rows.specs.Build.{acl_on_input, switch_rules, port_rules, switch_rows, port_rows, acl_on_rows, acl_rows, lb_on_rows, lb_rows, all_rows, rows, vip_input, vip_on_rows}
+use Rattle.net_rows.specs.LoadBalancers.{vip_switch_rules}
 use Rattle.net_rows.specs.Unit.{unit_of, unit_of_datapath, row_of}
 use Rattle.net_rows.specs.declared.rule.Rule.{Rule}
 use Rattle.net_rows.proofs.Elements.{one_of_none, Contains-from_map, Contains-map, Contains-from_flat_map, Contains-flat_map}
@@ -46,9 +49,21 @@ pub record IsAclRow (net : Network) (row : Row) : Type 0 where
   pub in_rules : Contains (acl_on_rules (acl_on_input net acl switch.id)) says
   pub is : row_of (unit_of switch.id acl.id) says ≡ row
 
+-- a rule of a VIP of a load balancer on a switch to which it is attached
+pub record IsLbRow (net : Network) (row : Row) : Type 0 where
+  pub switch : Switch
+  pub among : Contains net.switches switch
+  pub lb : Lb
+  pub attached : Contains (lbs_on net switch.id) lb
+  pub vip : Vip
+  pub in_lb : Contains lb.vips vip
+  pub says : Rule
+  pub in_rules : Contains (vip_switch_rules (vip_input lb vip)) says
+  pub is : row_of (unit_of switch.id lb.id) says ≡ row
+
 -- one of these
 abbrev pub IsRow : Network → Row → Type 0
-IsRow net row = IsSwitchRow net row ⊎ (IsPortRow net row ⊎ IsAclRow net row)
+IsRow net row = IsSwitchRow net row ⊎ (IsPortRow net row ⊎ (IsAclRow net row ⊎ IsLbRow net row))
 
 module _ (net : Network) (row : Row) where
   switch_row : Contains (flat_map (switch_rows net) net.switches) row → IsSwitchRow net row
@@ -73,6 +88,15 @@ module _ (net : Network) (row : Row) where
       let said = Contains-from_map (row_of (unit_of on.0.id at.0.id)) (acl_on_rules (acl_on_input net at.0 on.0.id)) row on.2 in
       record { acl = at.0; among = at.1; switch = on.0; applied = on.1; says = said.0; in_rules = said.1; is = said.2 }
 
+  lb_row : Contains (flat_map (lb_rows net) net.switches) row → IsLbRow net row
+  unfolding vip_on_rows
+  lb_row there =
+      let at = Contains-from_flat_map (lb_rows net) net.switches row there in
+      let of = Contains-from_flat_map (lb_on_rows at.0) (lbs_on net at.0.id) row at.2 in
+      let on = Contains-from_flat_map (vip_on_rows at.0 of.0) of.0.vips row of.2 in
+      let said = Contains-from_map (row_of (unit_of at.0.id of.0.id)) (vip_switch_rules (vip_input of.0 on.0)) row on.2 in
+      record { switch = at.0; among = at.1; lb = of.0; attached = of.1; vip = on.0; in_lb = on.1; says = said.0; in_rules = said.1; is = said.2 }
+
   abbrev of_switches : List Row
   of_switches = flat_map (switch_rows net) net.switches
 
@@ -81,6 +105,9 @@ module _ (net : Network) (row : Row) where
 
   abbrev of_acls : List Row
   of_acls = flat_map (acl_rows net) net.acls
+
+  abbrev of_lbs : List Row
+  of_lbs = flat_map (lb_rows net) net.switches
 
   -- the rows of the units and no others
   pub rows-members : Contains (rows net) row ↔ Contains (all_rows net) row
@@ -91,17 +118,21 @@ module _ (net : Network) (row : Row) where
       by (inl none) = absurd (one_of_none row none)
       by (inr at) = at
 
-  -- each row comes from a switch, a port or an ACL
+  -- each row comes from a switch, a port, an ACL or a load balancer
   pub all_rows-gives : Contains (all_rows net) row → IsRow net row
-  all_rows-gives there = by (Contains-append_cases of_switches (of_ports ++ of_acls) row there)
+  all_rows-gives there = by (Contains-append_cases of_switches (of_ports ++ (of_acls ++ of_lbs)) row there)
     where
-      later : Contains of_ports row ⊎ Contains of_acls row → IsRow net row
-      later (inl at) = inr (inl (port_row at))
-      later (inr at) = inr (inr (acl_row at))
+      last : Contains of_acls row ⊎ Contains of_lbs row → IsRow net row
+      last (inl at) = inr (inr (inl (acl_row at)))
+      last (inr at) = inr (inr (inr (lb_row at)))
 
-      by : Contains of_switches row ⊎ Contains (of_ports ++ of_acls) row → IsRow net row
+      later : Contains of_ports row ⊎ Contains (of_acls ++ of_lbs) row → IsRow net row
+      later (inl at) = inr (inl (port_row at))
+      later (inr at) = last (Contains-append_cases of_acls of_lbs row at)
+
+      by : Contains of_switches row ⊎ Contains (of_ports ++ (of_acls ++ of_lbs)) row → IsRow net row
       by (inl at) = inl (switch_row at)
-      by (inr at) = later (Contains-append_cases of_ports of_acls row at)
+      by (inr at) = later (Contains-append_cases of_ports (of_acls ++ of_lbs) row at)
 
   pub rows-gives : Contains (rows net) row → IsRow net row
   rows-gives there = all_rows-gives (rows-members.0 there)
@@ -112,22 +143,31 @@ unfolding rows
 rows-in_order net = put_rows_ordered (all_rows net) [] (λ k d le lt. absurd (omega arith))
 
 module _ (net : Network) where
+  -- the rows of one part are among those of all
+  switches_there : (row : Row) → Contains (of_switches net row) row → Contains (rows net) row
+  switches_there row at = (rows-members net row).1 (Contains-append_left (of_switches net row) (of_ports net row ++ (of_acls net row ++ of_lbs net row)) row at)
+
+  later_there : (row : Row) → Contains (of_ports net row ++ (of_acls net row ++ of_lbs net row)) row → Contains (rows net) row
+  later_there row at = (rows-members net row).1 (Contains-append_right (of_switches net row) (of_ports net row ++ (of_acls net row ++ of_lbs net row)) row at)
+
+  last_there : (row : Row) → Contains (of_acls net row ++ of_lbs net row) row → Contains (rows net) row
+  last_there row at = later_there row (Contains-append_right (of_ports net row) (of_acls net row ++ of_lbs net row) row at)
+
   -- each rule of each switch is there
   pub rows-switch : (switch : Switch) (says : Rule) → Contains net.switches switch → Contains (switch_rules net switch.id) says → Contains (rows net) (row_of (unit_of_datapath switch.id) says)
   unfolding switch_rows
   rows-switch switch says there in_it =
       let row = row_of (unit_of_datapath switch.id) says in
-      (rows-members net row).1 (Contains-append_left (of_switches net row) (of_ports net row ++ of_acls net row) row
-      (Contains-flat_map (switch_rows net) net.switches switch row there (Contains-map (row_of (unit_of_datapath switch.id)) (switch_rules net switch.id) says in_it)))
+      switches_there row (Contains-flat_map (switch_rows net) net.switches switch row there (Contains-map (row_of (unit_of_datapath switch.id)) (switch_rules net switch.id) says in_it))
 
   -- and of each port
   pub rows-port : (port : Port) (says : Rule) → Contains net.ports port → Contains (port_rules net port) says → Contains (rows net) (row_of (unit_of port.switch port.id) says)
   unfolding port_rows
   rows-port port says there in_it =
       let row = row_of (unit_of port.switch port.id) says in
-      (rows-members net row).1 (Contains-append_right (of_switches net row) (of_ports net row ++ of_acls net row) row
-      (Contains-append_left (of_ports net row) (of_acls net row) row
-      (Contains-flat_map (port_rows net) net.ports port row there (Contains-map (row_of (unit_of port.switch port.id)) (port_rules net port) says in_it))))
+      later_there row
+      (Contains-append_left (of_ports net row) (of_acls net row ++ of_lbs net row) row
+      (Contains-flat_map (port_rows net) net.ports port row there (Contains-map (row_of (unit_of port.switch port.id)) (port_rules net port) says in_it)))
 
   -- and of each ACL on each switch to which it applies
   pub rows-acl : (acl : Acl) (switch : Switch) (says : Rule) → Contains net.acls acl → Contains (switches_of_acl net acl) switch → Contains (acl_on_rules (acl_on_input net acl switch.id)) says
@@ -135,7 +175,19 @@ module _ (net : Network) where
   unfolding acl_on_rows
   rows-acl acl switch says there applied in_it =
       let row = row_of (unit_of switch.id acl.id) says in
-      (rows-members net row).1 (Contains-append_right (of_switches net row) (of_ports net row ++ of_acls net row) row
-      (Contains-append_right (of_ports net row) (of_acls net row) row
+      last_there row
+      (Contains-append_left (of_acls net row) (of_lbs net row) row
       (Contains-flat_map (acl_rows net) net.acls acl row there
-      (Contains-flat_map (acl_on_rows net acl) (switches_of_acl net acl) switch row applied (Contains-map (row_of (unit_of switch.id acl.id)) (acl_on_rules (acl_on_input net acl switch.id)) says in_it)))))
+      (Contains-flat_map (acl_on_rows net acl) (switches_of_acl net acl) switch row applied (Contains-map (row_of (unit_of switch.id acl.id)) (acl_on_rules (acl_on_input net acl switch.id)) says in_it))))
+
+  -- and of each VIP of each load balancer on each switch to which it is attached
+  pub rows-lb : (switch : Switch) (lb : Lb) (vip : Vip) (says : Rule) → Contains net.switches switch → Contains (lbs_on net switch.id) lb → Contains lb.vips vip → Contains (vip_switch_rules (vip_input lb vip)) says
+      → Contains (rows net) (row_of (unit_of switch.id lb.id) says)
+  unfolding vip_on_rows
+  rows-lb switch lb vip says there attached in_lb in_it =
+      let row = row_of (unit_of switch.id lb.id) says in
+      last_there row
+      (Contains-append_right (of_acls net row) (of_lbs net row) row
+      (Contains-flat_map (lb_rows net) net.switches switch row there
+      (Contains-flat_map (lb_on_rows switch) (lbs_on net switch.id) lb row attached
+      (Contains-flat_map (vip_on_rows switch lb) lb.vips vip row in_lb (Contains-map (row_of (unit_of switch.id lb.id)) (vip_switch_rules (vip_input lb vip)) says in_it)))))

@@ -3,6 +3,8 @@ use Rattle.std.specs.Prelude.{ℕ, Bool, ◌&&◌, if◌then◌else◌, List, []
 use Rattle.std.specs.List.{flat_map, list_any}
 use Rattle.nv_base.specs.declared.object.ObjId.{ObjId}
 use Rattle.nb_records.specs.declared.acl.Acl.{Acl}
+use Rattle.nb_records.specs.declared.balancer.Lb.{Lb}
+use Rattle.nb_records.specs.declared.balancer.Vip.{Vip}
 use Rattle.nb_records.specs.declared.switch.Port.{Port}
 use Rattle.nb_records.specs.declared.switch.Switch.{Switch}
 use Rattle.nb_model.specs.Applies.{switches_of_acl}
@@ -10,10 +12,10 @@ use Rattle.nb_model.specs.Belongs.{is_to_router, peer_router_port}
 use Rattle.nb_model.specs.Network.{Network}
 use Rattle.sb_model.specs.declared.row.Row.{Row}
 use Rattle.sb_rows.specs.Row.{put_rows}
-use Rattle.nb_model.specs.Applies.{tracks, balances}
+use Rattle.nb_model.specs.Applies.{tracks, balances, lbs_on}
 use Rattle.nb_model.specs.Ports.{is_open, takes_unknown}
 use Rattle.net_rows.specs.Acls.{switch_acl_rules, port_acl_rules, acl_on_rules}
-use Rattle.net_rows.specs.LoadBalancers.{switch_lb_rules}
+use Rattle.net_rows.specs.LoadBalancers.{switch_lb_rules, vip_switch_rules}
 use Rattle.net_rows.specs.Lookup.{switch_l2_rules, port_l2_rules}
 use Rattle.net_rows.specs.PortSecurity.{switch_sec_rules, port_sec_rules}
 use Rattle.net_rows.specs.Unit.{unit_of, unit_of_datapath, said_by}
@@ -23,6 +25,7 @@ use Rattle.net_rows.specs.declared.inputs.PortL2Input.{PortL2Input}
 use Rattle.net_rows.specs.declared.inputs.PortSecInput.{PortSecInput}
 use Rattle.net_rows.specs.declared.inputs.SwitchAclInput.{SwitchAclInput}
 use Rattle.net_rows.specs.declared.inputs.SwitchL2Input.{SwitchL2Input}
+use Rattle.net_rows.specs.declared.inputs.VipInput.{VipInput}
 use Rattle.net_rows.specs.declared.rule.Rule.{Rule}
 
 -- ---- the inputs of units
@@ -58,6 +61,10 @@ abbrev pub port_l2_input : Network → Port → PortL2Input
 port_l2_input net port =
     record { dp = port.switch; name = port.name; enabled = port.enabled; kind = port.kind; addresses = port.addresses; peer_mac = peer_mac net port }
 
+-- of a VIP of a load balancer, at a switch or at a router
+abbrev pub vip_input : Lb → Vip → VipInput
+vip_input lb vip = record { at = vip.at; proto = lb.proto; backends = vip.backends }
+
 -- ---- the rows of units
 
 -- the rules of the units of a switch
@@ -86,9 +93,20 @@ acl_on_rows net acl switch = said_by (unit_of switch.id acl.id) (acl_on_rules (a
 abbrev pub acl_rows : Network → Acl → List Row
 acl_rows net acl = flat_map (acl_on_rows net acl) (switches_of_acl net acl)
 
+-- the rows of a VIP on a switch are made for its load balancer
+unfoldable pub vip_on_rows : Switch → Lb → Vip → List Row
+vip_on_rows switch lb vip = said_by (unit_of switch.id lb.id) (vip_switch_rules (vip_input lb vip))
+
+abbrev pub lb_on_rows : Switch → Lb → List Row
+lb_on_rows switch lb = flat_map (vip_on_rows switch lb) lb.vips
+
+abbrev pub lb_rows : Network → Switch → List Row
+lb_rows net switch = flat_map (lb_on_rows switch) (lbs_on net switch.id)
+
 -- the rows of all units
 abbrev pub all_rows : Network → List Row
-all_rows net = flat_map (switch_rows net) net.switches ++ (flat_map (port_rows net) net.ports ++ flat_map (acl_rows net) net.acls)
+all_rows net =
+    flat_map (switch_rows net) net.switches ++ (flat_map (port_rows net) net.ports ++ (flat_map (acl_rows net) net.acls ++ flat_map (lb_rows net) net.switches))
 
 -- the rows of the network, in row order
 unfoldable pub rows : Network → List Row

@@ -1,6 +1,6 @@
 //! The inputs of units: all that their rows depend on beside their keys.
 use expr_core::Typed;
-use nb_records::{Addr, Guard, PortKind, Verdict, Way};
+use nb_records::{Addr, Backend, Frontend, Guard, PortKind, Proto, Verdict, Way};
 use nv_base::{Items, Mac, Name, ObjId};
 
 /// The port security of a switch port. The key is the port.
@@ -59,4 +59,13 @@ pub struct PortL2Input {
     pub addresses: Items<Addr>,
     /// The MAC of the router port that is its peer.
     pub peer_mac: Option<Mac>,
+}
+
+/// A VIP of a load balancer, at a switch or at a router. The key is the load balancer, the VIP, and the switch or the router.
+#[derive(Drop, PartialEq, Eq)]
+pub struct VipInput {
+    /// The VIP, as in the key.
+    pub at: Frontend,
+    pub proto: Proto,
+    pub backends: Items<Backend>,
 }

@@ -1,7 +1,9 @@
 ghost use Rattle.std.specs.Prelude.{◌≡◌, IfOk};
 ghost use Rattle.net_rows.specs.inner.Exact as tells;
 
-use crate::{AclOnInput, PortAclInput, PortL2Input, PortSecInput, SwitchAclInput, SwitchL2Input};
+use crate::{
+    AclOnInput, PortAclInput, PortL2Input, PortSecInput, SwitchAclInput, SwitchL2Input, VipInput,
+};
 use nv_base::{Kept, OutOfMemory};
 use std::alloc::Global;
 
@@ -70,6 +72,18 @@ impl Kept for PortL2Input {
             kind: self.kind,
             addresses: self.addresses.copy(alloc)?,
             peer_mac: self.peer_mac.copy(alloc)?,
+        })
+    }
+}
+
+impl Kept for VipInput {
+    ghost exact = { tells.vip };
+
+    fn copy(&self, alloc: Global) -> Result<Self, OutOfMemory> {
+        Ok(VipInput {
+            at: self.at,
+            proto: self.proto,
+            backends: self.backends.copy(alloc)?,
         })
     }
 }

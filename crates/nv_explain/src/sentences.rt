@@ -351,7 +351,6 @@ pub(crate) enum Slip {
     Accept,
     Ingress,
     Egress,
-    NotBuilt,
     ShowCommand,
     PortForDatapath,
     MayExist,
@@ -365,7 +364,7 @@ pub(crate) enum Slip {
 }
 
 /// What a slip looks like, and the hint.
-pub(crate) static SLIPS: [(&str, &str); 26] = [
+pub(crate) static SLIPS: [(&str, &str); 25] = [
     (
         "`ls-add sw0 # the first one`",
         "a comment stands on a line of its own: after other words `#` begins a word",
@@ -422,10 +421,6 @@ pub(crate) static SLIPS: [(&str, &str); 26] = [
     (
         "`acl-add sw0 egress 1 ip4 drop`",
         "write to-lport: the ACLs of packets that go to ports, in the egress pipeline",
-    ),
-    (
-        "`ls-lb-add sw0 lb0`",
-        "the command is one of ovn-nbctl that a script cannot use yet",
     ),
     (
         "`show`",

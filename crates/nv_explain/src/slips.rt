@@ -7,7 +7,7 @@ use crate::told::number_of;
 use crate::wanted::wanted_at;
 use crate::wrong::wrong_words;
 use nb_cmds::Task;
-use nb_edit::{Flag, Verb, verb_of};
+use nb_edit::{Flag, Verb};
 use nb_words::Command;
 use nv_base::{Name, OutOfMemory, read_ip4, read_prefix};
 use std::alloc::Global;
@@ -55,9 +55,7 @@ fn is_late_option(case: &Case, command: Option<&Command>, cause: Option<Cause>) 
 }
 
 fn unknown_command(name: &[u8]) -> Option<Slip> {
-    if verb_of(name).is_some() {
-        Some(Slip::NotBuilt)
-    } else if name == b"show".as_slice() || name.ends_with(b"-list") {
+    if name == b"show".as_slice() || name.ends_with(b"-list") {
         Some(Slip::ShowCommand)
     } else {
         None

@@ -1,4 +1,5 @@
 ghost use Rattle.std.specs.Prelude.{◌≡◌, ◌++◌, ◌+◌, ◌<◌, ◌≤◌, ◌||◌, ℕ, List, [], OnOk, IfErr, length, take, false};
+ghost use Rattle.nv_reply.specs.Events.{event_lines};
 ghost use Rattle.nv_reply.specs.Reply.{flows, ok_line, reply};
 ghost use Rattle.nv_reply.specs.Session as spec;
 ghost use Rattle.nv_input.specs.inner.Pieces.{IsDue, BeginsOutput};
@@ -10,7 +11,7 @@ ghost use Rattle.nv_base.specs.Object.{number_limit};
 use crate::cut::cut_line;
 use nv_base::{ObjId, OutOfMemory};
 use nv_io::{Sink, put_all};
-use nv_reply::{Answer, Session, Stop, run_line};
+use nv_reply::{Answer, Event, Session, Stop, run_line};
 use std::alloc::Global;
 
 // No more bytes of a line are kept: its reply depends on no more.
@@ -62,6 +63,7 @@ impl Server {
                 Ok(())
             }
             Answer::Listing(only) => self.answer_flows(alloc, only, sink),
+            Answer::Trace(events) => self.answer_trace(alloc, &events, sink),
         }
     }
 
@@ -80,6 +82,23 @@ impl Server {
             (flows self.old.session.network only ++ ok_line)) }
     {
         self.session.put_flows(alloc, only, sink)?;
+        put_all(sink, b"ok\n")?;
+        Ok(())
+    }
+
+    // Puts the lines of the events of a trace, and that this is done.
+    fn answer_trace<K: Sink>(
+        &self,
+        alloc: Global,
+        events: &[Event],
+        sink: &mut K,
+    ) -> Result<(), Stop>
+        ensures put { OnOk result (Wrote K.put_gives K.state sink.old sink.new (event_lines self.now.session.network events.now ++ ok_line)) }
+        ensures stop { IfErr result (StopsWithin
+            (Wrote K.put_gives K.state sink.old sink.new) (PutFailed K.put_gives K.state sink.old sink.new)
+            (event_lines self.now.session.network events.now ++ ok_line)) }
+    {
+        self.session.put_trace(alloc, events, sink)?;
         put_all(sink, b"ok\n")?;
         Ok(())
     }

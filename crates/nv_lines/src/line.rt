@@ -5,7 +5,7 @@ ghost use Rattle.nv_reply.specs.Reply.{reply};
 use nv_reply::{Answer, Session, Stop, run_line};
 use std::alloc::Global;
 
-/// Runs a line as the program does, appends its reply but for a listing, and says whether it is refused (not from OVN). `Stop` where
+/// Runs a line as the program does, appends its reply but for a listing or a trace, and says whether it is refused (not from OVN). `Stop` where
 /// memory runs out, or the number of the next object shows that more lines were run than an input has: then nothing is said of the
 /// session and of what is appended.
 pub fn run_one(
@@ -22,6 +22,6 @@ pub fn run_one(
     }
     match run_line(alloc, session, line, out)? {
         Answer::Text { refused } => Ok(refused),
-        Answer::Listing(_) => Ok(false),
+        Answer::Listing(_) | Answer::Trace(_) => Ok(false),
     }
 }

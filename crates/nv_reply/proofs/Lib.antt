@@ -1,10 +1,10 @@
 pub mod Answering
-pub mod Balancing
 pub mod ConnectionLines
 pub mod Datapaths
 pub mod Keeping
 pub mod Listings
 pub mod NeighbourLines
+pub mod Pieces
 pub mod Reached
 pub mod Refusals
 pub mod StatesLeft

@@ -1,5 +1,5 @@
 -- The networks that lines leave are sound, and the numbers of their objects are no more than the bytes of the lines.
-use Rattle.std.proofs.Common.{◌≡◌, ℕ, ◌+◌, ◌<◌, ◌≤◌, ◌⊎◌, inl, inr, Option, Some, None, Ok, List, [], ◌∷◌, length, sum_by, IfOk, refl, arith}
+use Rattle.std.proofs.Common.{◌≡◌, ℕ, ◌+◌, ◌<◌, ◌≤◌, ◌⊎◌, inl, inr, Option, Some, None, List, [], ◌∷◌, length, sum_by, IfOk, refl, arith}
 use Rattle.std.specs.List.{AllByRecursion}
 use Rattle.std.proofs.lemmas.List.Sums.{sum_by-cons}
 use Rattle.std.proofs.lemmas.Result.{IfOk-at_ok, IfOk-weaker}
@@ -16,14 +16,10 @@ use Rattle.nb_model.proofs.Reading.{goes_on}
 use Rattle.nb_model.proofs.Whole.{edit_sound}
 use Rattle.nb_cmds.proofs.ReadableLines.{line_readable}
 use Rattle.nb_cmds.proofs.ShortLines.{line_short}
-use Rattle.nb_cmds.specs.Asked.{IsAsked}
-use Rattle.nb_cmds.proofs.BuiltLines.{line_built}
-use Rattle.ls_laws.specs.Steps.{BalancesNone}
 use Rattle.tr_walk.specs.Refined.{IsRefined}
 use Rattle.tr_walk.proofs.Refinement.{is_refined}
 use Rattle.nv_reply.specs.Reply.{reply, session_after}
 use Rattle.nv_reply.specs.Session.{Session, new_session}
-use Rattle.nv_reply.proofs.Balancing.{edited_balances, empty_balances}
 use Rattle.nv_reply.proofs.Keeping.{reply_keeps}
 use Rattle.nv_base.specs.Object.{number_limit}
 
@@ -123,24 +119,6 @@ empty_sound = record {
 pub sound_after : (hops : ℕ) (lines : List (List ℕ)) → 1 + sum_by length lines < number_limit → IsSound (session_after (new_session hops) lines).network
 sound_after hops lines room = lines_sound (new_session hops) lines empty_sound room
 
--- edits that lines ask for attach no load balancer to a switch
-pub edited_none : (old new : Network) (list : List Edit) → BalancesNone old → AllByRecursion IsAsked list → edited old list ≡ Ok new → BalancesNone new
-edited_none old new list none asked done = IfOk-at_ok BalancesNone done (edited_balances old list none asked)
-
--- nor does a line
-pub reply_none : (session : Session) (line : List ℕ) → BalancesNone session.network → BalancesNone (reply session line).after.network
-reply_none session line none =
-    reply_keeps BalancesNone session line none (λ list net said done.
-    edited_none session.network net list none (line_built line list said) done)
-
-lines_none : (session : Session) (lines : List (List ℕ)) → BalancesNone session.network → BalancesNone (session_after session lines).network
-lines_none session [] none = none
-lines_none session (line ∷ lines) none = lines_none (reply session line).after lines (reply_none session line none)
-
--- nor do lines
-pub none_after : (hops : ℕ) (lines : List (List ℕ)) → BalancesNone (session_after (new_session hops) lines).network
-none_after hops lines = lines_none (new_session hops) lines empty_balances
-
--- and the rows of each network that lines leave do what it means
+-- the rows of each network that lines leave do what it means
 pub each_refined : (hops : ℕ) (lines : List (List ℕ)) → 1 + sum_by length lines < number_limit → IsRefined (session_after (new_session hops) lines).network
-each_refined hops lines room = is_refined (session_after (new_session hops) lines).network (sound_after hops lines room) (none_after hops lines)
+each_refined hops lines room = is_refined (session_after (new_session hops) lines).network (sound_after hops lines room)

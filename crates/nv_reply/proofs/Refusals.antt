@@ -1,5 +1,5 @@
 -- A reply is a refusal exactly where its text says so.
-use Rattle.std.proofs.Common.{◌≡◌, ℕ, Bool, true, false, Some, None, Result, Ok, Err, List, [], ◌∷◌, ◌++◌, append_assoc, refl, sym, ap, ◌∙◌}
+use Rattle.std.proofs.Common.{◌≡◌, ℕ, true, false, Some, None, Result, Ok, Err, List, [], ◌∷◌, ◌++◌, append_assoc, refl, sym, ap, ◌∙◌}
 use Rattle.std.specs.Prelude.{codes, filter, nat_eq, Option}
 use Rattle.std.specs.List.{starts_with, flat_map}
 use Rattle.nv_base.specs.declared.object.ObjId.{ObjId}
@@ -21,6 +21,7 @@ use Rattle.sb_model.specs.declared.row.Row.{Row}
 use Rattle.sb_rows.specs.Row.{rows_of}
 use Rattle.sb_rows.specs.Listing.{datapath_listing, is_asked_for}
 use Rattle.lr_units.specs.Network.{network_rows}
+use Rattle.tr_walk.specs.Events.{told_only}
 use Rattle.tr_walk.specs.declared.event.Event.{Event}
 use Rattle.tr_walk.specs.declared.event.Event.TheVariants as events
 use Rattle.nv_reply.specs.Connections.{connection_line, connection_lines, entry_text, zone_text}
@@ -60,18 +61,13 @@ answered_says session (Err refusal) reply_for each = refused_says refusal
 answered_says session (Ok x) reply_for each = each x
 
 -- no line of an event does
-events_say : (net : Network) (minimal : Bool) (all : List Event) → false ≡ starts_with nat_eq (event_lines net minimal all ++ ok_line) (codes "refused E")
-events_say net minimal [] = refl
-events_say net true (events.Hit hit ∷ more) = events_say net true more
-events_say net false (events.Hit hit ∷ more) = refl
-events_say net true (events.Output port packet ∷ more) = refl
-events_say net false (events.Output port packet ∷ more) = refl
-events_say net true (events.Drop dp cause ∷ more) = refl
-events_say net false (events.Drop dp cause ∷ more) = refl
-events_say net true (events.Reject port ∷ more) = refl
-events_say net false (events.Reject port ∷ more) = refl
-events_say net true (events.HopLimit port ∷ more) = refl
-events_say net false (events.HopLimit port ∷ more) = refl
+events_say : (net : Network) (all : List Event) → false ≡ starts_with nat_eq (event_lines net all ++ ok_line) (codes "refused E")
+events_say net [] = refl
+events_say net (events.Hit hit ∷ more) = refl
+events_say net (events.Output port packet ∷ more) = refl
+events_say net (events.Drop dp cause ∷ more) = refl
+events_say net (events.Reject port ∷ more) = refl
+events_say net (events.HopLimit port ∷ more) = refl
 
 -- no line of a connection does
 zone_says : (net : Network) (zone : Zone) (more : List ℕ) → false ≡ starts_with nat_eq (zone_text net zone ++ more) (codes "refused E")
@@ -100,7 +96,7 @@ query_says : (session : Session) (q : Query) → IsSound session.network → Say
 query_says session (query.FlowList None) sound = flows_say session.network None
 query_says session (query.FlowList (Some name)) sound = answered_says session (wanted_datapath session.network name) _ (λ number. flows_say session.network (Some number))
 query_says session (query.Trace minimal dp micro) sound =
-    answered_says session (traced_port session.network dp micro.inport) _ (λ port. events_say session.network minimal (traced session port micro.packet))
+    answered_says session (traced_port session.network dp micro.inport) _ (λ port. events_say session.network (told_only minimal (traced session port micro.packet)))
 query_says session query.CtList sound = connections_say session.network session.state.conns
 query_says session query.CtFlush sound = refl
 query_says session query.NbrList sound = neighbours_say session.network sound session.state.nbrs

@@ -25,9 +25,7 @@ use Rattle.tr_walk.proofs.Refinement.{keeps_states}
 use Rattle.nv_reply.specs.Reply.{Reply, answered, reply, reply_to, reply_to_query, session_after, traced_port, wanted_datapath}
 use Rattle.nv_reply.specs.Session.{Session, new_session}
 use Rattle.nv_reply.specs.Struck.{is_zone_gone, struck}
-use Rattle.ls_laws.specs.Steps.{BalancesNone}
-use Rattle.nv_reply.proofs.Balancing.{empty_balances}
-use Rattle.nv_reply.proofs.Reached.{empty_sound, reply_next, reply_none, reply_sound}
+use Rattle.nv_reply.proofs.Reached.{empty_sound, reply_next, reply_sound}
 use Rattle.nv_reply.proofs.TracedPorts.{traced_is_port}
 use Rattle.nv_base.specs.Object.{number_limit}
 
@@ -71,13 +69,13 @@ answered_state : {X : Type 0} (session : Session) (found : Result X Refusal) (re
 answered_state session (Err refusal) reply_for here each = here
 answered_state session (Ok x) reply_for here each = each x refl
 
-module _ (session : Session) (sound : IsSound session.network) (none : BalancesNone session.network) (here : IsState session.state) where
+module _ (session : Session) (sound : IsSound session.network) (here : IsState session.state) where
   query_state : (text : List ℕ) (q : Query) → read_line text ≡ Ok (line.Query q) → IsState (reply_to_query session q).after.state
   query_state text (query.FlowList None) is = here
   query_state text (query.FlowList (Some name)) is = answered_state session (wanted_datapath session.network name) _ here (λ number found. here)
   query_state text (query.Trace minimal dp micro) is =
       answered_state session (traced_port session.network dp micro.inport) _ here (λ port found.
-      keeps_states session.network sound none session.hops port micro.packet session.state (traced_is_port session.network dp micro.inport port found)
+      keeps_states session.network sound session.hops port micro.packet session.state (traced_is_port session.network dp micro.inport port found)
       (query_well_read text (query.Trace minimal dp micro) is).2 here)
   query_state text query.CtList is = here
   query_state text query.CtFlush is = record { conns = no_connections; nbrs = here.nbrs }
@@ -94,14 +92,14 @@ module _ (session : Session) (sound : IsSound session.network) (none : BalancesN
       by (line.Edits list) is = answered_state session (edited session.network list) _ here (λ net done. struck_state session.network net session.state here)
       by (line.Query q) is = query_state text q is
 
-lines_state : (session : Session) (lines : List (List ℕ)) → IsSound session.network → BalancesNone session.network → session.network.next + sum_by length lines < number_limit → IsState session.state
+lines_state : (session : Session) (lines : List (List ℕ)) → IsSound session.network → session.network.next + sum_by length lines < number_limit → IsState session.state
     → IsState (session_after session lines).state
-lines_state session [] sound none room here = here
-lines_state session (line ∷ lines) sound none room here =
+lines_state session [] sound room here = here
+lines_state session (line ∷ lines) sound room here =
     let bytes = sum_by-cons length line lines in
-    lines_state (reply session line).after lines (reply_sound session line sound (omega (arith, bytes, room))) (reply_none session line none) (omega (arith, bytes, room, reply_next session line))
-    (reply_state session sound none here line)
+    lines_state (reply session line).after lines (reply_sound session line sound (omega (arith, bytes, room))) (omega (arith, bytes, room, reply_next session line))
+    (reply_state session sound here line)
 
 -- each state that lines leave, as long as the lines are no longer
 pub states_after : (hops : ℕ) (lines : List (List ℕ)) → 1 + sum_by length lines < number_limit → IsState (session_after (new_session hops) lines).state
-states_after hops lines room = lines_state (new_session hops) lines empty_sound empty_balances room (record { conns = no_connections; nbrs = no_neighbours })
+states_after hops lines room = lines_state (new_session hops) lines empty_sound room (record { conns = no_connections; nbrs = no_neighbours })

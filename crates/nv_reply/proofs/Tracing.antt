@@ -1,17 +1,16 @@
 -- What a trace tells and leaves, and that it is meant, by the parts of the session that it is run with.
-use Rattle.std.proofs.Common.{◌≡◌, ℕ, Bool, true, false, List, [], ◌∷◌, ◌++◌, map, refl, ap, sym, subst, ◌∙◌}
+use Rattle.std.proofs.Common.{◌≡◌, ℕ, Bool, List, map, Result, Ok, ap, sym, subst, ◌∙◌}
 use Rattle.nv_base.specs.declared.object.ObjId.{ObjId}
 use Rattle.pkt_core.specs.Packet.{Values}
 use Rattle.ct_core.specs.State.{State}
+use Rattle.nb_records.specs.declared.refusal.Refusal.{Refusal}
 use Rattle.nb_model.specs.Network.{Network}
-use Rattle.ls_laws.specs.Steps.{BalancesNone}
 use Rattle.tr_walk.specs.Events.{event_of, told_only}
 use Rattle.tr_walk.specs.Machine.{machine}
 use Rattle.tr_walk.specs.Refined.{IsMeant}
 use Rattle.tr_walk.specs.declared.event.Event.{Event}
-use Rattle.tr_walk.specs.declared.event.Event.TheVariants as events
-use Rattle.nv_reply.specs.Events.{event_line, event_lines}
-use Rattle.nv_reply.specs.Reply.{after_trace, traced}
+use Rattle.nv_reply.specs.Events.{event_lines}
+use Rattle.nv_reply.specs.Reply.{accept, after_trace, answered, trace_lines, traced}
 use Rattle.nv_reply.specs.Session.{Session, with_state}
 
 module _ (session now : Session) (port : ObjId) (packet : Values) (net : Network) (hops : ℕ) (net_is : net ≡ session.network) (hops_is : hops ≡ session.hops) (same : session ≡ now) where
@@ -31,23 +30,17 @@ module _ (session now : Session) (port : ObjId) (packet : Values) (net : Network
       ∙ ap (λ (s : Session). after_trace s port packet) same
 
   -- and what is told is meant
-  pub meant_from : (told : List Event) (left : State) → BalancesNone now.network → (BalancesNone net → IsMeant net hops port packet (record { before = session.state; told = told; after = left }))
+  pub meant_from : (told : List Event) (left : State) → IsMeant net hops port packet (record { before = session.state; told = told; after = left })
       → IsMeant now.network now.hops port packet (record { before = now.state; told = told; after = left })
-  meant_from told left plain meant =
+  meant_from told left meant =
       subst (λ (s : Session). IsMeant s.network s.hops port packet (record { before = s.state; told = told; after = left })) same
       (subst (λ (h : ℕ). IsMeant session.network h port packet (record { before = session.state; told = told; after = left })) hops_is
-      (subst (λ (n : Network). IsMeant n hops port packet (record { before = session.state; told = told; after = left })) net_is (meant (subst BalancesNone (sym (net_is ∙ ap (λ s. s.network) same)) plain))))
+      (subst (λ (n : Network). IsMeant n hops port packet (record { before = session.state; told = told; after = left })) net_is meant))
 
--- the lines of what is told are those of all, where hits are left out in any case
-pub same_lines : (net : Network) (minimal : Bool) (all : List Event) → event_lines net minimal (told_only minimal all) ≡ event_lines net minimal all
-same_lines net minimal [] = refl
-same_lines net true (events.Hit hit ∷ all) = same_lines net true all
-same_lines net false (events.Hit hit ∷ all) = ap (λ rest. event_line net (events.Hit hit) ++ rest) (same_lines net false all)
-same_lines net true (events.Output port packet ∷ all) = ap (λ rest. event_line net (events.Output port packet) ++ rest) (same_lines net true all)
-same_lines net false (events.Output port packet ∷ all) = ap (λ rest. event_line net (events.Output port packet) ++ rest) (same_lines net false all)
-same_lines net true (events.Drop dp cause ∷ all) = ap (λ rest. event_line net (events.Drop dp cause) ++ rest) (same_lines net true all)
-same_lines net false (events.Drop dp cause ∷ all) = ap (λ rest. event_line net (events.Drop dp cause) ++ rest) (same_lines net false all)
-same_lines net true (events.Reject port ∷ all) = ap (λ rest. event_line net (events.Reject port) ++ rest) (same_lines net true all)
-same_lines net false (events.Reject port ∷ all) = ap (λ rest. event_line net (events.Reject port) ++ rest) (same_lines net false all)
-same_lines net true (events.HopLimit port ∷ all) = ap (λ rest. event_line net (events.HopLimit port) ++ rest) (same_lines net true all)
-same_lines net false (events.HopLimit port ∷ all) = ap (λ rest. event_line net (events.HopLimit port) ++ rest) (same_lines net false all)
+-- what is answered for a trace whose port is found: the lines of what is told, which are put later
+pub trace_answered : (session : Session) (minimal : Bool) (found : Result ObjId Refusal) (port : ObjId) (packet : Values) (told : List Event) → found ≡ Ok port → told ≡ told_only minimal (traced session port packet)
+    → answered session found (λ at. accept (trace_lines session minimal at packet) (after_trace session at packet))
+    ≡ accept (event_lines (answered session found (λ at. accept (trace_lines session minimal at packet) (after_trace session at packet))).after.network told)
+    (answered session found (λ at. accept (trace_lines session minimal at packet) (after_trace session at packet))).after
+trace_answered session minimal found port packet told is said =
+    rw is (ap (λ (events : List Event). accept (event_lines session.network events) (after_trace session port packet)) (sym said))

@@ -1,5 +1,5 @@
 -- How the events of a trace are written.
-use Rattle.std.specs.Prelude.{ℕ, Bool, true, false, ◌&&◌, List, [], ◌++◌, option_map, unwrap_or, codes, decimal, if◌then◌else◌}
+use Rattle.std.specs.Prelude.{ℕ, List, [], ◌++◌, option_map, unwrap_or, codes, decimal}
 use Rattle.std.specs.List.{flat_map}
 use Rattle.nv_base.specs.declared.object.ObjId.{ObjId}
 use Rattle.pkt_core.specs.Text.{packet_text}
@@ -8,7 +8,6 @@ use Rattle.nb_model.specs.Network.{Network}
 use Rattle.nv_table.specs.Table.{record_of}
 use Rattle.sb_model.specs.Stage.{stage_name}
 use Rattle.net_meaning.specs.Cause.{cause_name}
-use Rattle.tr_walk.specs.Events.{is_hit}
 use Rattle.tr_walk.specs.declared.event.Event.{Event}
 use Rattle.tr_walk.specs.declared.event.Event.TheVariants.{Hit, Output, Drop, Reject, HopLimit}
 
@@ -31,10 +30,6 @@ event_line net (Drop dp cause) = codes "drop " ++ datapath_name net dp ++ codes 
 event_line net (Reject port) = codes "reject " ++ port_name net port ++ codes "\n"
 event_line net (HopLimit port) = codes "hop-limit " ++ port_name net port ++ codes "\n"
 
--- an event's line, if it is not left out: `--minimal` leaves out those of hits
-abbrev pub told_line : Network → Bool → Event → List ℕ
-told_line net minimal event = if minimal && is_hit event then [] else event_line net event
-
--- the lines of events, of hits too or not
-abbrev pub event_lines : Network → Bool → List Event → List ℕ
-event_lines net minimal events = flat_map (told_line net minimal) events
+-- the lines of events
+abbrev pub event_lines : Network → List Event → List ℕ
+event_lines net events = flat_map (event_line net) events

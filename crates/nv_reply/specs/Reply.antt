@@ -24,7 +24,7 @@ use Rattle.nv_table.specs.Table.{with_record}
 use Rattle.sb_rows.specs.Listing.{listing}
 use Rattle.lr_units.specs.Network.{network_rows}
 use Rattle.tr_walk.specs.declared.event.Event.{Event}
-use Rattle.tr_walk.specs.Events.{event_of}
+use Rattle.tr_walk.specs.Events.{event_of, told_only}
 use Rattle.net_meaning.specs.Walk.{Walked}
 use Rattle.tr_stage.specs.declared.outcome.Hit.{Hit}
 use Rattle.tr_walk.specs.Machine.{machine}
@@ -110,9 +110,9 @@ forgotten session = with_state (with_nbrs [] session.state) session
 abbrev pub after_edits : Session → Network → Session
 after_edits session net = record session { network = net; state = struck session.network net session.state }
 
--- the lines of a trace
+-- the lines of a trace: `--minimal` leaves out those of hits
 abbrev pub trace_lines : Session → Bool → ObjId → Values → List ℕ
-trace_lines session minimal port packet = event_lines session.network minimal (traced session port packet)
+trace_lines session minimal port packet = event_lines session.network (told_only minimal (traced session port packet))
 
 -- the reply to a query
 abbrev pub reply_to_query : Session → query.Query → Reply

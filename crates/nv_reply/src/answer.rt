@@ -1,4 +1,5 @@
 use nv_base::ObjId;
+use tr_walk::Event;
 
 /// What there is to put for a line (not from OVN).
 #[derive(Drop)]
@@ -7,4 +8,6 @@ pub enum Answer {
     Text { refused: bool },
     /// The listing of the flows of the datapath of this number, or of all, and `ok`.
     Listing(Option<ObjId>),
+    /// The lines of these events, and `ok`.
+    Trace(Vec<Event>),
 }

@@ -1,48 +1,57 @@
-ghost use Rattle.std.specs.Prelude.{◌≡◌, ◌++◌, List, ℕ, OnOk};
-ghost use Rattle.nv_reply.specs.Events.{datapath_name, port_name, event_line, told_line, event_lines};
-ghost use Rattle.tr_walk.specs.Events.{is_hit};
+ghost use Rattle.std.specs.Prelude.{◌≡◌, ◌++◌, List, ℕ, OnOk, IfErr};
+ghost use Rattle.nv_io.specs.Writing.{Wrote, PutFailed};
+ghost use Rattle.nv_reply.specs.Events.{datapath_name, port_name, event_line, event_lines};
+ghost use Rattle.nv_reply.specs.Stops.{StopsWithin};
 ghost use Rattle.tr_walk.specs.declared.event.Event.TheVariants.{Hit, Output, Drop, Reject, HopLimit};
 
+use crate::stop::Stop;
 use nb_store::Records;
 use net_meaning::Cause;
 use nv_base::{ObjId, OutOfMemory, put_dec};
+use nv_io::{Sink, put_all};
 use pkt_core::{Packet, put_packet};
+use std::alloc::Global;
 use tr_walk::Event;
 
-/// Writes the lines of events, and leaves out those of hits where it is minimal (ovn-trace(8); their form is not from
-/// OVN). After `OutOfMemory` nothing is said of what is written.
-pub fn put_events(
+// A piece of text is put once it has so many bytes.
+const PIECE: usize = 65_536;
+
+/// Puts the lines of events, some at a time: no more than a piece of them, and the line that ends it, is in memory (ovn-trace(8); their
+/// form is not from OVN). `Stop` where the sink fails or memory runs out: a front of the lines was put.
+pub fn put_events<K: Sink>(
+    alloc: Global,
     records: &Records,
-    minimal: bool,
     events: &[Event],
-    out: &mut Vec<u8>,
-) -> Result<(), OutOfMemory>
-    ensures { OnOk result (out.new.items ≡ out.old.items ++ event_lines records.now minimal events.now) }
+    sink: &mut K,
+) -> Result<(), Stop>
+    ensures put { OnOk result (Wrote K.put_gives K.state sink.old sink.new (event_lines records.now events.now)) }
+    ensures stop { IfErr result (StopsWithin
+        (Wrote K.put_gives K.state sink.old sink.new) (PutFailed K.put_gives K.state sink.old sink.new)
+        (event_lines records.now events.now)) }
 {
+    let mut text = Vec::new(alloc);
     for event in events {
-        put_told(records, minimal, event, out)?;
+        put_event(records, event, &mut text)?;
+        put_piece(&mut text, sink)?;
     }
+    put_all(sink, &text)?;
     Ok(())
 }
 
-fn put_told(
-    records: &Records,
-    minimal: bool,
-    event: &Event,
-    out: &mut Vec<u8>,
-) -> Result<(), OutOfMemory>
-    ensures { OnOk result (out.new.items ≡ out.old.items ++ told_line records.now minimal event.now) }
+// Puts the text where it is as long as a piece, and lets it go.
+fn put_piece<K: Sink>(text: &mut Vec<u8>, sink: &mut K) -> Result<(), Stop>
+    ensures put { OnOk result ((part : List ℕ) × (text.old.items ≡ part ++ text.new.items)
+        × Wrote K.put_gives K.state sink.old sink.new part) }
+    ensures stop { IfErr result (StopsWithin
+        (Wrote K.put_gives K.state sink.old sink.new) (PutFailed K.put_gives K.state sink.old sink.new)
+        text.old.items) }
 {
-    if minimal && is_hit(event) {
+    if text.len() < PIECE {
         return Ok(());
     }
-    put_event(records, event, out)
-}
-
-fn is_hit(event: &Event) -> bool
-    ensures { result ≡ is_hit event.now }
-{
-    matches!(event, Event::Hit(_))
+    put_all(sink, text)?;
+    text.clear();
+    Ok(())
 }
 
 fn put_event(records: &Records, event: &Event, out: &mut Vec<u8>) -> Result<(), OutOfMemory>

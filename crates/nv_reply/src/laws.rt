@@ -1,7 +1,6 @@
 ghost use Rattle.std.specs.Prelude.{◌≡◌, ◌+◌, ◌<◌, ℕ, List, codes, length, nat_eq, sum_by};
 ghost use Rattle.std.specs.List.{starts_with};
 ghost use Rattle.nb_model.specs.Sound.{IsSound};
-ghost use Rattle.ls_laws.specs.Steps.{BalancesNone};
 ghost use Rattle.tr_router.specs.Parts.{IsState};
 ghost use Rattle.nv_reply.specs.Reply.{reply, session_after};
 ghost use Rattle.nv_reply.specs.Session.{Session, new_session};
@@ -11,11 +10,6 @@ ghost use Rattle.nv_base.specs.Object.{number_limit};
 pub fn lines_leave_sound_networks()
     ensures { (hops : ℕ) (lines : List (List ℕ)) → 1 + sum_by length lines < number_limit
         → IsSound (session_after (new_session hops) lines).network }
-{}
-
-/// In no network that lines leave a load balancer is attached to a switch.
-pub fn lines_balance_no_load_at_switches()
-    ensures { (hops : ℕ) (lines : List (List ℕ)) → BalancesNone (session_after (new_session hops) lines).network }
 {}
 
 /// In each state that lines leave, connections and neighbours are as many as may be, of numbers that fit.

@@ -13,10 +13,8 @@ mod stop;
 mod strike;
 
 pub use answer::Answer;
-pub use laws::{
-    lines_balance_no_load_at_switches, lines_leave_sound_networks, lines_leave_states_that_fit,
-    refusals_say_so,
-};
+pub use laws::{lines_leave_sound_networks, lines_leave_states_that_fit, refusals_say_so};
 pub use reply::run_line;
 pub use session::Session;
 pub use stop::Stop;
+pub use tr_walk::Event;

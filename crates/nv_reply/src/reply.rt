@@ -3,16 +3,14 @@ ghost use Rattle.std.specs.List.{AllByRecursion};
 ghost use Rattle.nb_records.specs.Refusal.{refusal_line};
 ghost use Rattle.nb_model.specs.Belongs.{is_number};
 ghost use Rattle.nb_model.specs.Readable.{IsReadable};
-ghost use Rattle.nb_cmds.specs.Asked.{IsAsked};
 ghost use Rattle.nb_store.specs.Places.{on_datapath};
 ghost use Rattle.nv_reply.specs.declared.answer.Answer.TheVariants as answers;
-ghost use Rattle.nv_reply.specs.Reply.{accept, after_trace, flushed, forgotten, ok_line, trace_lines, traced_port, reply_to_query, reply_to, reply};
+ghost use Rattle.nv_reply.specs.Reply.{flushed, forgotten, ok_line, traced_port, reply_to_query, reply_to, reply};
 ghost use Rattle.nv_reply.specs.Answer.{IsAnswered};
 ghost use Rattle.nv_base.specs.Object.{number_limit};
 
 use crate::answer::Answer;
 use crate::connections::put_connections;
-use crate::events::put_events;
 use crate::neighbours::put_neighbours;
 use crate::session::Session;
 use nb_cmds::{Line, Query, read_line};
@@ -21,11 +19,10 @@ use nb_records::{Edit, Refusal};
 use nb_store::Records;
 use nb_words::LineFault;
 use nv_base::{Items, Name, ObjId, OutOfMemory};
-use pkt_core::Packet;
 use pkt_micro::Micro;
 use std::alloc::Global;
 
-/// Runs a line, and writes its reply, but not a listing (not from OVN). After `OutOfMemory` nothing is said of the
+/// Runs a line, and writes its reply, but not a listing or a trace (not from OVN). After `OutOfMemory` nothing is said of the
 /// session and of what is written.
 #[tactic(auto, unfolding(crate::specs::Reply::reply))]
 pub fn run_line(
@@ -54,7 +51,6 @@ fn run_edits(
     out: &mut Vec<u8>,
 ) -> Result<Answer, OutOfMemory>
     requires readable { AllByRecursion IsReadable edits }
-    requires asked { AllByRecursion IsAsked edits }
     requires room { session.old.network.next + length edits < number_limit }
     ensures answer { IfOk result (λ answer. IsAnswered (reply_to session.old (Line.Edits edits)) out.old.items out.new.items answer) }
     ensures after { OnOk result (session.new ≡ (reply_to session.old (Line.Edits edits)).after) }
@@ -147,26 +143,9 @@ fn run_trace(
 {
     let Micro { inport, packet } = micro;
     match traced_port(session.records(), datapath, inport) {
-        Ok(port) => tell_trace(alloc, session, minimal, port, &packet, out),
+        Ok(port) => Ok(Answer::Trace(session.trace(alloc, port, &packet, minimal)?)),
         Err(refusal) => refuse(&refusal, out),
     }
-}
-
-// Tells the trace of a packet that comes in by a port.
-fn tell_trace(
-    alloc: Global,
-    session: &mut Session,
-    minimal: bool,
-    port: ObjId,
-    packet: &Packet,
-    out: &mut Vec<u8>,
-) -> Result<Answer, OutOfMemory>
-    ensures answer { IfOk result (λ answer. IsAnswered (accept (trace_lines session.old minimal port packet.now) (after_trace session.old port packet.now)) out.old.items out.new.items answer) }
-    ensures after { OnOk result (session.new ≡ after_trace session.old port packet.now) }
-{
-    let events = session.trace(alloc, port, packet, minimal)?;
-    put_events(session.records(), minimal, &events, out)?;
-    accept(out)
 }
 
 // The port of this name by which a packet comes into the datapath of that name.

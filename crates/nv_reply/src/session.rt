@@ -4,10 +4,9 @@ ghost use Rattle.nb_words.specs.Fault.{IsFaultOf};
 ghost use Rattle.nb_model.specs.Readable.{IsReadable};
 ghost use Rattle.nb_model.specs.Sound.{IsSound};
 ghost use Rattle.nb_model.specs.Transactions.{edited};
-ghost use Rattle.nb_cmds.specs.Asked.{IsAsked};
-ghost use Rattle.ls_laws.specs.Steps.{BalancesNone};
 ghost use Rattle.tr_walk.specs.Events.{told_only};
 ghost use Rattle.tr_walk.specs.Refined.{IsMeant};
+ghost use Rattle.nv_reply.specs.Events.{event_lines};
 ghost use Rattle.nv_reply.specs.Reply.{after_trace, flows, flushed, forgotten, row_count, traced};
 ghost use Rattle.nv_reply.specs.Session.{new_session};
 ghost use Rattle.nv_reply.specs.Struck.{struck};
@@ -16,6 +15,7 @@ ghost use Rattle.nv_io.specs.Writing.{Wrote, PutFailed};
 ghost use Rattle.nv_reply.specs.Stops.{StopsWithin};
 ghost use Rattle.nv_base.specs.Object.{number_limit};
 
+use crate::events::put_events;
 use crate::listing::put_datapaths;
 use crate::stop::Stop;
 use crate::strike::strike_objects;
@@ -50,7 +50,6 @@ impl Model for Session {
     ghost use Rattle.std.specs.Coded.{codes};
     ghost use Rattle.nb_records.specs.contracts.acl.Acl as acl;
     ghost use Rattle.nv_reply.specs.Session as value;
-    ghost use Rattle.ls_laws.specs.Steps.{BalancesNone};
     ghost use Rattle.nv_reply.specs.inner.KeptRows.{AreKept};
 
     ghost Value = { value.Session };
@@ -59,13 +58,12 @@ impl Model for Session {
 
     ghost view = { λ s. record { network = s.tables; hops = s.hops; state = s.state } };
 
-    ghost invariant = { λ s. BalancesNone s.tables × AreKept s.rows s.tables };
+    ghost invariant = { λ s. AreKept s.rows s.tables };
 }
 
 impl Session {
     /// The session before the first line: the network without objects, where a traced packet may take so many hops, and no
     /// connection is tracked (not from OVN). It takes no memory.
-    #[tactic(auto, using(crate::proofs::Balancing::empty_balances))]
     pub fn new(alloc: Global, hops: u8) -> Self
         ensures { result ≡ new_session hops }
     {
@@ -94,10 +92,9 @@ impl Session {
 
     /// Does what all edits of a line ask for, or nothing where one is refused or memory runs out (not from OVN:
     /// ovn-nbctl(8) runs the commands of one call as one transaction). What the state holds of objects that are gone is struck out.
-    #[tactic(auto, using(crate::proofs::Reached::edited_none, crate::proofs::Struck::struck_after))]
+    #[tactic(auto, using(crate::proofs::Struck::struck_after))]
     pub fn apply_all(&mut self, alloc: Global, edits: Items<Edit>) -> Result<(), LineFault>
         requires readable { AllByRecursion IsReadable edits }
-        requires asked { AllByRecursion IsAsked edits }
         requires room { self.old.network.next + length edits < number_limit }
         ensures done { OnOk result (edited self.old.network edits ≡ Ok self.new.network) }
         ensures hops { self.new.hops ≡ self.old.hops }
@@ -188,6 +185,22 @@ impl Session {
         Ok(())
     }
 
+    /// Puts the lines of the events of a trace, piece by piece (ovn-trace(8); their form is not from OVN). `Stop` where the sink fails or
+    /// memory runs out: a front of the lines was put.
+    pub fn put_trace<K: Sink>(
+        &self,
+        alloc: Global,
+        events: &[Event],
+        sink: &mut K,
+    ) -> Result<(), Stop>
+        ensures put { OnOk result (Wrote K.put_gives K.state sink.old sink.new (event_lines self.now.network events.now)) }
+        ensures stop { IfErr result (StopsWithin
+            (Wrote K.put_gives K.state sink.old sink.new) (PutFailed K.put_gives K.state sink.old sink.new)
+            (event_lines self.now.network events.now)) }
+    {
+        put_events(alloc, self.records(), events, sink)
+    }
+
     /// How many rows the network has (not from OVN). They are made where the network has changed, and kept. Where memory runs out the
     /// answer is `OutOfMemory`, and the session is as before.
     #[tactic(auto, unfolding(crate::specs::Reply::row_count))]
@@ -217,8 +230,7 @@ impl Session {
 
 // The rows of a network.
 fn rows_of(alloc: Global, records: &Records) -> Result<Rows, OutOfMemory>
-    requires sound { IsSound records.now }
-    requires none { BalancesNone records.now }
+    requires { IsSound records.now }
     ensures { IfOk result (λ rows. AreRowsOf rows records.now) }
 {
     full(alloc, records)

@@ -43,7 +43,8 @@ use Rattle.nb_router.specs.Vocabulary.{dnats, is_attached, lbs_of, nats_of}
 use Rattle.net_meaning.specs.declared.cause.Cause.{Cause}
 use Rattle.net_meaning.specs.declared.cause.Cause.TheVariants.{CtFull, NoPort}
 use Rattle.net_router.specs.Input.{is_in_network}
-use Rattle.net_router.specs.Translation.{Changed, backend_for, bound, bound_if, changed_out, changes_source, closer, destination_rule, dnatted, hidden_behind, hidden_by, is_for_all, is_of, is_to, is_to_port, new_tuple, redirected, snatted, source_rule, unsnatted, vip, vip_for_all, vip_of_port, where_room, with_port}
+use Rattle.net_meaning.specs.Balancing.{backend_for, balanced_tuple, is_for_all, is_of, is_to, is_to_port, vip, vip_for_all, vip_of_port}
+use Rattle.net_router.specs.Translation.{Changed, bound, bound_if, changed_out, changes_source, closer, destination_rule, dnatted, hidden_behind, hidden_by, new_tuple, redirected, snatted, source_rule, unsnatted, where_room, with_port}
 use Rattle.net_router.specs.Translation.Changed.{Onward, Stopped}
 use Rattle.net_rows.proofs.Elements.{Contains-from_filter, one_first, one_later, one_of, one_of_none}
 use Rattle.net_rows.proofs.Sound.{each_passes}
@@ -129,9 +130,12 @@ module _ (out : ℕ) (a b : Values) (it : StandsFor out a b) where
   same_backend : (v : Vip) → backend_for a v ≡ backend_for b v
   same_backend v = λ i. slice_get v.backends (balance (same_tuple out a b it i) (length v.backends))
 
+  pub same_balanced : (lbs : List Lb) → balanced_tuple lbs a ≡ balanced_tuple lbs b
+  same_balanced lbs = λ i. option_map (λ (backend : Backend). with_destination backend.addr backend.port (same_tuple out a b it i)) (option_and_then (λ (v : Vip). same_backend v i) (same_vip lbs i))
+
   pub same_new_tuple : (net : Network) (router : ObjId) → new_tuple net router a ≡ new_tuple net router b
   same_new_tuple net router = λ i.
-      either (option_map (λ (backend : Backend). with_destination backend.addr backend.port (same_tuple out a b it i)) (option_and_then (λ (v : Vip). same_backend v i) (same_vip (lbs_of net router) i)))
+      either (same_balanced (lbs_of net router) i)
       (option_map (λ (nat : Nat). with_destination nat.logical.base None (same_tuple out a b it i)) (find (λ (nat : Nat). not (is_snat nat.kind) && (nat.external.0 == same_dst i)) (nats_of net router)))
 
   pub same_source_rule : (net : Network) (router : ObjId) → source_rule net router a ≡ source_rule net router b
@@ -218,25 +222,23 @@ service_is : (port : Option ℕ) → IsTrue (readable.is_service port) → (n : 
 service_is None is n at = absurd (none-some n at)
 service_is (Some m) is n at = subst (λ k. k < 2 ^ 16) (same_Some m n at) (ltb-true m 65536 (and_parts (nat_lt 0 m) (nat_lt m 65536) is).1)
 
-module _ (net : Network) (sound : IsSound net) (router : ObjId) where
-  of_router : (nat : Nat) → Contains (nats_of net router) nat → Contains net.nats nat
-  of_router nat there = Contains-from_filter (λ (n : Nat). same router n.router) net.nats nat there
-
-  -- a VIP of a load balancer of the router
-  vip_there : (packet : Values) (v : Vip) → vip (lbs_of net router) packet ≡ Some v → (lb : Lb) × Contains net.lbs lb × Contains lb.vips v
-  vip_there packet v = by (slice_get (filter_map (vip_of_port packet) (lbs_of net router)) 0) refl (slice_get (filter_map (vip_for_all packet) (lbs_of net router)) 0) refl
+-- a load balancer of the network, of which these are some
+module _ (net : Network) (sound : IsSound net) (lbs : List Lb) (of_net : (lb : Lb) → Contains lbs lb → Contains net.lbs lb) where
+  -- a VIP of one of them
+  vip_there : (packet : Values) (v : Vip) → vip lbs packet ≡ Some v → (lb : Lb) × Contains net.lbs lb × Contains lb.vips v
+  vip_there packet v = by (slice_get (filter_map (vip_of_port packet) lbs) 0) refl (slice_get (filter_map (vip_for_all packet) lbs) 0) refl
     where
-      of_lb : (p : Vip → Bool) (lb : Lb) → Contains (lbs_of net router) lb → find p lb.vips ≡ Some v → (l : Lb) × Contains net.lbs l × Contains l.vips v
-      of_lb p lb there found = (lb, Contains-from_filter (is_attached net router) net.lbs lb there, (found_there p v lb.vips found).0)
+      of_its_lb : (p : Vip → Bool) (lb : Lb) → Contains lbs lb → find p lb.vips ≡ Some v → (l : Lb) × Contains net.lbs l × Contains l.vips v
+      of_its_lb p lb there found = (lb, of_net lb there, (found_there p v lb.vips found).0)
 
-      by : (of_port : Option Vip) → slice_get (filter_map (vip_of_port packet) (lbs_of net router)) 0 ≡ of_port → (for_all : Option Vip) → slice_get (filter_map (vip_for_all packet) (lbs_of net router)) 0 ≡ for_all
+      by : (of_port : Option Vip) → slice_get (filter_map (vip_of_port packet) lbs) 0 ≡ of_port → (for_all : Option Vip) → slice_get (filter_map (vip_for_all packet) lbs) 0 ≡ for_all
           → either of_port for_all ≡ Some v → (l : Lb) × Contains net.lbs l × Contains l.vips v
       by (Some w) first for_all later is =
-          let at = first_found (vip_of_port packet) (lbs_of net router) v (first ∙ is) in
-          of_lb (λ (u : Vip). is_to packet u && is_to_port at.0.proto packet u.at.port) at.0 at.1 at.2
+          let at = first_found (vip_of_port packet) lbs v (first ∙ is) in
+          of_its_lb (λ (u : Vip). is_to packet u && is_to_port at.0.proto packet u.at.port) at.0 at.1 at.2
       by None first for_all later is =
-          let at = first_found (vip_for_all packet) (lbs_of net router) v (later ∙ is) in
-          of_lb (λ (u : Vip). is_to packet u && is_for_all u.at.port) at.0 at.1 at.2
+          let at = first_found (vip_for_all packet) lbs v (later ∙ is) in
+          of_its_lb (λ (u : Vip). is_to packet u && is_for_all u.at.port) at.0 at.1 at.2
 
   -- a backend of a VIP has an address, and a port
   backend_is : (lb : Lb) (v : Vip) (backend : Backend) → Contains net.lbs lb → Contains lb.vips v → Contains v.backends backend → IsTrue (readable.is_ip4 backend.addr) × IsTrue (readable.is_service backend.port)
@@ -249,19 +251,27 @@ module _ (net : Network) (sound : IsSound net) (router : ObjId) where
       and_parts (readable.is_ip4 backend.addr) (readable.is_service backend.port)
       (and_parts (readable.is_ip4 backend.addr && readable.is_service backend.port) (readable.same_truth (is_some backend.port) (is_some v.at.port)) each).0
 
-  module _ (packet : Values) (formed : IsPacket packet) where
-    by_vip : (v : Option Vip) → vip (lbs_of net router) packet ≡ v → (t : Tuple) → option_map (λ (backend : Backend). with_destination backend.addr backend.port (tuple packet)) (option_and_then (backend_for packet) v) ≡ Some t → IsTuple t
-    by_vip None none t is = absurd (none-some t is)
-    by_vip (Some v) at t is = by (backend_for packet v) refl is
-      where
-        by : (found : Option Backend) → backend_for packet v ≡ found → option_map (λ (backend : Backend). with_destination backend.addr backend.port (tuple packet)) found ≡ Some t → IsTuple t
-        by None none same_one = absurd (none-some t same_one)
-        by (Some backend) there same_one =
-            let of = vip_there packet v at in
-            let good = backend_is of.0 v backend of.1 of.2 (at_there v.backends (balance (tuple packet) (length v.backends)) backend there) in
-            subst IsTuple (same_Some (with_destination backend.addr backend.port (tuple packet)) t same_one)
-            (with_destination_is backend.addr backend.port (tuple packet) (ltb-true backend.addr.0 (2 ^ 32) good.0) (service_is backend.port good.1) (tuple_is packet formed))
+  -- the tuple of a packet that goes to a backend fits
+  pub balanced_is : (packet : Values) → IsPacket packet → (t : Tuple) → balanced_tuple lbs packet ≡ Some t → IsTuple t
+  balanced_is packet formed t = by_vip (vip lbs packet) refl
+    where
+      by_vip : (v : Option Vip) → vip lbs packet ≡ v → option_map (λ (backend : Backend). with_destination backend.addr backend.port (tuple packet)) (option_and_then (backend_for packet) v) ≡ Some t → IsTuple t
+      by_vip None none is = absurd (none-some t is)
+      by_vip (Some v) at is = by (backend_for packet v) refl is
+        where
+          by : (found : Option Backend) → backend_for packet v ≡ found → option_map (λ (backend : Backend). with_destination backend.addr backend.port (tuple packet)) found ≡ Some t → IsTuple t
+          by None none same_one = absurd (none-some t same_one)
+          by (Some backend) there same_one =
+              let of = vip_there packet v at in
+              let good = backend_is of.0 v backend of.1 of.2 (at_there v.backends (balance (tuple packet) (length v.backends)) backend there) in
+              subst IsTuple (same_Some (with_destination backend.addr backend.port (tuple packet)) t same_one)
+              (with_destination_is backend.addr backend.port (tuple packet) (ltb-true backend.addr.0 (2 ^ 32) good.0) (service_is backend.port good.1) (tuple_is packet formed))
 
+module _ (net : Network) (sound : IsSound net) (router : ObjId) where
+  of_router : (nat : Nat) → Contains (nats_of net router) nat → Contains net.nats nat
+  of_router nat there = Contains-from_filter (λ (n : Nat). same router n.router) net.nats nat there
+
+  module _ (packet : Values) (formed : IsPacket packet) where
     by_rule : (rule : Option Nat) → destination_rule net router packet ≡ rule → (t : Tuple) → option_map (λ (nat : Nat). with_destination nat.logical.base None (tuple packet)) rule ≡ Some t → IsTuple t
     by_rule None none t is = absurd (none-some t is)
     by_rule (Some nat) at t is =
@@ -272,12 +282,15 @@ module _ (net : Network) (sound : IsSound net) (router : ObjId) where
     -- that of a packet which begins a connection fits
     pub new_tuple_is : (t : Tuple) → new_tuple net router packet ≡ Some t → IsTuple t
     new_tuple_is t =
-        by (option_map (λ (backend : Backend). with_destination backend.addr backend.port (tuple packet)) (option_and_then (backend_for packet) (vip (lbs_of net router) packet))) refl
+        by (balanced_tuple (lbs_of net router) packet) refl
         (option_map (λ (nat : Nat). with_destination nat.logical.base None (tuple packet)) (destination_rule net router packet)) refl
       where
-        by : (of_vip : Option Tuple) → option_map (λ (backend : Backend). with_destination backend.addr backend.port (tuple packet)) (option_and_then (backend_for packet) (vip (lbs_of net router) packet)) ≡ of_vip
+        of_net : (lb : Lb) → Contains (lbs_of net router) lb → Contains net.lbs lb
+        of_net lb there = Contains-from_filter (is_attached net router) net.lbs lb there
+
+        by : (of_vip : Option Tuple) → balanced_tuple (lbs_of net router) packet ≡ of_vip
             → (of_rule : Option Tuple) → option_map (λ (nat : Nat). with_destination nat.logical.base None (tuple packet)) (destination_rule net router packet) ≡ of_rule → either of_vip of_rule ≡ Some t → IsTuple t
-        by (Some u) at of_rule by_it is = by_vip (vip (lbs_of net router) packet) refl t (at ∙ is)
+        by (Some u) at of_rule by_it is = balanced_is net sound (lbs_of net router) of_net packet formed t (at ∙ is)
         by None at of_rule by_it is = by_rule (destination_rule net router packet) refl t (by_it ∙ is)
 
     -- the external address of the rule that changes the source fits

@@ -1,19 +1,16 @@
 -- The machine runs the rules of the routers of a network.
-use Rattle.std.proofs.Common.{◌≡◌, ℕ, ◌<◌, ◌^◌, Bool, true, false, cond, List, [], ◌∷◌, length, map, sym, ap, refl, subst, ◌∙◌}
-use Rattle.std.specs.Prelude.{◌==◌, ◌&&◌, ◌||◌, Option, Some, None, is_none, is_some, nat_le, nat_lt}
+use Rattle.std.proofs.Common.{◌≡◌, ℕ, ◌<◌, ◌^◌, Bool, true, false, cond, List, [], ◌∷◌, sym, ap, refl, subst, ◌∙◌}
+use Rattle.std.specs.Prelude.{◌==◌, ◌&&◌, Option, Some, None, is_some, nat_le, nat_lt}
 use Rattle.std.specs.Bool.{IsTrue}
 use Rattle.std.specs.List.{AllByRecursion, Contains, list_all}
-use Rattle.std.proofs.lemmas.Bool.{and_from, and_parts, false≢true, lt-ltb}
+use Rattle.std.proofs.lemmas.Bool.{and_parts, lt-ltb}
 use Rattle.std.proofs.lemmas.Option.{same_Some, none-some}
 use Rattle.nv_base.specs.Block.{Block}
-use Rattle.nv_base.specs.Name.{is_object_name, is_quotable}
+use Rattle.nv_base.specs.Name.{is_quotable}
 use Rattle.nv_base.specs.declared.ip4.Ip4.{Ip4}
 use Rattle.nv_base.specs.declared.object.ObjId.{ObjId}
 use Rattle.expr_core.specs.Lookup.{Lookup}
-use Rattle.act_core.specs.WellFormed.{has_one, have_ports_or_none, is_address, is_port, is_step, is_target, is_well_formed}
-use Rattle.act_core.specs.declared.step.Step.TheVariants.{CtLbTo}
-use Rattle.act_core.specs.declared.step.Target.{Target}
-use Rattle.nb_records.specs.declared.balancer.Backend.{Backend}
+use Rattle.act_core.specs.WellFormed.{is_step, is_well_formed}
 use Rattle.nb_records.specs.declared.balancer.Lb.{Lb}
 use Rattle.nb_records.specs.declared.balancer.Vip.{Vip}
 use Rattle.nb_records.specs.declared.router.Binding.{Binding}
@@ -24,7 +21,7 @@ use Rattle.nb_records.specs.declared.switch.Port.{Port}
 use Rattle.nb_model.specs.Belongs.{is_snat, peer_port, same_block}
 use Rattle.nb_model.specs.Names.{names}
 use Rattle.nb_model.specs.Network.{Network, same}
-use Rattle.nb_model.specs.Readable.{is_backend, is_block, is_frontend, is_ip4, is_logical, is_mac, is_service, is_vip, same_truth}
+use Rattle.nb_model.specs.Readable.{is_block, is_ip4, is_logical, is_mac}
 use Rattle.nb_read.specs.Readings.{cleared}
 use Rattle.nb_model.specs.Sound.{IsSound}
 use Rattle.nb_model.proofs.Readable.{of_binding}
@@ -34,11 +31,14 @@ use Rattle.sb_model.specs.Stage.{all_stages, next_stage, pipeline_of, stage_at}
 use Rattle.sb_model.specs.declared.row.Row.{Row}
 use Rattle.net_router.specs.Routing as meaning
 use Rattle.net_router.specs.Routing.{asking, is_exit}
+use Rattle.net_rows.specs.Build.{vip_input}
+use Rattle.net_rows.specs.LoadBalancers.{balances_to}
+use Rattle.net_rows.specs.declared.inputs.VipInput.{VipInput}
 use Rattle.net_rows.specs.declared.rule.Rule.{Rule}
 use Rattle.net_rows.proofs.Elements.{one_first, one_of_none, Contains-from_filter, Contains-from_map}
 use Rattle.net_rows.proofs.Pairs.{every_member}
 use Rattle.net_rows.proofs.Sound.{each_passes}
-use Rattle.lr_rows.specs.Balancers.{balancing_rule, target_of}
+use Rattle.lr_rows.specs.Balancers.{balancing_rule}
 use Rattle.lr_rows.specs.Make.{arp_rule_for}
 use Rattle.lr_rows.specs.Input.{echo_rule, learning_rule, own_arp_rule, own_source_rule}
 use Rattle.lr_rows.specs.Nat.{router_nat_rules}
@@ -50,10 +50,11 @@ use Rattle.lr_rows.specs.declared.inputs.NatRuleInput.{NatRuleInput}
 use Rattle.lr_rows.specs.declared.inputs.PortInInput.{PortInInput}
 use Rattle.lr_rows.specs.declared.inputs.PortRouteInput.{PortRouteInput}
 use Rattle.lr_rows.specs.declared.inputs.StaticRouteInput.{StaticRouteInput}
-use Rattle.lr_rows.specs.declared.inputs.VipRouterInput.{VipRouterInput}
-use Rattle.lr_units.specs.Units.{binding_input, nat_rule_input, port_in_input, port_route_input, static_route_input, vip_addr_input, vip_router_input}
+use Rattle.lr_units.specs.Units.{binding_input, nat_rule_input, port_in_input, port_route_input, static_route_input, vip_addr_input}
 use Rattle.lr_units.specs.Words.{across, beside, free_addresses, hosts_at, is_beside}
 use Rattle.lr_units.proofs.SoundRouters.{router_port_is_sound}
+use Rattle.ls_laws.proofs.ChosenVips.{vip_is}
+use Rattle.ls_laws.proofs.VipTargets.{balances_formed}
 use Rattle.tr_stage.specs.Machine.{number_of}
 use Rattle.tr_pipe.specs.Runnable.{are_run}
 use Rattle.lr_laws.proofs.Exits.{exit_of, exit-from, exit-none}
@@ -170,63 +171,9 @@ module _ (known : Lookup) where
   unfolding next_stage stage_at all_stages
   redirecting_run input fits = one_run (redirecting_rule input) (rw fits refl)
 
-  balancing_run : (input : VipRouterInput) → is_step (CtLbTo (map target_of input.backends)) ≡ true → IsRun known (balancing_rule input)
+  balancing_run : (input : VipInput) → is_step (balances_to input.backends) ≡ true → IsRun known (balancing_rule input)
   unfolding next_stage stage_at all_stages
   balancing_run input formed = one_run (balancing_rule input) (rw formed refl)
-
--- ---- the backends of a VIP are targets
-
-one_there : (backends : List Backend) → nat_lt 0 (length backends) ≡ true → has_one (map target_of backends) ≡ true
-one_there [] some = absurd (false≢true some)
-one_there (backend ∷ others) some = refl
-
-port_fits : (port : Option ℕ) → is_service port ≡ true → is_port port ≡ true
-port_fits None is = refl
-port_fits (Some port) is = (and_parts (nat_lt 0 port) (nat_lt port 65536) is).1
-
-with_port : (port : Option ℕ) → same_truth (is_some port) true ≡ true → is_some port ≡ true
-with_port None is = absurd (false≢true is)
-with_port (Some port) is = refl
-
-without_port : (port : Option ℕ) → same_truth (is_some port) false ≡ true → is_none port ≡ true
-without_port None is = refl
-without_port (Some port) is = absurd (false≢true is)
-
--- what is asked of each backend
-record IsBackend (has_port : Bool) (backend : Backend) : Type 0 where
-  addr : is_ip4 backend.addr ≡ true
-  port : is_service backend.port ≡ true
-  like_its_vip : same_truth (is_some backend.port) has_port ≡ true
-
-backend_is : (has_port : Bool) (backend : Backend) → is_backend has_port backend ≡ true → IsBackend has_port backend
-backend_is has_port backend is =
-    let last = and_parts (is_ip4 backend.addr && is_service backend.port) (same_truth (is_some backend.port) has_port) is in
-    let both = and_parts (is_ip4 backend.addr) (is_service backend.port) last.0 in
-    record { addr = both.0; port = both.1; like_its_vip = last.1 }
-
--- what holds of the target of each backend holds of all
-all_targets : (has_port : Bool) (p : Target → Bool) → ((backend : Backend) → IsBackend has_port backend → p (target_of backend) ≡ true) → (backends : List Backend) → list_all (is_backend has_port) backends ≡ true
-    → list_all p (map target_of backends) ≡ true
-all_targets has_port p each [] all = refl
-all_targets has_port p each (backend ∷ others) all =
-    let parts = and_parts (is_backend has_port backend) (list_all (is_backend has_port) others) all in
-    and_from (p (target_of backend)) (list_all p (map target_of others)) (each backend (backend_is has_port backend parts.0)) (all_targets has_port p each others parts.1)
-
-ports_or_none : (has_port : Bool) (backends : List Backend) → list_all (is_backend has_port) backends ≡ true → have_ports_or_none (map target_of backends) ≡ true
-ports_or_none true backends all = ap (λ b. b || list_all (λ t. is_none t.port) (map target_of backends)) (all_targets true (λ t. is_some t.port) (λ backend is. with_port backend.port is.like_its_vip) backends all)
-ports_or_none false backends all =
-    ap (λ b. list_all (λ t. is_some t.port) (map target_of backends) || b) (all_targets false (λ t. is_none t.port) (λ backend is. without_port backend.port is.like_its_vip) backends all)
-    ∙ by (list_all (λ t. is_some t.port) (map target_of backends))
-  where
-    by : (b : Bool) → (b || true) ≡ true
-    by true = refl
-    by false = refl
-
-targets_formed : (has_port : Bool) (backends : List Backend) → nat_lt 0 (length backends) ≡ true → list_all (is_backend has_port) backends ≡ true → is_step (CtLbTo (map target_of backends)) ≡ true
-targets_formed has_port backends some all =
-    and_from (has_one (map target_of backends) && list_all is_target (map target_of backends)) (have_ports_or_none (map target_of backends))
-    (and_from (has_one (map target_of backends)) (list_all is_target (map target_of backends)) (one_there backends some)
-    (all_targets has_port is_target (λ backend is. and_from (is_address backend.addr) (is_port backend.port) is.addr (port_fits backend.port is.port)) backends all)) (ports_or_none has_port backends all)
 
 -- the ports across a router port are ports of switches
 across_there : (net : Network) (port : RouterPort) (other : Port) → Contains (across net port) other → Contains net.ports other
@@ -317,16 +264,9 @@ module _ (net : Network) (sound : IsSound net) where
       subst Runs (sym is)
       (redirecting_run (names net) (nat_rule_input nat) (base_fits (is_snat nat.kind) nat.logical (nat_fits nat (Contains-from_filter (λ (n : Nat). same router n.router) net.nats nat own)).1))
 
-  of_vip : (router : ObjId) (lb : Lb) → Contains (lbs_of net router) lb → (vip : Vip) → Contains lb.vips vip → Runs (balancing_rule (vip_router_input lb vip))
+  of_vip : (router : ObjId) (lb : Lb) → Contains (lbs_of net router) lb → (vip : Vip) → Contains lb.vips vip → Runs (balancing_rule (vip_input lb vip))
   of_vip router lb own vip in_lb =
-      let there = Contains-from_filter (is_attached net router) net.lbs lb own in
-      let fits = each_passes (λ (l : Lb). is_object_name l.name && nat_lt 0 (length l.vips) && list_all is_vip l.vips) net.lbs lb sound.readable.lbs there in
-      let vips = (and_parts (is_object_name lb.name && nat_lt 0 (length lb.vips)) (list_all is_vip lb.vips) fits).1 in
-      let is = each_passes is_vip lb.vips vip vips in_lb in
-      let has_port = is_some vip.at.port in
-      let last = and_parts (is_frontend vip.at && nat_lt 0 (length vip.backends)) (list_all (is_backend has_port) vip.backends) is in
-      let some = (and_parts (is_frontend vip.at) (nat_lt 0 (length vip.backends)) last.0).1 in
-      balancing_run (names net) (vip_router_input lb vip) (targets_formed has_port vip.backends some last.1)
+      balancing_run (names net) (vip_input lb vip) (balances_formed vip (vip_is net sound (is_attached net router) lb own vip in_lb))
 
   -- ---- the rows
 
@@ -352,6 +292,6 @@ module _ (net : Network) (sound : IsSound net) where
       said of.says row (of_neighbour_run of.port of.other (across_there net of.port of.other of.across_it) from.0 from.1 of.says (sym from.2)) of.of_stage (ap (λ (r : Row). r.actions) (sym of.is))
   row_runs router row (OfTranslation (OfNat of)) = said of.says row (of_nat router of.nat of.among of.says (nat_rule-gives (nat_rule_input of.nat) of.says of.in_rules)) of.of_stage (ap (λ (r : Row). r.actions) (sym of.is))
   row_runs router row (OfTranslation (OfVip of)) =
-      said of.says row (subst Runs (sym (vip_rule-gives (vip_router_input of.lb of.vip) of.says of.in_rules).is) (of_vip router of.lb of.among of.vip of.in_lb)) of.of_stage (ap (λ (r : Row). r.actions) (sym of.is))
+      said of.says row (subst Runs (sym (vip_rule-gives (vip_input of.lb of.vip) of.says of.in_rules).is) (of_vip router of.lb of.among of.vip of.in_lb)) of.of_stage (ap (λ (r : Row). r.actions) (sym of.is))
   row_runs router row (OfTranslation (OfVipAddr of)) =
       said of.says row (subst Runs (sym (vip_addr_rule-gives (vip_addr_input of.addr) of.says of.in_rules)) (answering_run (names net) of.addr)) of.of_stage (ap (λ (r : Row). r.actions) (sym of.is))

@@ -24,7 +24,7 @@ use Rattle.ct_core.specs.declared.zone.Zone.{Zone}
 use Rattle.ct_core.specs.Changes.{AreConnections, IsEntry, IsTuple}
 use Rattle.ct_core.specs.Entry.{has, tuple_on}
 use Rattle.ct_core.specs.Look.{flags_of, found_at, is_marked, look, quoted, sought, unfound}
-use Rattle.ct_core.specs.Translation.{back, forth, other, translated, translated_at}
+use Rattle.ct_core.specs.Translation.{back, followed, forth, other, translated, translated_at}
 use Rattle.tr_pipe.specs.Tracking.{bit, marked_by}
 use Rattle.tr_pipe.specs.Translating.{Change}
 use Rattle.ls_laws.proofs.Packets.{same_place}
@@ -63,7 +63,7 @@ tuple_numbers true udp t = (Ip4Src, t.src.0) ∷ (Ip4Dst, t.dst.0) ∷ (TcpSrc, 
 tuple_numbers false true t = (Ip4Src, t.src.0) ∷ (Ip4Dst, t.dst.0) ∷ (UdpSrc, t.sport) ∷ (UdpDst, t.dport) ∷ []
 tuple_numbers false false t = (Ip4Src, t.src.0) ∷ (Ip4Dst, t.dst.0) ∷ []
 
-with_tuple_as : (packet : Values) (t : Tuple) → with_tuple packet t ≡ with_values packet (tuple_numbers (meets packet Tcp) (meets packet Udp) t)
+pub with_tuple_as : (packet : Values) (t : Tuple) → with_tuple packet t ≡ with_values packet (tuple_numbers (meets packet Tcp) (meets packet Udp) t)
 with_tuple_as packet t = by (meets packet Tcp) (meets packet Udp)
   where
     by : (tcp udp : Bool)
@@ -75,16 +75,16 @@ with_tuple_as packet t = by (meets packet Tcp) (meets packet Udp)
     by false false = refl
 
 -- the numbers that a packet from an address gets by a connection: an error, a packet of TCP, of UDP, or another
-abbrev numbers_by : Bool → Bool → Bool → ℕ → Tuple → Tuple → List (Field × ℕ)
+abbrev pub numbers_by : Bool → Bool → Bool → ℕ → Tuple → Tuple → List (Field × ℕ)
 numbers_by true tcp udp src own back =
     (Ip4Src, if src == own.src.0 then back.dst.0 else src) ∷ (Ip4Dst, back.src.0)
     ∷ (QuoteProto, back.proto) ∷ (QuoteSrc, back.src.0) ∷ (QuoteSport, back.sport) ∷ (QuoteDst, back.dst.0) ∷ (QuoteDport, back.dport) ∷ []
 numbers_by false tcp udp src own back = tuple_numbers tcp udp (swap back)
 
-abbrev numbers_of : Entry → Side → Values → List (Field × ℕ)
+abbrev pub numbers_of : Entry → Side → Values → List (Field × ℕ)
 numbers_of e side packet = numbers_by (is_icmp_error packet) (meets packet Tcp) (meets packet Udp) (value packet Ip4Src) (tuple_on side e) (tuple_on (other side) e)
 
-translated_as : (e : Entry) (side : Side) (packet : Values) → translated e side packet ≡ with_values packet (numbers_of e side packet)
+pub translated_as : (e : Entry) (side : Side) (packet : Values) → translated e side packet ≡ with_values packet (numbers_of e side packet)
 translated_as e side packet = by (is_icmp_error packet)
   where
     by : (error : Bool)
@@ -112,7 +112,7 @@ numbers_fit true tcp udp src own back fits is = (by (src == own.src.0), (is.src,
     by false = fits
 numbers_fit false tcp udp src own back fits is = tuple_fits tcp udp (swap back) (swap_is back is)
 
-translated_is : (e : Entry) (side : Side) (packet : Values) → IsEntry e → IsPacket packet → IsPacket (translated e side packet)
+pub translated_is : (e : Entry) (side : Side) (packet : Values) → IsEntry e → IsPacket packet → IsPacket (translated e side packet)
 translated_is e side packet of is =
     subst IsPacket (sym (translated_as e side packet))
     (fits_values packet (numbers_of e side packet) is
@@ -164,7 +164,7 @@ numbers_change : (error tcp udp : Bool) (src : ℕ) (own back : Tuple) → AllCh
 numbers_change true tcp udp src own back = (refl, (refl, (refl, (refl, (refl, (refl, (refl, tt)))))))
 numbers_change false tcp udp src own back = tuple_changes tcp udp (swap back)
 
-translated_stays : (e : Entry) (side : Side) (packet : Values) (field : Field) → length packet ≡ field_count → stays field ≡ true → value (translated e side packet) field ≡ value packet field
+pub translated_stays : (e : Entry) (side : Side) (packet : Values) (field : Field) → length packet ≡ field_count → stays field ≡ true → value (translated e side packet) field ≡ value packet field
 translated_stays e side packet field long kept =
     ap (λ (p : Values). value p field) (translated_as e side packet) ∙ changed_value packet (numbers_of e side packet) field long
     ∙ stays_after (numbers_of e side packet) (numbers_change (is_icmp_error packet) (meets packet Tcp) (meets packet Udp) (value packet Ip4Src) (tuple_on side e) (tuple_on (other side) e)) field kept (value packet field)
@@ -301,6 +301,24 @@ of_back = record { formed = formed; leaves = leaves; both = both; begins = λ co
     both conns out a b New it = it
     both conns out a b (Found at Orig related blocked) it = it
     both conns out a b (Found at Reply related blocked) it = at_both conns at Reply out a b it
+
+pub of_followed : IsTranslation followed
+of_followed = record { formed = formed; leaves = leaves; both = both; begins = λ conns packet. refl }
+  where
+    formed : (conns : List Entry) (packet : Values) (found : Look) → AreConnections conns → IsPacket packet → IsPacket (followed conns packet found)
+    formed conns packet Invalid are is = is
+    formed conns packet New are is = is
+    formed conns packet (Found at side related blocked) are is = at_is conns at side packet are is
+
+    leaves : (conns : List Entry) (packet : Values) (found : Look) (field : Field) → length packet ≡ field_count → stays field ≡ true → value (followed conns packet found) field ≡ value packet field
+    leaves conns packet Invalid field long kept = refl
+    leaves conns packet New field long kept = refl
+    leaves conns packet (Found at side related blocked) field long kept = at_stays conns at side packet field long kept
+
+    both : (conns : List Entry) (out : ℕ) (a b : Values) (found : Look) → StandsFor out a b → StandsFor out (followed conns a found) (followed conns b found)
+    both conns out a b Invalid it = it
+    both conns out a b New it = it
+    both conns out a b (Found at side related blocked) it = at_both conns at side out a b it
 
 -- ---- what a look-up notes
 

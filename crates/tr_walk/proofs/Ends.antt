@@ -1,5 +1,4 @@
--- On the rows of a sound network in which no load balancer is attached to a switch each packet comes to an end, on its switches and on its
--- routers.
+-- On the rows of a sound network each packet comes to an end, on its switches and on its routers.
 use Rattle.std.proofs.Common.{◌≡◌, Bool, true, false, List, refl, subst, arith}
 use Rattle.std.specs.Bool.{IsTrue}
 use Rattle.std.specs.List.{Contains}
@@ -27,7 +26,7 @@ use Rattle.sb_model.specs.declared.stage.Stage.TheVariants.{LsInCheckPortSec, Ls
 use Rattle.tr_stage.specs.Machine.{Flows, kind_of}
 use Rattle.tr_stage.specs.Runnable.{TakesEach}
 use Rattle.tr_pipe.specs.Runnable.{IsRunnable, are_run}
-use Rattle.ls_laws.specs.Steps.{BalancesNone, flows_at}
+use Rattle.ls_laws.specs.Steps.{flows_at}
 use Rattle.ls_laws.proofs.RuleStages.{rules_where}
 use Rattle.ls_laws.proofs.Tables.{row_of_switch}
 use Rattle.ls_ct_laws.proofs.RuleRuns.{row_at_switch_runs}
@@ -88,10 +87,10 @@ module _ (net : Network) (switch : Switch) (there : Contains net.switches switch
     takes_each_there : StagesTakeEach (kind_of (flows_at net switch.id)) (flows_at net switch.id)
     takes_each_there stage of_it = switch_takes_each stage (subst (λ kind. IsTrue (is_same_kind (stage_table stage).kind kind)) (is_switch net sound switch there) of_it)
 
-    of_switch : BalancesNone net → EndWell (flows_at net switch.id)
-    of_switch plain = record {
-      formed = All-from_members (λ (row : Row). row.dp ≡ switch.id → IsTrue (is_well_formed row.actions)) (network_rows net) (λ row at of_dp. (row_at_switch_runs net sound plain switch there row at of_dp).0);
-      run = All-from_members (λ (row : Row). row.dp ≡ switch.id → IsTrue (are_run (names net) row.stage row.actions)) (network_rows net) (λ row at of_dp. (row_at_switch_runs net sound plain switch there row at of_dp).1);
+    of_switch : EndWell (flows_at net switch.id)
+    of_switch = record {
+      formed = All-from_members (λ (row : Row). row.dp ≡ switch.id → IsTrue (is_well_formed row.actions)) (network_rows net) (λ row at of_dp. (row_at_switch_runs net sound switch there row at of_dp).0);
+      run = All-from_members (λ (row : Row). row.dp ≡ switch.id → IsTrue (are_run (names net) row.stage row.actions)) (network_rows net) (λ row at of_dp. (row_at_switch_runs net sound switch there row at of_dp).1);
     }
 
 -- the machine may be run where it runs the actions of each row
@@ -109,10 +108,10 @@ router_runs net sound router there ends = record {
   run = ends.run;
 }
 
--- where no switch balances load it runs them all
-pub runnable : (net : Network) → IsSound net → BalancesNone net → AreRunnable net
-runnable net sound plain = record {
-  switches = λ switch there. of_switch net switch there sound plain;
+-- it runs them all
+pub runnable : (net : Network) → IsSound net → AreRunnable net
+runnable net sound = record {
+  switches = λ switch there. of_switch net switch there sound;
   routers = λ router there. of_router (routers.runnable net sound router there);
 }
   where

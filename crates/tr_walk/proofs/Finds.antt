@@ -26,13 +26,15 @@ use Rattle.nb_model.specs.Readable.{is_priority}
 use Rattle.nb_model.specs.Sound.{IsSound}
 use Rattle.nb_model.specs.Applies.{balances, is_empty, tracks}
 use Rattle.net_rows.specs.Acls.{acl_on_rules, ending, port_acl_rules, stage_of, switch_acl_rules, tracked_rules, untracking_rules}
-use Rattle.net_rows.specs.Build.{acl_on_input, acl_rules_of_port, all_rows, has_unknown, is_untracked, port_acl_input, port_l2_input, port_rules, port_sec_input, switch_rules}
+use Rattle.net_rows.specs.Build.{acl_on_input, acl_rules_of_port, all_rows, has_unknown, is_untracked, port_acl_input, port_l2_input, port_rules, port_sec_input, switch_rules, vip_input}
+use Rattle.net_rows.specs.LoadBalancers.{vip_switch_rule, vip_switch_rules}
 use Rattle.net_rows.specs.Lookup.{answers, arp_rules, arp_rules_of, lookup_rule, looked_up, port_l2_rules, requests, switch_l2_rules}
 use Rattle.net_rows.specs.PortSecurity.{closed_rules, disabled_rules, guard_rules, guarded_rules, open_rules, port_sec_rules}
 use Rattle.net_rows.specs.Unit.{rule}
 use Rattle.net_rows.specs.declared.inputs.AclOnInput.{AclOnInput}
 use Rattle.net_rows.specs.declared.inputs.PortL2Input.{PortL2Input}
 use Rattle.net_rows.specs.declared.inputs.PortSecInput.{PortSecInput}
+use Rattle.net_rows.specs.declared.inputs.VipInput.{VipInput}
 use Rattle.net_rows.proofs.Elements.{every_append}
 use Rattle.net_rows.proofs.Pairs.{every_member}
 use Rattle.net_rows.proofs.Units.{IsRow, all_rows-gives}
@@ -199,6 +201,16 @@ module _ (known : Lookup) where
           every_append (Finds known) (flat_map (arp_rules_of input.name) input.addresses) (map (lookup_rule input.name) (looked_up input)) (of_addresses input.name input.addresses)
           (every_image (Finds known) (lookup_rule input.name) (looked_up input) (λ mac. of_lookup input.name mac))
 
+  -- ---- those of VIPs
+
+  of_vip : (input : VipInput) → AllFind known (vip_switch_rules input)
+  unfolding vip_switch_rules
+  of_vip input = by (is_empty input.backends)
+    where
+      by : (b : Bool) → AllFind known (cond b [] (vip_switch_rule input ∷ []))
+      by true = tt
+      by false = (any known _ _ _ _ (λ p. refl), tt)
+
 -- ---- the rows
 
 module _ (net : Network) (sound : IsSound net) where
@@ -223,9 +235,12 @@ module _ (net : Network) (sound : IsSound net) where
       subst (FindsWhatItReads (names net)) at.is (every_member (Finds (names net)) (switch_rules net dp) at.says all at.in_rules).there
   of_row row (inr (inl at)) =
       subst (FindsWhatItReads (names net)) at.is (every_member (Finds (names net)) (port_rules net at.port) at.says (of_port_rules at.port) at.in_rules).there
-  of_row row (inr (inr at)) =
+  of_row row (inr (inr (inl at))) =
       let input = acl_on_input net at.acl at.switch.id in
       subst (FindsWhatItReads (names net)) at.is (every_member (Finds (names net)) (acl_on_rules input) at.says (of_acl (names net) input) at.in_rules).there
+  of_row row (inr (inr (inr at))) =
+      let input = vip_input at.lb at.vip in
+      subst (FindsWhatItReads (names net)) at.is (every_member (Finds (names net)) (vip_switch_rules input) at.says (of_vip (names net) input) at.in_rules).there
 
   -- a row is of a switch or of a router
   pub find : FindWhatTheyRead net

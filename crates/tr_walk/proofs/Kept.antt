@@ -21,7 +21,7 @@ use Rattle.nb_model.specs.Sound.{IsSound}
 use Rattle.ct_core.specs.State.{State}
 use Rattle.net_meaning.specs.AclVerdict.{Decision}
 use Rattle.net_meaning.specs.AclVerdict.Decision.{Allowed, Dropped, Rejected, Full}
-use Rattle.net_meaning.specs.Tracked.{ruled}
+use Rattle.net_meaning.specs.Tracked.{Ruled, ruled}
 use Rattle.net_meaning.specs.Address.{is_multicast}
 use Rattle.net_meaning.specs.Guards.{is_let_in, is_let_out}
 use Rattle.nb_model.specs.Ports.{is_open, takes_unknown}
@@ -35,9 +35,12 @@ use Rattle.net_walks.specs.Alike.{ArePackets, IsClean, IsInside, IsKept, IsPort,
 use Rattle.net_rows.proofs.Elements.{one_first, one_later}
 use Rattle.pkt_core.proofs.Only.{only_value}
 use Rattle.net_rows.proofs.Sound.{port_of_sound}
+use Rattle.tr_router.specs.Parts.{IsState}
+use Rattle.tr_router.proofs.Changed.{KeepsRest}
 use Rattle.tr_walk.specs.Refined.{IsFresh}
 use Rattle.tr_walk.proofs.NetworkPorts.{find_gives, its_port, number_fits, other_side}
 use Rattle.tr_walk.proofs.Formed.{Fit, Others, fits_values, other_values, started, started_inport, replied, replied_inport, rejection_is, rejection_inport}
+use Rattle.tr_walk.proofs.States.{ruled_left}
 use Rattle.ls_laws.proofs.Packets.{set_value, other_value, fits_with, fits_only}
 
 -- ---- what a packet carries
@@ -199,13 +202,6 @@ module _ (net : Network) where
         by true = answered_kept arrival at (answering net arrival.switch (value packet ArpTpa)) (λ port found. (find_gives (is_answering arrival.switch (value packet ArpTpa)) net.ports port found).0)
         by false = sent_kept arrival.switch
 
-    pub arriving_kept : (arrival : Port) (state : State) → Contains net.ports arrival → IsKept net (Some (carrying (arriving_at net arrival packet state).passed))
-    arriving_kept arrival state at = by (is_let_in arrival packet)
-      where
-        by : (b : Bool) → IsKept net (Some (carrying (cond b (after_acls (ruled net From arrival packet state) packet (asked net arrival packet)) (record { passed = Drops PortSec; state = state })).passed))
-        by true = decided_kept (ruled net From arrival packet state).what (asked net arrival packet) (asked_kept arrival at)
-        by false = tt
-
     -- ---- what leaves
 
     pub let_out_kept : (port : Port) → Contains net.ports port → IsKept net (Some (carrying (let_out port packet)))
@@ -215,8 +211,32 @@ module _ (net : Network) where
         by true = (its_port net port there, inside packet is from)
         by false = tt
 
-    pub leaving_kept : (port : Port) (state : State) → Contains net.ports port → IsKept net (Some (carrying (leaving_by net port packet state).passed))
-    leaving_kept port state there = decided_kept (ruled net To port packet state).what (let_out port packet) (let_out_kept port there)
+  -- ---- what ACLs and load balancers leave
+
+  module _ (sound : IsSound net) (packet : Values) (is : IsPacket packet) (from : IsPort net (record { 0 = value packet Inport })) (port : Port) (there : Contains net.ports port) (state : State) (are : IsState state) where
+    -- it came in by the same port
+    still_from : (k : Values) → KeepsRest packet k → IsPort net (record { 0 = value k Inport })
+    still_from k rest = subst (λ n. IsPort net (record { 0 = n })) (sym (rest Inport refl)) from
+
+    pub arriving_kept : IsKept net (Some (carrying (arriving_at net port packet state).passed))
+    arriving_kept = by (is_let_in port packet)
+      where
+        ruling : Ruled
+        ruling = ruled net From port packet state
+
+        by : (b : Bool) → IsKept net (Some (carrying (cond b (after_acls ruling (asked net port)) (record { passed = Drops PortSec; state = state })).passed))
+        by true =
+            let left = ruled_left net sound port there packet state is are From in
+            let its = still_from ruling.packet left.rest in
+            decided_kept sound ruling.packet left.is its ruling.what (asked net port ruling.packet) (asked_kept sound ruling.packet left.is its port there)
+        by false = tt
+
+    pub leaving_kept : IsKept net (Some (carrying (leaving_by net port packet state).passed))
+    leaving_kept =
+        let ruling = ruled net To port packet state in
+        let left = ruled_left net sound port there packet state is are To in
+        let its = still_from ruling.packet left.rest in
+        decided_kept sound ruling.packet left.is its ruling.what (let_out port ruling.packet) (let_out_kept sound ruling.packet left.is its port there)
 
 -- ---- packets at ports
 

@@ -3,6 +3,7 @@ pub mod Carried
 pub mod Datapaths
 pub mod Ends
 pub mod Finds
+pub mod Followed
 pub mod Formed
 pub mod Hits
 pub mod Kept

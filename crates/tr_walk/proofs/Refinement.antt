@@ -18,7 +18,6 @@ use Rattle.net_router.specs.Meaning.{at_port, direct_parts, meaning}
 use Rattle.net_router.specs.Routers as routers
 use Rattle.net_walks.specs.Alike.{Agree, IsClean, IsInside, IsKept, IsPort, SamePart, SameParts}
 use Rattle.net_walks.proofs.Congruence.{walks_agree}
-use Rattle.ls_laws.specs.Steps.{BalancesNone}
 use Rattle.tr_stage.specs.declared.outcome.Hit.{Hit}
 use Rattle.tr_router.specs.Parts.{DoArrive, DoLeave, DoLeaveLate, IsState}
 use Rattle.tr_router.proofs.Egress.{do_leave, do_leave_late}
@@ -35,7 +34,7 @@ use Rattle.tr_walk.proofs.NetworkPorts.{OfRouter, OfSwitch, on_switch, switch_po
 use Rattle.tr_walk.proofs.Parts as parts
 use Rattle.tr_walk.proofs.RouterParts.{arrives_same, late_same, leaves_same}
 
-module _ (net : Network) (sound : IsSound net) (plain : BalancesNone net) where
+module _ (net : Network) (sound : IsSound net) where
   abbrev Same : Part Hit State → Part (Unit {0}) State → Type 0
   Same part other = SamePart net IsState part other
 
@@ -74,8 +73,8 @@ module _ (net : Network) (sound : IsSound net) (plain : BalancesNone net) where
           by : OfSwitch net number ⊎ OfRouter net number → Arrives number
           by (inl own) =
               subst Arrives own.is
-              (λ from. same_at (arriving_at net) (routers.arriving_at net) own.port packet state own.among _ (of_ingress own.port packet state own.among formed (is_fresh packet clean) from)
-              (arriving_kept net sound packet formed (came_by own.port.id packet (subst (IsPort net) (sym own.is) is) from) own.port state own.among) (arriving_state net sound own.port own.among packet state formed are))
+              (λ from. same_at (arriving_at net) (routers.arriving_at net) own.port packet state own.among _ (of_ingress own.port packet state own.among are formed (is_fresh packet clean) from)
+              (arriving_kept net sound packet formed (came_by own.port.id packet (subst (IsPort net) (sym own.is) is) from) own.port own.among state are) (arriving_state net sound own.port own.among packet state formed are))
           by (inr own) =
               subst Arrives own.is
               (λ from. arrives_same net sound own.port own.among packet state are formed arrive (is_fresh packet clean).flags from (came_by own.port.id packet (subst (IsPort net) (sym own.is) is) from))
@@ -90,8 +89,8 @@ module _ (net : Network) (sound : IsSound net) (plain : BalancesNone net) where
             by : OfSwitch net number ⊎ OfRouter net number → Leaves number
             by (inl own) =
                 subst Leaves own.is
-                (λ to. same_at (leaving_by net) (routers.leaving_by net) own.port packet state own.among _ (of_egress own.port packet state own.among inside.formed (is_fresh packet inside.clean) to)
-                (leaving_kept net sound packet inside.formed inside.by own.port state own.among) (leaving_state net sound own.port own.among packet state inside.formed are))
+                (λ to. same_at (leaving_by net) (routers.leaving_by net) own.port packet state own.among _ (of_egress own.port packet state own.among are inside.formed (is_fresh packet inside.clean) to)
+                (leaving_kept net sound packet inside.formed inside.by own.port own.among state are) (leaving_state net sound own.port own.among packet state inside.formed are))
             by (inr own) = subst Leaves own.is (λ to. leaves_same net sound own.port own.among packet state are inside.formed leave (is_fresh packet inside.clean).flags to inside.by)
 
         abbrev LeavesLate : ObjId → Type 0
@@ -119,13 +118,13 @@ module _ (net : Network) (sound : IsSound net) (plain : BalancesNone net) where
         → Agree IsState (machine net hops arrival packet state) (meaning net hops arrival packet state)
     walks_refined = walks_agree net IsState (pipelines net) (direct_parts net) same_parts (are_packets net sound)
 
--- ---- networks whose switches balance nothing
+-- ---- all sound networks
 
-module _ (net : Network) (sound : IsSound net) (plain : BalancesNone net) where
+module _ (net : Network) (sound : IsSound net) where
   walks_meant : (hops : ℕ) (arrival : ObjId) (packet : Values) (state : State) → IsPort net arrival → IsPacket packet → IsState state
       → Agree IsState (machine net hops arrival packet state) (meaning net hops arrival packet state)
   walks_meant =
-      walks_refined net sound plain (parts.of_ingress net sound plain) (parts.of_egress net sound plain) (parts.of_late net sound plain)
+      walks_refined net sound (parts.of_ingress net sound) (parts.of_egress net sound) (parts.of_late net sound)
       (do_arrive net sound) (do_leave net sound) (do_leave_late net sound)
 
   -- so the rows do what the network means
@@ -141,9 +140,9 @@ module _ (net : Network) (sound : IsSound net) (plain : BalancesNone net) where
 -- and so is what is told of its walks
 pub told_meant : (net : Network) → IsSound net → (hops : ℕ) (port : ObjId) (packet : Values) (minimal : Bool) (trace : Trace) → IsState trace.before → IsPacket packet
     → trace.told ≡ told_only minimal (map event_of (machine net hops port packet trace.before).told)
-    → trace.after ≡ (machine net hops port packet trace.before).state → BalancesNone net → IsMeant net hops port packet trace
-told_meant net sound hops port packet minimal trace are formed told left plain is =
-    let alike = is_refined net sound plain hops port packet trace.before is formed are in
+    → trace.after ≡ (machine net hops port packet trace.before).state → IsMeant net hops port packet trace
+told_meant net sound hops port packet minimal trace are formed told left is =
+    let alike = is_refined net sound hops port packet trace.before is formed are in
     record {
       told = ap without_hits told ∙ same_without minimal (map event_of (machine net hops port packet trace.before).told) ∙ left_out (machine net hops port packet trace.before).told ∙ alike.told;
       left = left ∙ alike.left;

@@ -41,7 +41,7 @@ use Rattle.lr_rows.specs.declared.inputs.PortRouteInput.{PortRouteInput}
 use Rattle.lr_rows.specs.declared.inputs.RouterNatInput.{RouterNatInput}
 use Rattle.lr_rows.specs.declared.inputs.StaticRouteInput.{StaticRouteInput}
 use Rattle.lr_rows.specs.declared.inputs.VipAddrInput.{VipAddrInput}
-use Rattle.lr_rows.specs.declared.inputs.VipRouterInput.{VipRouterInput}
+use Rattle.net_rows.specs.declared.inputs.VipInput.{VipInput}
 use Rattle.lr_units.specs.Build.{router_rows, rows_of}
 use Rattle.lr_units.specs.Units.{binding_units, nat_rule_units, neighbour_units, port_in_units, port_route_units, router_nat_units, router_units, static_route_units, vip_addr_units, vip_router_units}
 use Rattle.lr_units.proofs.Sources.{EachKind, every_of_kind, every_row}
@@ -235,7 +235,7 @@ module _ (known : Lookup) where
       by Dnat = all_find known (translating_rules Dnat input) refl
       by DnatAndSnat = all_find known (translating_rules DnatAndSnat input) refl
 
-  of_vip_router : (input : VipRouterInput) → AllFind known (vip_router_rules input)
+  of_vip_router : (input : VipInput) → AllFind known (vip_router_rules input)
   unfolding vip_router_rules
   of_vip_router input = by (is_empty input.backends)
     where

@@ -75,7 +75,8 @@ module _ (net : Network) (sound : IsSound net) where
   of_row row (inl at) = subst (λ (d : ObjId). 0 < d.0) (ap (λ (r : Row). r.dp) at.is) (of_switch at.switch at.among)
   of_row row (inr (inl at)) =
       let of = switch_there net at.port sound at.among in subst (λ (d : ObjId). 0 < d.0) (of.2 ∙ ap (λ (r : Row). r.dp) at.is) (of_switch of.0 of.1)
-  of_row row (inr (inr at)) =
+  of_row row (inr (inr (inr at))) = subst (λ (d : ObjId). 0 < d.0) (ap (λ (r : Row). r.dp) at.is) (of_switch at.switch at.among)
+  of_row row (inr (inr (inl at))) =
       subst (λ (d : ObjId). 0 < d.0) (ap (λ (r : Row). r.dp) at.is) (of_switch at.switch (Contains-from_filter (λ (s : Switch). applies net s.id at.acl) net.switches at.switch at.applied))
 
   of_router_row : (row : Row) → Contains (router_rows net) row → 0 < row.dp.0

@@ -29,14 +29,15 @@ pub record IsFresh (packet : Values) : Type 0 where
   pub flags : value packet CtState ≡ 0
   pub mark : value packet CtMarkBlocked ≡ 0
 
+-- from each state of numbers that fit
 abbrev pub IsIngress : Network → Type 0
 IsIngress net =
-    (port : Port) (packet : Values) (state : State) → Contains net.ports port → IsPacket packet → IsFresh packet → value packet Inport ≡ port.id.0
+    (port : Port) (packet : Values) (state : State) → Contains net.ports port → IsState state → IsPacket packet → IsFresh packet → value packet Inport ≡ port.id.0
     → DoesPart (ingress net port.id packet state) (arriving_at net port packet state)
 
 abbrev pub IsEgress : Network → Type 0
 IsEgress net =
-    (port : Port) (packet : Values) (state : State) → Contains net.ports port → IsPacket packet → IsFresh packet → value packet Outport ≡ port.id.0
+    (port : Port) (packet : Values) (state : State) → Contains net.ports port → IsState state → IsPacket packet → IsFresh packet → value packet Outport ≡ port.id.0
     → DoesPart (egress net 0 port.id packet state) (leaving_by net port packet state)
 
 abbrev pub IsLate : Network → Type 0

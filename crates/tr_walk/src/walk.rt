@@ -8,7 +8,6 @@ ghost use Rattle.net_meaning.specs.Places.{datapath_at};
 ghost use Rattle.net_meaning.specs.Walk.{carried, told_of};
 ghost use Rattle.net_meaning.specs.Walk.Target.{Ports, Late};
 ghost use Rattle.lr_units.specs.Network.{network_rows};
-ghost use Rattle.ls_laws.specs.Steps.{BalancesNone};
 ghost use Rattle.tr_router.specs.Parts.{IsState};
 ghost use Rattle.tr_walk.specs.Events.{event_of, told_only};
 ghost use Rattle.tr_walk.specs.Machine.{machine, numbered, table_of, target_of};
@@ -53,7 +52,7 @@ pub fn trace(
     ensures events { IfOk result (λ events. events.items ≡ told_only minimal (map event_of (machine records.now hops port packet.now state.old).told)) }
     ensures state { OnOk result (state.new ≡ (machine records.now hops port packet.now state.old).state) }
     ensures same { OnErr result (state.new ≡ state.old) }
-    ensures refinement { IfOk result (λ events. BalancesNone records.now → IsMeant records.now hops port packet.now (record { before = state.old; told = events.items; after = state.new })) }
+    ensures refinement { IfOk result (λ events. IsMeant records.now hops port packet.now (record { before = state.old; told = events.items; after = state.new })) }
 {
     let mut events = Vec::with_capacity(alloc, FEW)?;
     let flows = Flows {

@@ -14,7 +14,6 @@ use Rattle.lr_rows.specs.contracts.inputs.PortRouteInputPartialEq.TheImpl as por
 use Rattle.lr_rows.specs.contracts.inputs.RouterNatInputPartialEq.TheImpl as router_nat_eq
 use Rattle.lr_rows.specs.contracts.inputs.StaticRouteInputPartialEq.TheImpl as static_route_eq
 use Rattle.lr_rows.specs.contracts.inputs.VipAddrInputPartialEq.TheImpl as vip_addr_eq
-use Rattle.lr_rows.specs.contracts.inputs.VipRouterInputPartialEq.TheImpl as vip_router_eq
 
 pub exit : Tells ((exit_eq.ghosts).eq)
 exit a b e =
@@ -106,15 +105,6 @@ nat_rule a b e =
     let same_external : a.external ≡ b.external = tells.address _ _ at2.0 in
     let same_logical : a.logical ≡ b.logical = tells.block _ _ at2.1 in
     λ i. record { dp = same_dp i; kind = same_kind i; external = same_external i; logical = same_logical i }
-
-pub vip_router : Tells ((vip_router_eq.ghosts).eq)
-vip_router a b e =
-    let at0 = and_parts _ _ e in
-    let same_at : a.at ≡ b.at = of_records.frontend _ _ at0.0 in
-    let at1 = and_parts _ _ at0.1 in
-    let same_proto : a.proto ≡ b.proto = of_records.proto _ _ at1.0 in
-    let same_backends : a.backends ≡ b.backends = tells.list _ of_records.backend _ _ at1.1 in
-    λ i. record { at = same_at i; proto = same_proto i; backends = same_backends i }
 
 pub vip_addr : Tells ((vip_addr_eq.ghosts).eq)
 vip_addr a b e =

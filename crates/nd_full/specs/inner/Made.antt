@@ -3,14 +3,16 @@ use Rattle.std.specs.Prelude.{Bool, ◌&&◌, if◌then◌else◌, List, [], ◌
 use Rattle.std.specs.List.{flat_map, list_any}
 use Rattle.nv_base.specs.declared.object.ObjId.{ObjId}
 use Rattle.nb_records.specs.declared.acl.Acl.{Acl}
+use Rattle.nb_records.specs.declared.balancer.Lb.{Lb}
+use Rattle.nb_records.specs.declared.balancer.Vip.{Vip}
 use Rattle.nb_records.specs.declared.switch.Port.{Port}
 use Rattle.nb_records.specs.declared.switch.Switch.{Switch}
 use Rattle.nb_model.specs.Network.{Network}
 use Rattle.nb_model.specs.Applies.{applies, is_related, tracks}
 use Rattle.nb_model.specs.Belongs.{is_to_router}
 use Rattle.net_rows.specs.Acls.{acl_on_rules, port_acl_rules, switch_acl_rules}
-use Rattle.net_rows.specs.Build.{acl_on_rows, port_acl_input, port_l2_input, port_sec_input, switch_rows}
-use Rattle.net_rows.specs.LoadBalancers.{switch_lb_rules}
+use Rattle.net_rows.specs.Build.{acl_on_rows, lb_rows, port_acl_input, port_l2_input, port_sec_input, switch_rows, vip_input}
+use Rattle.net_rows.specs.LoadBalancers.{switch_lb_rules, vip_switch_rules}
 use Rattle.net_rows.specs.Lookup.{port_l2_rules, switch_l2_rules}
 use Rattle.net_rows.specs.PortSecurity.{port_sec_rules, switch_sec_rules}
 use Rattle.net_rows.specs.Unit.{unit_of, unit_of_datapath, unit_rows}
@@ -37,6 +39,14 @@ acl_unit switch tracks acl = unit_rows (unit_of switch acl.id) (acl_on_rules (in
 abbrev pub acl_units : Network → ObjId → Bool → ObjId → List Row
 acl_units net switch tracks owner = flat_map (acl_unit switch tracks) (acls_of net owner)
 
+-- of a VIP on a switch
+abbrev pub vip_unit : ObjId → Lb → Vip → List Row
+vip_unit switch lb vip = unit_rows (unit_of switch lb.id) (vip_switch_rules (vip_input lb vip))
+
+-- of a load balancer on a switch
+abbrev pub balancer_units : ObjId → Lb → List Row
+balancer_units switch lb = flat_map (vip_unit switch lb) lb.vips
+
 -- of a switch
 abbrev pub switch_units : ObjId → SwitchAclInput → SwitchL2Input → List Row
 switch_units switch acl lookup =
@@ -55,7 +65,7 @@ port_units net port =
 
 -- the rows of the datapath of a switch but those of its ports
 abbrev pub rows_at : Network → Switch → List Row
-rows_at net switch = switch_rows net switch ++ flat_map (λ acl. acl_on_rows net acl switch) (filter (applies net switch.id) net.acls)
+rows_at net switch = switch_rows net switch ++ (flat_map (λ acl. acl_on_rows net acl switch) (filter (applies net switch.id) net.acls) ++ lb_rows net switch)
 
 -- all rows of the datapath of a switch
 abbrev pub datapath_rows : Network → Switch → List Row

@@ -23,8 +23,9 @@ use Rattle.lr_rows.specs.Neighbours.{binding_rules, neighbour_rules}
 use Rattle.lr_rows.specs.Routes.{port_route_rules, router_route_rules, static_route_rules}
 use Rattle.lr_rows.specs.declared.inputs.PortInInput.{PortInInput}
 use Rattle.lr_rows.specs.declared.inputs.PortRouteInput.{PortRouteInput}
-use Rattle.lr_units.specs.Units.{binding_input, bindings_of, nat_rule_input, neighbour_input, port_in_input, static_route_input, vip_addr_input, vip_router_input}
+use Rattle.lr_units.specs.Units.{binding_input, bindings_of, nat_rule_input, neighbour_input, port_in_input, static_route_input, vip_addr_input}
 use Rattle.lr_units.specs.Words.{across}
+use Rattle.net_rows.specs.Build.{vip_input}
 
 -- ---- of a router itself
 
@@ -88,7 +89,7 @@ nat_rows nat = said_by (unit_of nat.router nat.id) (nat_rules (nat_rule_input na
 -- of a VIP, and of its address
 unfoldable pub vip_rows : ObjId → Lb → Vip → List Row
 vip_rows router lb vip =
-    said_by (unit_of router lb.id) (vip_router_rules (vip_router_input lb vip)) ++ said_by (unit_of router lb.id) (vip_addr_rules (vip_addr_input vip.at.addr))
+    said_by (unit_of router lb.id) (vip_router_rules (vip_input lb vip)) ++ said_by (unit_of router lb.id) (vip_addr_rules (vip_addr_input vip.at.addr))
 
 abbrev pub balancer_rows : ObjId → Lb → List Row
 balancer_rows router lb = flat_map (vip_rows router lb) lb.vips

@@ -11,6 +11,7 @@ use Rattle.net_rows.specs.contracts.inputs.PortL2InputPartialEq.TheImpl as port_
 use Rattle.net_rows.specs.contracts.inputs.PortSecInputPartialEq.TheImpl as port_sec_eq
 use Rattle.net_rows.specs.contracts.inputs.SwitchAclInputPartialEq.TheImpl as switch_acl_eq
 use Rattle.net_rows.specs.contracts.inputs.SwitchL2InputPartialEq.TheImpl as switch_l2_eq
+use Rattle.net_rows.specs.contracts.inputs.VipInputPartialEq.TheImpl as vip_eq
 
 pub port_sec : Tells ((port_sec_eq.ghosts).eq)
 port_sec a b e =
@@ -69,3 +70,12 @@ port_l2 a b e =
     let same_addresses : a.addresses ≡ b.addresses = tells.list _ of_records.addr _ _ at4.0 in
     let same_peer_mac : a.peer_mac ≡ b.peer_mac = tells.option _ tells.number _ _ at4.1 in
     λ i. record { dp = same_dp i; name = same_name i; enabled = same_enabled i; kind = same_kind i; addresses = same_addresses i; peer_mac = same_peer_mac i }
+
+pub vip : Tells ((vip_eq.ghosts).eq)
+vip a b e =
+    let at0 = and_parts _ _ e in
+    let same_at : a.at ≡ b.at = of_records.frontend _ _ at0.0 in
+    let at1 = and_parts _ _ at0.1 in
+    let same_proto : a.proto ≡ b.proto = of_records.proto _ _ at1.0 in
+    let same_backends : a.backends ≡ b.backends = tells.list _ of_records.backend _ _ at1.1 in
+    λ i. record { at = same_at i; proto = same_proto i; backends = same_backends i }

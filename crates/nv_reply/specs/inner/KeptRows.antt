@@ -3,14 +3,12 @@ use Rattle.std.specs.Prelude.{◌≡◌, List, Option, Some, None}
 use Rattle.sb_model.specs.declared.row.Row.{Row}
 use Rattle.nb_model.specs.Network.{Network}
 use Rattle.nb_model.specs.Sound.{IsSound}
-use Rattle.ls_laws.specs.Steps.{BalancesNone}
 use Rattle.lr_units.specs.Network.{network_rows}
 
--- the rows of the network, which is sound, and in which no load balancer is attached to a switch
+-- the rows of the network, which is sound
 pub record AreRowsOf (rows : List Row) (net : Network) : Type 0 where
   pub built : rows ≡ network_rows net
   pub sound : IsSound net
-  pub none : BalancesNone net
 
 -- rows that are kept are those of the network
 abbrev pub AreKept : Option (List Row) → Network → Type 0

@@ -2,7 +2,9 @@
 ghost use Rattle.std.specs.Prelude.{◌≡◌, IfOk, IfErr, OnOk, length};
 ghost use Rattle.nv_reply.specs.Reply.{reply};
 
-use nv_reply::{Answer, Session, Stop, run_line};
+use nb_cmds::{Line, Query, read_line};
+use nb_store::Records;
+use nv_reply::{Answer, Session, Stop, Unwatched, Watch, run_line, run_query};
 use std::alloc::Global;
 
 /// Runs a line as the program does, appends its reply but for a listing or a trace, and says whether it is refused (not from OVN). `Stop` where
@@ -16,12 +18,50 @@ pub fn run_one(
 ) -> Result<bool, Stop>
     ensures after { OnOk result (session.new ≡ (reply session.old line.now).after) }
 {
+    match answer_one(alloc, session, line, out, &mut Unwatched)? {
+        Answer::Text { refused } => Ok(refused),
+        Answer::Listing(_) | Answer::Trace(_) => Ok(false),
+    }
+}
+
+/// Runs a line as the program does, appends its reply but for a listing or a trace, and answers what there is to put (not from OVN).
+/// `watch` is told of a packet that it traces. `Stop` as for `run_one`.
+pub fn answer_one<W: Watch<Records>>(
+    alloc: Global,
+    session: &mut Session,
+    line: &[u8],
+    out: &mut Vec<u8>,
+    watch: &mut W,
+) -> Result<Answer, Stop>
+    ensures after { OnOk result (session.new ≡ (reply session.old line.now).after) }
+{
     // A line makes no more objects than it has bytes.
     if !session.records().has_room(line.len()) {
         return Err(Stop::InputTooLong);
     }
-    match run_line(alloc, session, line, out)? {
-        Answer::Text { refused } => Ok(refused),
-        Answer::Listing(_) | Answer::Trace(_) => Ok(false),
+    let answer = run_line(alloc, session, line, out, watch)?;
+    Ok(answer)
+}
+
+/// Runs a line as `answer_one` does, but a trace as if it were not minimal: its events have the hits, for who says more of them.
+pub fn answer_whole<W: Watch<Records>>(
+    alloc: Global,
+    session: &mut Session,
+    line: &[u8],
+    out: &mut Vec<u8>,
+    watch: &mut W,
+) -> Result<Answer, Stop>
+    ensures after { OnOk result (session.new ≡ (reply session.old line.now).after) }
+{
+    match read_line(alloc, line) {
+        Ok(Line::Query(Query::Trace { dp, micro, .. })) => {
+            let whole = Query::Trace {
+                minimal: false,
+                dp,
+                micro,
+            };
+            Ok(run_query(alloc, session, whole, out, watch)?)
+        }
+        _ => answer_one(alloc, session, line, out, watch),
     }
 }

@@ -14,7 +14,8 @@ mod strike;
 
 pub use answer::Answer;
 pub use laws::{lines_leave_sound_networks, lines_leave_states_that_fit, refusals_say_so};
-pub use reply::run_line;
+pub use reply::{run_line, run_query};
 pub use session::Session;
 pub use stop::Stop;
+pub use tr_pipe::{Unwatched, Watch};
 pub use tr_walk::Event;

@@ -1,13 +1,13 @@
 //! A refused line, and what is known of it.
 use crate::place::{argument, argument_number, arguments, name_of};
 use crate::sentences::Code;
-use crate::spans::Span;
 use crate::told::Told;
 use nb_cmds::{Line, Task, read_line, task_of};
 use nb_edit::{Verb, option_count};
 use nb_store::Records;
 use nb_words::{Command, LineFault, Word};
 use nv_base::OutOfMemory;
+use nv_excerpt::Span;
 use std::alloc::Global;
 
 /// A refused line, its words and commands, where it has any, and the network that it was run in.

@@ -3,14 +3,14 @@ ghost use Rattle.std.specs.Prelude.{◌≡◌, OnOk, OnErr};
 ghost use Rattle.nv_base.specs.Growth.{GrowsAtEnd};
 
 use crate::case::{Case, match_text, task_in};
-use crate::excerpt::{put_excerpt, put_shown};
 use crate::fields::name_at;
 use crate::marks::{mark_of, place_wanted};
 use crate::near::{near_command, near_field};
+use crate::part::reason_of;
+use crate::pasted::pasted_hint;
 use crate::place::verb_in;
 use crate::sentences::{CAUSES, Cause, Code, KINDS, RULES, SLIPS, WANTED};
 use crate::slips::slip_of;
-use crate::spans::{Span, spans_of};
 use crate::told::{Told, told_by};
 use crate::usage::{put, put_datapath, put_form, put_query, put_what};
 use crate::wanted::wanted_at;
@@ -20,6 +20,7 @@ use nb_store::Records;
 use nb_text::put_switch_acl;
 use nb_words::{Command, LineFault, Word, read_commands, words_of};
 use nv_base::{Items, ObjId, OutOfMemory, put_dec};
+use nv_excerpt::{Span, put_excerpt, put_shown, spans_of};
 use std::alloc::Global;
 
 // Of a word that is told so many columns are shown.
@@ -133,10 +134,10 @@ fn put_heading(out: &mut Vec<u8>, source: Source, told: Told) -> Result<(), OutO
 fn put_case(alloc: Global, out: &mut Vec<u8>, case: &Case) -> Result<(), OutOfMemory> {
     let command = case.command(alloc)?;
     let cause = cause_of(case, command);
-    put_sentence(out, case, command, cause)?;
+    put_sentence(alloc, out, case, command, cause)?;
     put_wanted(alloc, out, case, command, cause)?;
     out.push(b'\n')?;
-    put_excerpt(out, case.line, mark_of(alloc, case, command)?)?;
+    put_excerpt(out, case.line, mark_of(alloc, case, command, cause)?)?;
     put_hint(alloc, out, case, command, cause)
 }
 
@@ -150,6 +151,7 @@ fn cause_of(case: &Case, command: Option<&Command>) -> Option<Cause> {
 
 // The sentence of the code or, where words are wrong, of the cause.
 fn put_sentence(
+    alloc: Global,
     out: &mut Vec<u8>,
     case: &Case,
     command: Option<&Command>,
@@ -161,7 +163,22 @@ fn put_sentence(
             let says = CAUSES.get(cause as usize).copied().unwrap_or("");
             put_filled(out, case, says, number)
         }
-        None => put_filled(out, case, case.told.sentence.says, case.told.number()),
+        None => {
+            let says = sentence_of(alloc, case, command)?;
+            put_filled(out, case, says, case.told.number())
+        }
+    }
+}
+
+// The sentence of the code or, of a word that has no MAC or no address, of the reason.
+fn sentence_of(
+    alloc: Global,
+    case: &Case,
+    command: Option<&Command>,
+) -> Result<&'static str, OutOfMemory> {
+    match case.told.code() {
+        Code::BadMac | Code::BadAddress => reason_of(alloc, case, command),
+        _ => Ok(case.told.sentence.says),
     }
 }
 
@@ -388,6 +405,9 @@ fn put_hint(
     command: Option<&Command>,
     cause: Option<Cause>,
 ) -> Result<(), OutOfMemory> {
+    if let Some(hint) = pasted_hint(case, command, cause) {
+        return put_hint_line(out, "", hint);
+    }
     match slip_of(alloc, case, command, cause)? {
         Some(slip) => match SLIPS.get(slip as usize) {
             Some((_, hint)) => put_hint_line(out, "", hint),

@@ -3,15 +3,15 @@
 #![tactic(auto)]
 
 mod case;
-mod excerpt;
 mod explain;
 mod fields;
 mod marks;
 mod near;
+mod part;
+mod pasted;
 mod place;
 mod sentences;
 mod slips;
-mod spans;
 mod table;
 mod told;
 mod usage;

@@ -1,13 +1,15 @@
 //! The place in a line that a refusal is about.
 use crate::case::{Case, match_number};
 use crate::fields::name_at;
+use crate::part::word_mark;
+use crate::pasted::late_option;
 use crate::place::{argument_number, verb_in};
-use crate::sentences::Code;
-use crate::spans::Span;
+use crate::sentences::{Cause, Code};
 use crate::wrong::wrong_words;
 use nb_edit::{Place, Verb};
 use nb_words::Command;
 use nv_base::{Name, OutOfMemory};
+use nv_excerpt::Span;
 use std::alloc::Global;
 
 // No line has more bytes.
@@ -27,8 +29,8 @@ fn in_match(case: &Case, command: Option<&Command>, place: usize) -> Option<Span
     Some(Span::of_byte(span.place_of(case.line, place)))
 }
 
-// The bytes at this place of a word, so many of them.
-fn in_word(case: &Case, number: usize, place: usize, count: usize) -> Option<Span> {
+/// The bytes at this place of a word, so many of them.
+pub(crate) fn in_word(case: &Case, number: usize, place: usize, count: usize) -> Option<Span> {
     let span = case.span(number)?;
     let last = place.saturating_add(count).saturating_sub(1);
     Some(Span {
@@ -153,16 +155,25 @@ fn name_span(case: &Case, command: Option<&Command>) -> Option<Span> {
     case.span(argument_number(command?, 0).checked_sub(1)?)
 }
 
+// The number of the word that shows why the words are wrong: an option after the name of its command before others.
+fn wrong_number(case: &Case, command: Option<&Command>, cause: Option<Cause>) -> usize {
+    match late_option(command, cause) {
+        Some(number) => number,
+        None => wrong_words(case, command).number,
+    }
+}
+
 /// The bytes of the line that the refusal is about, where the line shows them.
 pub(crate) fn mark_of(
     alloc: Global,
     case: &Case,
     command: Option<&Command>,
+    cause: Option<Cause>,
 ) -> Result<Option<Span>, OutOfMemory> {
     Ok(match case.told.code() {
         Code::NotUtf8 => first_bad_byte(case.line),
         Code::LineTooLong => Some(Span::of_byte(LINE_LIMIT)),
-        Code::WrongWords => case.span(wrong_words(case, command).number),
+        Code::WrongWords => case.span(wrong_number(case, command, cause)),
         Code::Exists => taken_name(alloc, case)?,
         Code::NoSuchObject | Code::WrongKind | Code::NotOnDatapath => {
             old_name(alloc, case, command)?
@@ -171,12 +182,8 @@ pub(crate) fn mark_of(
         Code::MatchType => field_in_match(case, command, case.told.number()),
         Code::BadMicroflow => match_span(case, command),
         Code::Duplicate | Code::Limit => name_span(case, command),
-        Code::UnknownCommand
-        | Code::BadName
-        | Code::BadMac
-        | Code::BadAddress
-        | Code::BadNumber
-        | Code::NotInProfile => case.span(case.told.number()),
+        Code::BadMac | Code::BadAddress | Code::NotInProfile => word_mark(alloc, case, command)?,
+        Code::UnknownCommand | Code::BadName | Code::BadNumber => case.span(case.told.number()),
     })
 }
 

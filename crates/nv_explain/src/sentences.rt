@@ -30,7 +30,7 @@ pub(crate) struct Sentence {
     pub code: Code,
     /// The form of the reply after `refused`.
     pub form: &'static str,
-    /// Exactly where it comes.
+    /// Exactly where it comes. Nothing where there are several causes, which are told apart.
     pub says: &'static str,
     /// The page of the profile that tells more, or none.
     pub page: &'static str,
@@ -71,13 +71,13 @@ pub(crate) static SENTENCES: [Sentence; 18] = [
     Sentence {
         code: Code::BadMac,
         form: "E06 BadMac W",
-        says: "word W has no MAC where one is wanted, or one that is zero or multicast (a member of a set may be multicast)",
+        says: "",
         page: "",
     },
     Sentence {
         code: Code::BadAddress,
         form: "E07 BadAddress W",
-        says: "word W has no address, prefix, VIP, backend or member where one is wanted, or is the next hop 0.0.0.0, or repeats a MAC, an address or, in `lrp-add`, a network of the list",
+        says: "",
         page: "",
     },
     Sentence {

@@ -34,8 +34,13 @@ fn is_comment(case: &Case, cause: Option<Cause>) -> bool {
     }
 }
 
-fn is_long_option(text: &[u8]) -> bool {
-    text.starts_with(b"--") && text.len() > 2 && text != b"--minimal".as_slice()
+// Whether the word is an option that some command takes.
+fn is_known_option(text: &[u8]) -> bool {
+    let name = text.split(|byte| *byte == b'=').next().unwrap_or(text);
+    matches!(
+        name,
+        b"--may-exist" | b"--if-exists" | b"--policy" | b"--type"
+    )
 }
 
 // Whether an option stands after the name of the command.
@@ -51,7 +56,7 @@ fn is_late_option(case: &Case, command: Option<&Command>, cause: Option<Cause>) 
     is_late
         && arguments(command)
             .iter()
-            .any(|word| is_long_option(word.text.as_slice()))
+            .any(|word| is_known_option(word.text.as_slice()))
 }
 
 fn unknown_command(name: &[u8]) -> Option<Slip> {
@@ -89,6 +94,15 @@ fn wrong_keyword(text: &[u8]) -> Option<Slip> {
     }
 }
 
+// Whether an option that ovn-nbctl takes before `acl-add` stands after it.
+fn has_late_acl_option(command: &Command) -> bool {
+    let is_acl = matches!(verb_in(command), Some(Verb::AclAdd));
+    is_acl
+        && arguments(command)
+            .iter()
+            .any(|word| is_acl_option(word.text.as_slice()))
+}
+
 // Whether the backends of a VIP stand in more words than one: an address stands where the protocol may.
 fn has_spaced_backends(command: &Command) -> bool {
     let is_vip = matches!(verb_in(command), Some(Verb::LbAdd));
@@ -101,6 +115,7 @@ fn has_spaced_backends(command: &Command) -> bool {
 fn wrong_word(case: &Case, command: &Command) -> Option<Slip> {
     let wrong = wrong_words(case, Some(command));
     match wrong.cause {
+        Cause::TooMany if has_late_acl_option(command) => Some(Slip::AclOption),
         Cause::TooMany if has_open_match(command) => Some(Slip::UnquotedMatch),
         Cause::TooMany | Cause::Keyword if has_spaced_backends(command) => Some(Slip::BackendWords),
         Cause::Keyword => wrong_keyword(case.text(wrong.number)),

@@ -5,6 +5,8 @@ ghost use Rattle.nv_base.specs.Growth.{GrowsAtEnd};
 use crate::sentences::{CAUSES, Code, KINDS, PLACES, RULES, SENTENCES, SLIPS, Sentence, WANTED};
 use crate::usage::put;
 use nv_base::OutOfMemory;
+use nv_parts::{address_reasons, mac_reasons};
+use nv_pasted::{NamedHint, TableHint, named_hints, option_hints, shell_hints, table_hints};
 use std::alloc::Global;
 
 /// Appends the tables of the sentences, of the rules, and of the slips with their hints, in Markdown. After `OutOfMemory` the bytes
@@ -26,6 +28,7 @@ fn tables(alloc: Global) -> Result<Vec<u8>, OutOfMemory> {
     put_wanted(&mut text)?;
     put_places(&mut text)?;
     put_slips(&mut text)?;
+    put_pasted(&mut text)?;
     Ok(text)
 }
 
@@ -64,7 +67,9 @@ fn put_sentences(out: &mut Vec<u8>) -> Result<(), OutOfMemory> {
 
 fn put_says(out: &mut Vec<u8>, sentence: &Sentence) -> Result<(), OutOfMemory> {
     match sentence.code {
-        Code::WrongWords => put_causes(out),
+        Code::WrongWords => put_causes(out, &CAUSES),
+        Code::BadMac => put_causes(out, mac_reasons()),
+        Code::BadAddress => put_causes(out, address_reasons()),
         _ => {
             put_begun(out, sentence.says)?;
             put_page(out, sentence.page)
@@ -84,10 +89,10 @@ fn put_page(out: &mut Vec<u8>, page: &str) -> Result<(), OutOfMemory> {
     put(out, ".md))")
 }
 
-// All causes of `E04`.
-fn put_causes(out: &mut Vec<u8>) -> Result<(), OutOfMemory> {
+// All causes of a code.
+fn put_causes(out: &mut Vec<u8>, causes: &[&str]) -> Result<(), OutOfMemory> {
     let mut is_first = true;
-    for cause in &CAUSES {
+    for cause in causes {
         if is_first {
             put_begun(out, cause)?;
         } else {
@@ -152,5 +157,50 @@ fn put_slips(out: &mut Vec<u8>) -> Result<(), OutOfMemory> {
     for (slip, hint) in &SLIPS {
         put_row(out, slip, hint)?;
     }
+    for row in shell_hints() {
+        put_row(out, row.name, row.hint)?;
+    }
     Ok(())
+}
+
+fn put_pasted(out: &mut Vec<u8>) -> Result<(), OutOfMemory> {
+    put(out, "\n| Pasted | Hint |\n|---|---|\n")?;
+    put_named(out, named_hints())?;
+    for row in table_hints() {
+        put_table_hint(out, row)?;
+    }
+    put_named(out, option_hints())
+}
+
+fn put_named(out: &mut Vec<u8>, rows: &[NamedHint]) -> Result<(), OutOfMemory> {
+    for row in rows {
+        put(out, "| `")?;
+        put_cell(out, row.name)?;
+        put(out, "` | ")?;
+        put_begun(out, row.hint)?;
+        put(out, ". |\n")?;
+    }
+    Ok(())
+}
+
+// A command, its table and its column, with dots for those that are not told.
+fn put_table_hint(out: &mut Vec<u8>, row: &TableHint) -> Result<(), OutOfMemory> {
+    put(out, "| `")?;
+    put(out, row.command)?;
+    put(out, " ")?;
+    put(
+        out,
+        if row.table.is_empty() {
+            ".."
+        } else {
+            row.table
+        },
+    )?;
+    if !row.column.is_empty() {
+        put(out, " .. ")?;
+        put(out, row.column)?;
+    }
+    put(out, "` | ")?;
+    put_begun(out, row.hint)?;
+    put(out, ". |\n")
 }

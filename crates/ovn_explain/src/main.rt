@@ -1,6 +1,7 @@
 //! `ovn_explain [NAME]`: reads a script on standard input, runs its lines as `ovn_nd` does, and writes for each refused line why it is
-//! refused, after NAME (`-` where none is given) and the number of the line. Its status is that of the run. `ovn_explain --table` writes
-//! what is said of refusals as a page in Markdown. What it writes is tested, and not proved.
+//! refused, after NAME (`-` where none is given) and the number of the line; and warnings, of lines that were done and do nothing as the
+//! network stands. Its status is that of the run. `ovn_explain --table` writes what is said of refusals as a page in Markdown. What it
+//! writes is tested, and not proved.
 #![tactic(auto)]
 
 mod explain;

@@ -154,11 +154,7 @@ fn put_columns(
 }
 
 /// Appends bytes as they are shown, and three dots in place of what is beyond so many columns.
-pub(crate) fn put_shown(
-    out: &mut Vec<u8>,
-    bytes: &[u8],
-    columns: usize,
-) -> Result<(), OutOfMemory> {
+pub fn put_shown(out: &mut Vec<u8>, bytes: &[u8], columns: usize) -> Result<(), OutOfMemory> {
     let (_, is_cut) = put_columns(out, bytes, 0, columns)?;
     if is_cut {
         out.extend_from_slice(b"...")?;
@@ -202,11 +198,7 @@ fn put_cut(
 }
 
 /// Appends a line, cut around the bytes that are marked where it is long, and below it a caret under the first of them.
-pub(crate) fn put_excerpt(
-    out: &mut Vec<u8>,
-    line: &[u8],
-    mark: Option<Span>,
-) -> Result<(), OutOfMemory> {
+pub fn put_excerpt(out: &mut Vec<u8>, line: &[u8], mark: Option<Span>) -> Result<(), OutOfMemory> {
     let Some(mark) = mark else {
         out.extend_from_slice(b"    ")?;
         put_shown(out, line, COLUMNS)?;

@@ -4,7 +4,7 @@ use std::alloc::Global;
 
 /// Bytes of a line, from a place to before another.
 #[derive(Clone, Copy)]
-pub(crate) struct Span {
+pub struct Span {
     pub start: usize,
     pub end: usize,
 }
@@ -26,7 +26,7 @@ fn quote_after(quote: Option<u8>, byte: u8) -> Option<u8> {
 }
 
 /// Where the words of a line stand, their quotes among them. A quote that is left open ends with the line.
-pub(crate) fn spans_of(alloc: Global, line: &[u8]) -> Result<Vec<Span>, OutOfMemory> {
+pub fn spans_of(alloc: Global, line: &[u8]) -> Result<Vec<Span>, OutOfMemory> {
     let mut spans = Vec::new(alloc);
     let mut begun = None;
     let mut quote = None;
@@ -53,7 +53,7 @@ pub(crate) fn spans_of(alloc: Global, line: &[u8]) -> Result<Vec<Span>, OutOfMem
 
 impl Span {
     /// The span of one byte.
-    pub(crate) fn of_byte(at: usize) -> Span {
+    pub fn of_byte(at: usize) -> Span {
         Span {
             start: at,
             end: at.saturating_add(1),
@@ -61,13 +61,13 @@ impl Span {
     }
 
     /// Its bytes of the line.
-    pub(crate) fn raw<'l>(&self, line: &'l [u8]) -> &'l [u8] {
+    pub fn raw<'l>(&self, line: &'l [u8]) -> &'l [u8] {
         line.get(self.start..self.end).unwrap_or(b"")
     }
 
     /// The place in the line of a byte of the word, as it is without its quotes. At the end of the word it is that of the quote that
     /// ends it, or that after it.
-    pub(crate) fn place_of(&self, line: &[u8], offset: usize) -> usize {
+    pub fn place_of(&self, line: &[u8], offset: usize) -> usize {
         let raw = self.raw(line);
         let mut quote = None;
         let mut left = offset;

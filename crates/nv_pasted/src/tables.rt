@@ -154,7 +154,7 @@ static TABLES: [TableHint; 56] = [
         command: "create",
         table: "Logical_Router_Port",
         column: "",
-        hint: "write lrp-add ROUTER PORT MAC NETWORK...",
+        hint: "write lrp-add ROUTER PORT MAC NETWORK..., with its networks",
     },
     TableHint {
         command: "create",

@@ -9,7 +9,11 @@ pub(crate) fn unnamed(named: &Named) -> (&'static str, &'static str) {
     match named {
         Named::Port(_) => (
             "no port has the name ",
-            "mend the name, or add the port by lsp-add: until then no packet is one of it",
+            "mend the name, or add the port by lsp-add: until then no packet has this port",
+        ),
+        Named::Set(name) if name.as_slice().ends_with(b"_ip4") => (
+            "no address set has the name ",
+            "mend the name, or add its port group by pg-add: until then it is empty",
         ),
         Named::Set(_) => (
             "no address set has the name ",

@@ -9,3 +9,4 @@ mod parts;
 mod records;
 
 pub use dump::put_dump;
+pub use parts::put_object;

@@ -77,7 +77,10 @@ fn put_listed(out: &mut Vec<u8>, records: &Records, number: ObjId) -> Result<(),
     Ok(())
 }
 
-fn put_object(out: &mut Vec<u8>, records: &Records, number: ObjId) -> Result<(), OutOfMemory>
+/// Appends the commands that make the switch, router, port, route, NAT rule, load balancer, ACL, set, group or binding of a number, as the
+/// dump has them, or nothing where no object has it (not from OVN; the commands are those of ovn-nbctl(8)). After `OutOfMemory` the bytes
+/// before are first, and a part of the commands may follow.
+pub fn put_object(out: &mut Vec<u8>, records: &Records, number: ObjId) -> Result<(), OutOfMemory>
     ensures ok { OnOk result (out.new.items ≡ out.old.items ++ script (object_edits records.now number)) }
     ensures err { OnErr result (GrowsAtEnd out.old.items out.new.items) }
 {

@@ -14,9 +14,8 @@ use ls_l2::{PortL2, SwitchL2};
 use ls_lb::{SwitchLb, VipSwitch};
 use ls_sec::{PortSec, SwitchSec};
 use nb_records::{Acl, Lb, Vip};
-use net_rows::{
-    PortAclInput, PortL2Input, PortSecInput, SwitchAclInput, SwitchL2Input, UnitMaker, vip_input,
-};
+use nd_maker::UnitMaker;
+use net_rows::{PortAclInput, PortL2Input, PortSecInput, SwitchAclInput, SwitchL2Input, vip_input};
 use nv_base::{ObjId, OutOfMemory};
 use sb_rows::NewRows;
 use std::alloc::Global;

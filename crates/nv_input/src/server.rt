@@ -11,7 +11,7 @@ ghost use Rattle.nv_base.specs.Object.{number_limit};
 use crate::cut::cut_line;
 use nv_base::{ObjId, OutOfMemory};
 use nv_io::{Sink, put_all};
-use nv_reply::{Answer, Event, Session, Stop, run_line};
+use nv_reply::{Answer, Event, Session, Stop, Unwatched, run_line};
 use std::alloc::Global;
 
 // No more bytes of a line are kept: its reply depends on no more.
@@ -54,7 +54,13 @@ impl Server {
             (reply self.old.session self.old.line.items).text) }
     {
         let mut text = Vec::new(alloc);
-        let answer = run_line(alloc, &mut self.session, &self.line, &mut text)?;
+        let answer = run_line(
+            alloc,
+            &mut self.session,
+            &self.line,
+            &mut text,
+            &mut Unwatched,
+        )?;
         self.line.clear();
         match answer {
             Answer::Text { refused } => {

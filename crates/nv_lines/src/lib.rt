@@ -6,8 +6,8 @@ mod line;
 mod script;
 mod status;
 
-pub use line::run_one;
+pub use line::{answer_one, run_one};
 pub use nv_input::Status;
-pub use nv_reply::{Session, Stop};
+pub use nv_reply::{Answer, Session, Stop};
 pub use script::{lines_to_run, read_script};
 pub use status::status_of;

@@ -2,7 +2,8 @@
 ghost use Rattle.std.specs.Prelude.{◌≡◌, IfOk, IfErr, OnOk, length};
 ghost use Rattle.nv_reply.specs.Reply.{reply};
 
-use nv_reply::{Answer, Session, Stop, run_line};
+use nb_store::Records;
+use nv_reply::{Answer, Session, Stop, Unwatched, Watch, run_line};
 use std::alloc::Global;
 
 /// Runs a line as the program does, appends its reply but for a listing or a trace, and says whether it is refused (not from OVN). `Stop` where
@@ -16,12 +17,27 @@ pub fn run_one(
 ) -> Result<bool, Stop>
     ensures after { OnOk result (session.new ≡ (reply session.old line.now).after) }
 {
+    match answer_one(alloc, session, line, out, &mut Unwatched)? {
+        Answer::Text { refused } => Ok(refused),
+        Answer::Listing(_) | Answer::Trace(_) => Ok(false),
+    }
+}
+
+/// Runs a line as the program does, appends its reply but for a listing or a trace, and answers what there is to put (not from OVN).
+/// `watch` is told of a packet that it traces. `Stop` as for `run_one`.
+pub fn answer_one<W: Watch<Records>>(
+    alloc: Global,
+    session: &mut Session,
+    line: &[u8],
+    out: &mut Vec<u8>,
+    watch: &mut W,
+) -> Result<Answer, Stop>
+    ensures after { OnOk result (session.new ≡ (reply session.old line.now).after) }
+{
     // A line makes no more objects than it has bytes.
     if !session.records().has_room(line.len()) {
         return Err(Stop::InputTooLong);
     }
-    match run_line(alloc, session, line, out)? {
-        Answer::Text { refused } => Ok(refused),
-        Answer::Listing(_) | Answer::Trace(_) => Ok(false),
-    }
+    let answer = run_line(alloc, session, line, out, watch)?;
+    Ok(answer)
 }

@@ -17,4 +17,5 @@ pub use laws::{lines_leave_sound_networks, lines_leave_states_that_fit, refusals
 pub use reply::run_line;
 pub use session::Session;
 pub use stop::Stop;
+pub use tr_pipe::{Unwatched, Watch};
 pub use tr_walk::Event;

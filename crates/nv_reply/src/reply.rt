@@ -21,15 +21,17 @@ use nb_words::LineFault;
 use nv_base::{Items, Name, ObjId, OutOfMemory};
 use pkt_micro::Micro;
 use std::alloc::Global;
+use tr_pipe::Watch;
 
-/// Runs a line, and writes its reply, but not a listing or a trace (not from OVN). After `OutOfMemory` nothing is said of the
+/// Runs a line, and writes its reply, but not a listing or a trace (not from OVN). `watch` is told of a packet that it traces. After `OutOfMemory` nothing is said of the
 /// session and of what is written.
 #[tactic(auto, unfolding(crate::specs::Reply::reply))]
-pub fn run_line(
+pub fn run_line<W: Watch<Records>>(
     alloc: Global,
     session: &mut Session,
     line: &[u8],
     out: &mut Vec<u8>,
+    watch: &mut W,
 ) -> Result<Answer, OutOfMemory>
     requires { session.old.network.next + length line.now < number_limit }
     ensures answer { IfOk result (λ answer. IsAnswered (reply session.old line.now) out.old.items out.new.items answer) }
@@ -38,7 +40,7 @@ pub fn run_line(
     match read_line(alloc, line) {
         Ok(Line::Nothing) => Ok(Answer::Text { refused: false }),
         Ok(Line::Edits(edits)) => run_edits(alloc, session, edits, out),
-        Ok(Line::Query(query)) => run_query(alloc, session, query, out),
+        Ok(Line::Query(query)) => run_query(alloc, session, query, out, watch),
         Err(LineFault::Refused(refusal)) => refuse(&refusal, out),
         Err(LineFault::Memory) => Err(OutOfMemory),
     }
@@ -62,11 +64,12 @@ fn run_edits(
     }
 }
 
-fn run_query(
+fn run_query<W: Watch<Records>>(
     alloc: Global,
     session: &mut Session,
     query: Query,
     out: &mut Vec<u8>,
+    watch: &mut W,
 ) -> Result<Answer, OutOfMemory>
     ensures answer { IfOk result (λ answer. IsAnswered (reply_to_query session.old query) out.old.items out.new.items answer) }
     ensures after { OnOk result (session.new ≡ (reply_to_query session.old query).after) }
@@ -74,7 +77,9 @@ fn run_query(
     match query {
         Query::FlowList(None) => Ok(Answer::Listing(None)),
         Query::FlowList(Some(name)) => list_datapath(session, name, out),
-        Query::Trace { minimal, dp, micro } => run_trace(alloc, session, minimal, dp, micro, out),
+        Query::Trace { minimal, dp, micro } => run_trace(
+            alloc, session, minimal, dp, micro, out, watch,
+        ),
         Query::CtList => list_connections(session, out),
         Query::CtFlush => flush_connections(session, out),
         Query::NbrList => list_neighbours(session, out),
@@ -130,20 +135,24 @@ fn dump(session: &Session, out: &mut Vec<u8>) -> Result<Answer, OutOfMemory>
     accept(out)
 }
 
-fn run_trace(
+fn run_trace<W: Watch<Records>>(
     alloc: Global,
     session: &mut Session,
     minimal: bool,
     datapath: Name,
     micro: Micro,
     out: &mut Vec<u8>,
+    watch: &mut W,
 ) -> Result<Answer, OutOfMemory>
     ensures answer { IfOk result (λ answer. IsAnswered (reply_to_query session.old (Query.Trace minimal datapath micro)) out.old.items out.new.items answer) }
     ensures after { OnOk result (session.new ≡ (reply_to_query session.old (Query.Trace minimal datapath micro)).after) }
 {
     let Micro { inport, packet } = micro;
     match traced_port(session.records(), datapath, inport) {
-        Ok(port) => Ok(Answer::Trace(session.trace(alloc, port, &packet, minimal)?)),
+        Ok(port) => {
+            let events = session.trace(alloc, port, &packet, minimal, watch)?;
+            Ok(Answer::Trace(events))
+        }
         Err(refusal) => refuse(&refusal, out),
     }
 }

@@ -33,6 +33,7 @@ use pkt_core::Packet;
 use sb_rows::Rows;
 use std::alloc::Global;
 use std::marker::Model;
+use tr_pipe::Watch;
 use tr_walk::{Event, trace};
 
 /// What a run keeps from line to line: the network, its rows where they were made since it last changed, how many hops a traced packet
@@ -111,14 +112,15 @@ impl Session {
     }
 
     /// What the rows do with a packet that comes in by a port (ovn-trace(8)), without hits where the trace is minimal, from the state that
-    /// earlier packets left; what it leaves is kept. The rows are made where the network has changed, and kept. Where memory runs out the answer is
+    /// earlier packets left; what it leaves is kept. `watch` is told of it as it happens. The rows are made where the network has changed, and kept. Where memory runs out the answer is
     /// `OutOfMemory`, and the session is as before.
-    pub fn trace(
+    pub fn trace<W: Watch<Records>>(
         &mut self,
         alloc: Global,
         port: ObjId,
         packet: &Packet,
         minimal: bool,
+        watch: &mut W,
     ) -> Result<Vec<Event>, OutOfMemory>
         ensures events { IfOk result (λ events. events.items ≡ told_only minimal (traced self.old port packet.now)) }
         ensures after { OnOk result (self.new ≡ after_trace self.old port packet.now) }
@@ -138,6 +140,7 @@ impl Session {
             packet,
             hops,
             minimal,
+            watch,
         )?;
         self.rows = Some(rows);
         Ok(events)

@@ -12,7 +12,7 @@ use nv_base::OutOfMemory;
 use nv_generate::{Line, put_summary, switch_count};
 use nv_input::Opening;
 use nv_options::Options;
-use nv_reply::{Session, run_line};
+use nv_reply::{Session, Unwatched, run_line};
 use std::alloc::Global;
 
 /// What a run begins with, by what its arguments ask for (not from OVN): a new session, or the one that the lines of a generated network
@@ -113,6 +113,6 @@ fn run_one(alloc: Global, line: Line, session: &mut Session) -> Result<(), OutOf
     let mut text = Vec::new(alloc);
     line.put(&mut text)?;
     let mut reply = Vec::new(alloc);
-    run_line(alloc, session, &text, &mut reply)?;
+    run_line(alloc, session, &text, &mut reply, &mut Unwatched)?;
     Ok(())
 }

@@ -8,5 +8,7 @@ mod machine;
 mod moving;
 mod nat;
 mod track;
+mod watch;
 
 pub use machine::run_pipeline;
+pub use watch::{Unwatched, Watch};

@@ -9,6 +9,7 @@ ghost use Rattle.tr_stage.specs.Ending.{with_packet};
 
 use crate::act::run_actions;
 use crate::moving::Moving;
+use crate::watch::Watch;
 use ct_state::Work;
 use expr_core::Env;
 use expr_ports::PortNames;
@@ -23,8 +24,8 @@ use tr_stage::{Ending, Hit, Outcome};
 const STEP_BUDGET: usize = 128;
 
 /// Runs a packet through one pipeline of a datapath, from this table on: appends a hit to `hits` for each row that acted on it, in
-/// order, and changes the state as the rows say. After `OutOfMemory` nothing is said of the hits and the state.
-pub fn run_pipeline<E: PortNames>(
+/// order, and changes the state as the rows say, while `watch` is told of it. After `OutOfMemory` nothing is said of the hits and the state.
+pub fn run_pipeline<E: PortNames, W: Watch<E>>(
     rows: &Rows,
     env: &E,
     dp: ObjId,
@@ -33,6 +34,7 @@ pub fn run_pipeline<E: PortNames>(
     packet: &Packet,
     work: &mut Work,
     hits: &mut Vec<Hit>,
+    watch: &mut W,
 ) -> Result<Outcome, OutOfMemory>
     requires rows { IsRunnable (flows_of rows.now (E.lookup env.now) dp) }
     requires table { IsSome (stage_at (kind_of (flows_of rows.now (E.lookup env.now) dp)) pipeline table) }
@@ -49,6 +51,7 @@ pub fn run_pipeline<E: PortNames>(
         packet: *packet,
         look: None,
     };
+    watch.begin(env, dp, pipeline, packet)?;
     let tables = rows.datapath(dp);
     let mut budget = STEP_BUDGET;
     while budget > 0 {
@@ -58,6 +61,7 @@ pub fn run_pipeline<E: PortNames>(
         };
         hits.push(hit_of(dp, stage, row))?;
         let ending = run_actions(env, dp, stage, row.actions.as_slice(), &mut moving, work)?;
+        watch.act(env, stage, row, &moving.packet, &moving.look, work)?;
         match after(ending, &moving.packet) {
             ControlFlow::Continue(next) => stage = next,
             ControlFlow::Break(outcome) => return Ok(outcome),

@@ -19,7 +19,7 @@ use pkt_core::Packet;
 use sb_model::Pipeline;
 use sb_rows::Rows;
 use std::alloc::Global;
-use tr_pipe::run_pipeline;
+use tr_pipe::{Watch, run_pipeline};
 use tr_stage::{Hit, Outcome};
 
 // For so many hits there is room from the start: as many as most pipelines have.
@@ -36,7 +36,7 @@ pub(crate) struct Flows<'a> {
 
 /// Runs a packet through a pipeline of the datapath of a port, from this table on, and puts its hits after the events. Nothing becomes
 /// of the packet where there is no such port.
-pub(crate) fn run(
+pub(crate) fn run<W: Watch<Records>>(
     flows: Flows<'_>,
     port: ObjId,
     pipeline: Pipeline,
@@ -44,6 +44,7 @@ pub(crate) fn run(
     packet: &Packet,
     work: &mut Work,
     events: &mut Vec<Event>,
+    watch: &mut W,
 ) -> Result<Option<Outcome>, OutOfMemory>
     requires rows { AreRowsOf flows.records.now flows.rows.now }
     requires table { IsSome (stage_at (kind_of (flows_at flows.records.now (datapath_at flows.records.now port))) pipeline table) }
@@ -67,6 +68,7 @@ pub(crate) fn run(
         packet,
         work,
         &mut hits,
+        watch,
     )?;
     tell_hits(flows.minimal, &hits, events)?;
     Ok(Some(outcome))

@@ -27,16 +27,17 @@ use pkt_core::Packet;
 use sb_model::Pipeline;
 use sb_rows::Rows;
 use std::alloc::Global;
+use tr_pipe::Watch;
 use tr_stage::Outcome;
 
 // For so many events there is room from the start: as many as most walks have.
 const FEW: usize = 32;
 
 /// What is told of a packet that comes in by a port and may take so many hops: a hit for each row that acts, unless the trace is minimal,
-/// and what becomes of the packet and of its copies and answers, each to its end before the next (ovn-trace(8)); and the state becomes the one that they leave.
+/// and what becomes of the packet and of its copies and answers, each to its end before the next (ovn-trace(8)); and the state becomes the one that they leave. `watch` is told of it as it happens.
 /// The network is sound, and the rows are its own, whose actions the machine runs, so that each packet comes to an end in them. Where
 /// memory runs out the answer is `OutOfMemory`, and the state is as before.
-pub fn trace(
+pub fn trace<W: Watch<Records>>(
     alloc: Global,
     rows: &Rows,
     records: &Records,
@@ -45,6 +46,7 @@ pub fn trace(
     packet: &Packet,
     hops: u32,
     minimal: bool,
+    watch: &mut W,
 ) -> Result<Vec<Event>, OutOfMemory>
     requires sound { IsSound records.now }
     requires rows { rows.now ≡ network_rows records.now }
@@ -64,7 +66,7 @@ pub fn trace(
     fits_numbers(state);
     fits_its_fields(packet);
     let mut work = Work::begin(alloc, state)?;
-    match enter(flows, hops, port, packet, &mut work, &mut events) {
+    match enter(flows, hops, port, packet, &mut work, &mut events, watch) {
         Ok(()) => {
             work.finish(state);
             Ok(events)
@@ -94,13 +96,14 @@ fn fits_its_fields(packet: &Packet)
 // A packet comes into a datapath by a port.
 #[cycle(walk)]
 #[tactic(auto, using(crate::proofs::Steps::ingress_begins))]
-fn enter(
+fn enter<W: Watch<Records>>(
     flows: Flows<'_>,
     hops: u32,
     arrival: ObjId,
     packet: &Packet,
     work: &mut Work,
     events: &mut Vec<Event>,
+    watch: &mut W,
 ) -> Result<(), OutOfMemory>
     requires { AreRowsOf flows.records.now flows.rows.now }
     ensures told { OnOk result (events.new.items ≡ events.old.items ++ events_of flows.entry.minimal (entering flows.entry.records.now hops work.old.state arrival packet.now)) }
@@ -108,19 +111,29 @@ fn enter(
     ensures back { work.new.back ≡ work.old.back }
 {
     let start = packet.start(arrival);
-    let outcome = run(flows, arrival, Pipeline::Ingress, 0, &start, work, events)?;
-    arrive(flows, hops, arrival, &outcome, work, events)
+    let outcome = run(
+        flows,
+        arrival,
+        Pipeline::Ingress,
+        0,
+        &start,
+        work,
+        events,
+        watch,
+    )?;
+    arrive(flows, hops, arrival, &outcome, work, events, watch)
 }
 
 // What follows ingress.
 #[cycle(walk)]
-fn arrive(
+fn arrive<W: Watch<Records>>(
     flows: Flows<'_>,
     hops: u32,
     arrival: ObjId,
     outcome: &Option<Outcome>,
     work: &mut Work,
     events: &mut Vec<Event>,
+    watch: &mut W,
 ) -> Result<(), OutOfMemory>
     requires { AreRowsOf flows.records.now flows.rows.now }
     ensures told { OnOk result (events.new.items ≡ events.old.items ++ events_of flows.entry.minimal (arriving flows.entry.records.now hops work.old.state arrival outcome.now)) }
@@ -130,18 +143,18 @@ fn arrive(
     match outcome {
         Some(Outcome::Leave(packet, table)) => {
             if *table == 0 {
-                return send(flows, hops, arrival, packet, work, events);
+                return send(flows, hops, arrival, packet, work, events, watch);
             }
             if *table != late_table(flows.records, datapath_at(flows.records, arrival)) {
                 return Ok(());
             }
-            send_late(flows, hops, arrival, packet, work, events)
+            send_late(flows, hops, arrival, packet, work, events, watch)
         }
         Some(Outcome::Made(packet, table, answer)) => {
             if *table != table_of(flows, arrival, *answer) {
                 return Ok(());
             }
-            reply(flows, hops, arrival, *answer, packet, work, events)
+            reply(flows, hops, arrival, *answer, packet, work, events, watch)
         }
         Some(Outcome::Drop(cause)) => {
             events.push(Event::Drop(datapath_at(flows.records, arrival), *cause))?;
@@ -154,13 +167,14 @@ fn arrive(
 // A packet goes to where its `outport` says. None goes back by its own port, unless it is turned back on purpose.
 #[cycle(walk)]
 #[tactic(auto, using(crate::proofs::Steps::egress_begins))]
-fn send(
+fn send<W: Watch<Records>>(
     flows: Flows<'_>,
     hops: u32,
     arrival: ObjId,
     packet: &Packet,
     work: &mut Work,
     events: &mut Vec<Event>,
+    watch: &mut W,
 ) -> Result<(), OutOfMemory>
     requires { AreRowsOf flows.records.now flows.rows.now }
     ensures told { OnOk result (events.new.items ≡ events.old.items
@@ -174,27 +188,30 @@ fn send(
     match group_of(port) {
         Some(group) => {
             let ports = ports_of(flows.alloc, flows.records, dp, group)?;
-            copy(flows, hops, arrival, &ports, &packet, work, events)
+            copy(flows, hops, arrival, &ports, &packet, work, events, watch)
         }
         None => {
             if is_same_port(arrival, port, &packet) {
                 events.push(Event::Drop(dp, Cause::SamePort))?;
                 return Ok(());
             }
-            leave(flows, hops, arrival, port, false, &packet, work, events)
+            leave(
+                flows, hops, arrival, port, false, &packet, work, events, watch,
+            )
         }
     }
 }
 
 // A packet goes late by the one port that its `outport` says.
 #[cycle(walk)]
-fn send_late(
+fn send_late<W: Watch<Records>>(
     flows: Flows<'_>,
     hops: u32,
     arrival: ObjId,
     packet: &Packet,
     work: &mut Work,
     events: &mut Vec<Event>,
+    watch: &mut W,
 ) -> Result<(), OutOfMemory>
     requires { AreRowsOf flows.records.now flows.rows.now }
     ensures told { OnOk result (events.new.items ≡ events.old.items
@@ -209,13 +226,15 @@ fn send_late(
         events.push(Event::Drop(dp, Cause::SamePort))?;
         return Ok(());
     }
-    leave(flows, hops, arrival, port, true, &packet, work, events)
+    leave(
+        flows, hops, arrival, port, true, &packet, work, events, watch,
+    )
 }
 
 // Copies of a packet leave by all ports but the one that it came in by.
 #[cycle(walk)]
 #[tactic(auto, using(crate::proofs::Steps::egress_begins))]
-fn copy(
+fn copy<W: Watch<Records>>(
     flows: Flows<'_>,
     hops: u32,
     arrival: ObjId,
@@ -223,6 +242,7 @@ fn copy(
     packet: &Packet,
     work: &mut Work,
     events: &mut Vec<Event>,
+    watch: &mut W,
 ) -> Result<(), OutOfMemory>
     requires { AreRowsOf flows.records.now flows.rows.now }
     ensures told { OnOk result (events.new.items ≡ events.old.items ++ events_of flows.entry.minimal (sending flows.entry.records.now hops work.old.state arrival (Ports ports.now) packet.now)) }
@@ -233,14 +253,16 @@ fn copy(
         if is_same(*port, arrival) {
             continue;
         }
-        leave(flows, hops, arrival, *port, false, packet, work, events)?;
+        leave(
+            flows, hops, arrival, *port, false, packet, work, events, watch,
+        )?;
     }
     Ok(())
 }
 
 // A packet leaves by a port: by all of egress, or late.
 #[cycle(walk)]
-fn leave(
+fn leave<W: Watch<Records>>(
     flows: Flows<'_>,
     hops: u32,
     arrival: ObjId,
@@ -249,6 +271,7 @@ fn leave(
     packet: &Packet,
     work: &mut Work,
     events: &mut Vec<Event>,
+    watch: &mut W,
 ) -> Result<(), OutOfMemory>
     requires { AreRowsOf flows.records.now flows.rows.now }
     ensures told { OnOk result (events.new.items ≡ events.old.items ++ events_of flows.entry.minimal (leaving flows.entry.records.now hops work.old.state arrival port (egress_table flows.entry.records.now port late) packet.now)) }
@@ -258,13 +281,22 @@ fn leave(
     let mut packet = *packet;
     packet.set(Field::Outport, u128::from(port.0));
     let table = egress_table(flows.records, port, late);
-    let outcome = run(flows, port, Pipeline::Egress, table, &packet, work, events)?;
-    go_out(flows, hops, arrival, port, &outcome, work, events)
+    let outcome = run(
+        flows,
+        port,
+        Pipeline::Egress,
+        table,
+        &packet,
+        work,
+        events,
+        watch,
+    )?;
+    go_out(flows, hops, arrival, port, &outcome, work, events, watch)
 }
 
 // What follows egress.
 #[cycle(walk)]
-fn go_out(
+fn go_out<W: Watch<Records>>(
     flows: Flows<'_>,
     hops: u32,
     arrival: ObjId,
@@ -272,6 +304,7 @@ fn go_out(
     outcome: &Option<Outcome>,
     work: &mut Work,
     events: &mut Vec<Event>,
+    watch: &mut W,
 ) -> Result<(), OutOfMemory>
     requires { AreRowsOf flows.records.now flows.rows.now }
     ensures told { OnOk result (events.new.items ≡ events.old.items ++ events_of flows.entry.minimal (going_out flows.entry.records.now hops work.old.state arrival port outcome.now)) }
@@ -286,12 +319,13 @@ fn go_out(
             &carried(packet),
             work,
             events,
+            watch,
         ),
         Some(Outcome::Made(packet, table, answer)) => {
             if *table != table_of(flows, port, *answer) {
                 return Ok(());
             }
-            reply(flows, hops, arrival, *answer, packet, work, events)
+            reply(flows, hops, arrival, *answer, packet, work, events, watch)
         }
         Some(Outcome::Drop(cause)) => {
             events.push(Event::Drop(datapath_at(flows.records, port), *cause))?;
@@ -303,13 +337,14 @@ fn go_out(
 
 // A packet is delivered at a port: to a host, with its header fields alone, or over to the peer.
 #[cycle(walk)]
-fn deliver(
+fn deliver<W: Watch<Records>>(
     flows: Flows<'_>,
     hops: u32,
     port: ObjId,
     packet: &Packet,
     work: &mut Work,
     events: &mut Vec<Event>,
+    watch: &mut W,
 ) -> Result<(), OutOfMemory>
     requires { AreRowsOf flows.records.now flows.rows.now }
     ensures told { OnOk result (events.new.items ≡ events.old.items ++ events_of flows.entry.minimal (delivering flows.entry.records.now hops work.old.state port packet.now)) }
@@ -331,14 +366,14 @@ fn deliver(
                 events.push(Event::HopLimit(peer))?;
                 return Ok(());
             }
-            enter(flows, hops - 1, peer, packet, work, events)
+            enter(flows, hops - 1, peer, packet, work, events, watch)
         }
     }
 }
 
 // A packet that was made where one came in by a port leaves by its `outport`.
 #[cycle(walk)]
-fn reply(
+fn reply<W: Watch<Records>>(
     flows: Flows<'_>,
     hops: u32,
     arrival: ObjId,
@@ -346,6 +381,7 @@ fn reply(
     packet: &Packet,
     work: &mut Work,
     events: &mut Vec<Event>,
+    watch: &mut W,
 ) -> Result<(), OutOfMemory>
     requires { AreRowsOf flows.records.now flows.rows.now }
     ensures told { OnOk result (events.new.items ≡ events.old.items ++ events_of flows.entry.minimal (answering flows.entry.records.now hops work.old.state arrival answer packet.now)) }
@@ -368,6 +404,7 @@ fn reply(
         &packet,
         work,
         events,
+        watch,
     )
 }
 

@@ -21,6 +21,9 @@ pub unreachable-requires : goal.unreachable-requires
 unreachable-requires g c =
     none_there _ c.requires.table (ap (λ (k : DatapathKind). stage_at k c.args.pipeline c.args.table) (sym (c.kind_of.ensures c.args.rows.now)) ∙ sym c.at.ensures ∙ c.in_default.is)
 
+pub returns-in_err-begin-clause-runs : goal.returns-in_err-begin-clause-runs
+returns-in_err-begin-clause-runs g c = pipeline_never_stuck _ c.requires.rows _ _ _ _ c.requires.table
+
 pub loop-budget-init : goal.loop-budget-init
 loop-budget-init g c =
     let begins = pipeline_begins (flows_of c.args.rows.now (g.E.Env.lookup c.args.env.now) c.args.dp) c.args.pipeline c.args.table c.args.packet.now c.args.work.now.state c.in-Some.stage
@@ -49,6 +52,9 @@ run_actions-requires-clause-run g c = rw c.as_slice.ensures (acting_run _ c.requ
 
 pub returns-in_err-ending-clause-runs : goal.returns-in_err-ending-clause-runs
 returns-in_err-ending-clause-runs g c = pipeline_never_stuck _ c.requires.rows _ _ _ _ c.requires.table
+
+pub returns-in_err-act-clause-runs : goal.returns-in_err-act-clause-runs
+returns-in_err-act-clause-runs g c = pipeline_never_stuck _ c.requires.rows _ _ _ _ c.requires.table
 
 pub loop-budget-preserved : goal.loop-budget-preserved
 loop-budget-preserved g c =

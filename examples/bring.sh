@@ -1,7 +1,8 @@
-# Writes what a script of ovn-nbctl and ovn-trace asks for, a call a line: bash examples/bring.sh SCRIPT
-# The script is run, with functions in place of these two programs, so its variables and loops are as in the shell. A call whose
-# output it takes, as $(ovn-nbctl create ..), is written too, and gives it nothing. All else in it is run as it stands: leave out
-# what should not be, as ovs-vsctl or ip.
+# Writes what a script of ovn-nbctl, ovn-sbctl and ovn-trace asks for, a call a line:
+#     bash examples/bring.sh SCRIPT
+# The script is run, with functions in place of these programs, so its variables and loops are as in the
+# shell. A call whose output it takes, as $(ovn-nbctl create ..), is written too, and gives it nothing.
+# All else in it is run as it stands: leave out what should not be, as ovs-vsctl or ip.
 shopt -s extglob
 call() {
     local word
@@ -15,5 +16,6 @@ call() {
     done | sed 's/ $/\n/' >&3
 }
 ovn-nbctl() { call "$@"; }
+ovn-sbctl() { call "$@"; }
 ovn-trace() { call trace "$@"; }
 . "$1" 3>&1 >/dev/null

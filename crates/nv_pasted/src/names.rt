@@ -12,7 +12,7 @@ const LEFT_OUT: &str = "there is no Open vSwitch and no chassis here: leave the 
 static NAMES: [NamedHint; 12] = [
     NamedHint {
         name: "ovn-nbctl",
-        hint: "leave ovn-nbctl out: a line begins with the command",
+        hint: "leave ovn-nbctl out: a line begins with the command; docs/from-ovn.md brings a whole script",
     },
     NamedHint {
         name: "ovn-sbctl",

@@ -60,7 +60,7 @@ fn is_late_option(case: &Case, command: Option<&Command>, cause: Option<Cause>) 
 }
 
 fn unknown_command(name: &[u8]) -> Option<Slip> {
-    if name == b"show".as_slice() || name.ends_with(b"-list") {
+    if name == b"show".as_slice() || name.ends_with(b"-list") || name.starts_with(b"lsp-get-") {
         Some(Slip::ShowCommand)
     } else {
         None

@@ -16,7 +16,8 @@ use Rattle.tr_pipe.specs.Tracking.{Flight}
 use Rattle.lr_units.specs.Network.{network_rows}
 use Rattle.lr_laws.specs.Steps.{IsOnRouter, flows_at}
 use Rattle.lr_laws.proofs.Layers.{Fall, IsOfLayer, Layer, Meets, any_holds, first_end, meets_first}
-use Rattle.lr_laws.proofs.Tables.{IsRule, network_rows-in_order, table-gives}
+use Rattle.lr_units.proofs.Whole.{network_in_order}
+use Rattle.lr_laws.proofs.Tables.{IsRule, table-gives}
 
 module _ (net : Network) (router : Router) (flight : Flight) (on : IsOnRouter net router flight.packet) (stage : Stage) where
   -- what a row does with the packet
@@ -50,7 +51,7 @@ module _ (net : Network) (router : Router) (flight : Flight) (on : IsOnRouter ne
     where
       met : Meets (names net) router.id stage flight.packet (network_rows net) does (first_end layers last)
       met =
-          meets_first (names net) router.id stage flight.packet (network_rows net) (network_rows-in_order net) does layers last fall
+          meets_first (names net) router.id stage flight.packet (network_rows net) (network_in_order net) does layers last fall
           (λ row takes. takers row (table-gives net router flight.packet on stage row takes.among takes.in_table) takes.takes)
           (λ l there holds. let own = rows_of l there holds in (own.row, record { among = own.among; in_table = in_table-from router.id stage own.row own.of_dp own.of_stage; takes = own.takes }, own.priority)) any
 
@@ -67,7 +68,7 @@ module _ (net : Network) (router : Router) (flight : Flight) (on : IsOnRouter ne
   step_by_row r there of_dp of_stage takes others = ap (acted (names net) router.id stage flight) at.is ∙ by (others at.row (table-gives net router flight.packet on stage at.row at.among at.in_table) at.takes)
     where
       at : IsMet (names net) router.id stage flight.packet (network_rows net) r
-      at = met (names net) router.id stage flight.packet r (in_table-from router.id stage r of_dp of_stage) takes (network_rows net) (network_rows-in_order net) there
+      at = met (names net) router.id stage flight.packet r (in_table-from router.id stage r of_dp of_stage) takes (network_rows net) (network_in_order net) there
 
       here : (at.row.dp ≡ router.id) × (at.row.stage ≡ stage)
       here = in_table-gives router.id stage at.row at.in_table

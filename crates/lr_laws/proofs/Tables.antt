@@ -1,7 +1,7 @@
 -- What a row of the table of a router and a stage is: what a rule of the router says in that stage, of one of its ports, of one of its static
 -- routes, of a static binding of one of its ports, of a port across one, of a NAT rule of it, or of a load balancer that is attached to it.
-use Rattle.std.proofs.Common.{◌≡◌, Bool, true, List, [], ◌++◌, map, sym, ap, refl, ◌∙◌, subst, ◌⊎◌, inl, inr, arith}
-use Rattle.std.specs.Prelude.{◌↔◌, filter, ⊤}
+use Rattle.std.proofs.Common.{◌≡◌, Bool, true, List, [], ◌++◌, map, sym, ap, refl, ◌∙◌, subst, ◌⊎◌, inl, inr}
+use Rattle.std.specs.Prelude.{filter, ⊤}
 use Rattle.std.specs.List.{Contains, flat_map}
 use Rattle.std.proofs.lemmas.Bool.{eq-eqb, eqb-true}
 use Rattle.std.proofs.lemmas.List.Elements.{Contains-append_left, Contains-append_right, Contains-append_cases}
@@ -23,16 +23,13 @@ use Rattle.nb_model.specs.Sound.{IsSound, router_ids, switch_ids}
 use Rattle.sb_model.specs.declared.row.Row.{Row}
 use Rattle.sb_model.specs.declared.stage.Stage.{Stage}
 use Rattle.sb_rows.specs.Match.{is_in_table}
-use Rattle.sb_rows.specs.Row.{IsInRowOrder}
-use Rattle.sb_rows.proofs.AllAtOnce.{put_rows_ordered}
-use Rattle.sb_rows.proofs.Select.{Contains-from_put_rows, Contains-put_rows_new}
 use Rattle.sb_rows.proofs.Tables.{in_table-gives}
 use Rattle.net_rows.specs.Build.{all_rows, vip_input}
 use Rattle.net_rows.specs.Unit.{row_of, said_by, unit_of, unit_of_datapath}
 use Rattle.net_rows.specs.declared.inputs.VipInput.{VipInput}
 use Rattle.net_rows.specs.declared.rule.Rule.{Rule}
 use Rattle.net_rows.specs.declared.rule.Unit.{Unit}
-use Rattle.net_rows.proofs.Elements.{any_gives, one_of_none, Contains-filter, Contains-from_filter, Contains-flat_map, Contains-from_flat_map, Contains-from_map, Contains-map}
+use Rattle.net_rows.proofs.Elements.{any_gives, Contains-filter, Contains-from_filter, Contains-flat_map, Contains-from_flat_map, Contains-from_map, Contains-map}
 use Rattle.net_rows.proofs.Sound.{each_passes}
 use Rattle.net_rows.proofs.Units.{IsRow, all_rows-gives}
 use Rattle.lr_rows.specs.Input.{port_in_rules, router_in_rules}
@@ -47,6 +44,7 @@ use Rattle.lr_units.specs.Build.{router_rows, rows_of, rows_of_input, rows_of_na
 use Rattle.lr_units.specs.Units.{binding_input, binding_units, bindings_of, has_hosts, nat_rule_input, nat_rule_units, neighbour_input, neighbour_units, port_in_input, port_in_units, port_route_input, port_route_units, router_nat_input, router_nat_units, router_units, static_route_input, static_route_units, vip_addr_input, vip_addr_units, vip_router_units}
 use Rattle.lr_units.specs.Words.{across, addresses_once}
 use Rattle.lr_units.proofs.Numbers.{switch_is_no_router}
+use Rattle.lr_units.proofs.Whole.{network_members}
 use Rattle.nb_router.specs.Vocabulary.{dnats, lbs_of, nats_of}
 use Rattle.ls_laws.proofs.Tables.{filter_passes}
 use Rattle.lr_units.specs.Network.{network_rows}
@@ -60,20 +58,6 @@ own_rules dnats = router_in_rules ++ (router_route_rules ++ router_nat_rules (re
 
 abbrev pub port_rules : Network → RouterPort → List Rule
 port_rules net port = port_in_rules (port_in_input net port) ++ port_route_rules (port_route_input port)
-
--- ---- rows in order
-
-pub network_rows-in_order : (net : Network) → IsInRowOrder (network_rows net)
-unfolding network_rows
-network_rows-in_order net = put_rows_ordered (all_rows net ++ router_rows net) [] (λ k d le lt. absurd (omega arith))
-
-pub network_rows-members : (net : Network) (row : Row) → Contains (network_rows net) row ↔ Contains (all_rows net ++ router_rows net) row
-unfolding network_rows
-network_rows-members net row = (λ there. by (Contains-from_put_rows (all_rows net ++ router_rows net) [] row there), Contains-put_rows_new (all_rows net ++ router_rows net) [] row)
-  where
-    by : Contains [] row ⊎ Contains (all_rows net ++ router_rows net) row → Contains (all_rows net ++ router_rows net) row
-    by (inl none) = absurd (one_of_none row none)
-    by (inr at) = at
 
 -- ---- the rows of a kind of units
 
@@ -421,7 +405,7 @@ module _ (net : Network) (router : Router) (stage : Stage) (row : Row) (of : (ro
 -- each row of a router's table is one of these
 pub table-gives : (net : Network) (router : Router) (packet : _) → IsOnRouter net router packet → (stage : Stage) (row : Row) → Contains (network_rows net) row → is_in_table router.id stage row ≡ true
     → IsRule net router.id stage row
-table-gives net router packet on stage row there in_it = by (Contains-append_cases (all_rows net) (router_rows net) row ((network_rows-members net row).0 there))
+table-gives net router packet on stage row there in_it = by (Contains-append_cases (all_rows net) (router_rows net) row ((network_members net row).0 there))
   where
     of : (row.dp ≡ router.id) × (row.stage ≡ stage)
     of = in_table-gives router.id stage row in_it
@@ -434,7 +418,7 @@ table-gives net router packet on stage row there in_it = by (Contains-append_cas
 
 module _ (net : Network) where
   from_routers : (row : Row) → Contains (router_rows net) row → Contains (network_rows net) row
-  from_routers row there = (network_rows-members net row).1 (Contains-append_right (all_rows net) (router_rows net) row there)
+  from_routers row there = (network_members net row).1 (Contains-append_right (all_rows net) (router_rows net) row there)
 
   from_input : (row : Row) → Contains (rows_of_input net) row → Contains (network_rows net) row
   from_input row there = from_routers row (Contains-append_left (rows_of_input net) (rows_of_routes net ++ rows_of_nat net) row there)

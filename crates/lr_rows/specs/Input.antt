@@ -1,6 +1,6 @@
 -- The rows of admission, of learning neighbours and of input to a router (ovn-northd(8), 'Ingress Table 0: L2 Admission Control',
 -- 'Neighbor learning' and 'IP Input'; stages, registers and priorities are not from OVN).
-use Rattle.std.specs.Prelude.{ℕ, Bool, if◌then◌else◌, List, [], ◌∷◌, ◌++◌, map, Option, Some, None, slice_get}
+use Rattle.std.specs.Prelude.{ℕ, if◌then◌else◌, List, [], ◌∷◌, ◌++◌, map, Option, Some, None, slice_get}
 use Rattle.nv_base.specs.Block.{Block}
 use Rattle.nv_base.specs.declared.field.Field.TheVariants.{Inport, EthSrc, EthDst, IpTtl, Ip4Src, Ip4Dst, ArpOp, ArpSpa, ArpSha, ArpTpa, Icmp4Type, Icmp4Code, Reg6}
 use Rattle.nv_base.specs.declared.ip4.Ip4.{Ip4}
@@ -14,7 +14,6 @@ use Rattle.expr_core.specs.declared.part.Bits.TheVariants.{Bit, Range}
 use Rattle.expr_core.specs.declared.predicate.Pred.TheVariants as is
 use Rattle.expr_core.specs.declared.typed.TypedAtom.{TypedAtom}
 use Rattle.expr_core.specs.declared.typed.TypedAtom.TheVariants.{Compare}
-use Rattle.act_core.specs.declared.action.Action.{Action}
 use Rattle.act_core.specs.declared.action.Action.TheVariants as action
 use Rattle.act_core.specs.declared.step.Step.{Step}
 use Rattle.act_core.specs.declared.step.Step.TheVariants as step

@@ -1,5 +1,5 @@
 -- The matches and actions that rows of routers are made of.
-use Rattle.std.specs.Prelude.{ℕ, true, List, [], ◌∷◌, ◌++◌, map}
+use Rattle.std.specs.Prelude.{true, List, [], ◌∷◌, ◌++◌, map}
 use Rattle.nv_base.specs.Block.{Block}
 use Rattle.nv_base.specs.declared.field.Field.{Field}
 use Rattle.nv_base.specs.declared.field.Field.TheVariants.{EthSrc, EthDst, ArpOp, ArpSpa, ArpSha, ArpTpa, ArpTha, Reg6}

@@ -1,6 +1,6 @@
 -- The rows of network address translation (ovn-northd(8), 'UNSNAT', 'DEFRAG', 'DNAT', 'UNDNAT' and 'SNAT'; stages and priorities are not
 -- from OVN).
-use Rattle.std.specs.Prelude.{ℕ, ◌+◌, Bool, if◌then◌else◌, List, [], ◌∷◌, ◌++◌}
+use Rattle.std.specs.Prelude.{◌+◌, Bool, if◌then◌else◌, List, [], ◌∷◌, ◌++◌}
 use Rattle.nv_base.specs.declared.field.Field.TheVariants.{Ip4Src, Ip4Dst}
 use Rattle.expr_core.specs.Formula.Formula.{Not}
 use Rattle.expr_core.specs.declared.predicate.Pred.TheVariants.{Ip4, CtNew, CtRpl}

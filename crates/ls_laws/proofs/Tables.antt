@@ -20,12 +20,12 @@ use Rattle.nb_model.specs.Applies.{applies, is_empty, is_related, lbs_on, switch
 use Rattle.nb_model.specs.Belongs.{is_among}
 use Rattle.nb_model.specs.Sound.{IsSound, router_ids}
 use Rattle.net_rows.specs.Acls.{acl_on_rules}
-use Rattle.net_rows.specs.Build.{acl_on_input, all_rows, switch_rules, port_rules, rows, vip_input}
+use Rattle.net_rows.specs.Build.{acl_on_input, all_rows, switch_rules, port_rules, vip_input}
 use Rattle.net_rows.specs.LoadBalancers.{vip_switch_rules}
 use Rattle.net_rows.specs.Unit.{unit_of, unit_of_datapath, row_of}
 use Rattle.net_rows.specs.declared.rule.Rule.{Rule}
 use Rattle.net_rows.proofs.Elements.{any_from, any_gives, one_of, one_of_none, Contains-map}
-use Rattle.net_rows.proofs.Units.{IsSwitchRow, IsPortRow, IsAclRow, IsLbRow, IsRow, all_rows-gives, rows-members, rows-switch, rows-port, rows-acl, rows-lb}
+use Rattle.net_rows.proofs.Units.{IsSwitchRow, IsPortRow, IsAclRow, IsLbRow, IsRow, all_rows-gives, rows-switch, rows-port, rows-acl, rows-lb}
 use Rattle.lr_units.specs.Build.{router_rows}
 use Rattle.lr_units.specs.Network.{network_rows}
 use Rattle.lr_units.proofs.Datapaths.{row_on_router}
@@ -186,8 +186,8 @@ module _ (net : Network) (sound : IsSound net) (switch : Switch) (among : Contai
 -- ---- the rows of each rule are there
 
 module _ (net : Network) where
-  in_network : (row : Row) → Contains (rows net) row → Contains (network_rows net) row
-  in_network row there = (network_members net row).1 (Contains-append_left (all_rows net) (router_rows net) row ((rows-members net row).0 there))
+  in_network : (row : Row) → Contains (all_rows net) row → Contains (network_rows net) row
+  in_network row there = (network_members net row).1 (Contains-append_left (all_rows net) (router_rows net) row there)
 
   -- of each switch
   pub row_of_switch : (switch : Switch) (says : Rule) → Contains net.switches switch → Contains (switch_rules net switch.id) says → Contains (network_rows net) (row_of (unit_of_datapath switch.id) says)

@@ -1,6 +1,6 @@
 -- What a switch does with a packet (ovn-architecture(7), ovn-nb(5)). It knows the network's objects alone, and the connections that packets
 -- left.
-use Rattle.std.specs.Prelude.{ℕ, Bool, not, ◌&&◌, ◌==◌, if◌then◌else◌, List, [], ◌∷◌, ◌++◌, map, filter, Option, Some, None, option_map}
+use Rattle.std.specs.Prelude.{ℕ, Bool, not, ◌&&◌, ◌==◌, if◌then◌else◌, List, [], ◌∷◌, ◌++◌, map, filter, Option, Some, None}
 use Rattle.std.specs.List.{find, list_any, flat_map}
 use Rattle.nv_base.specs.declared.ip4.Ip4.{Ip4}
 use Rattle.nv_base.specs.declared.object.ObjId.{ObjId}
@@ -24,9 +24,8 @@ use Rattle.net_meaning.specs.AclVerdict.{Decision}
 use Rattle.net_meaning.specs.AclVerdict.Decision.{Allowed, Dropped, Rejected, Full}
 use Rattle.net_meaning.specs.Address.{is_multicast}
 use Rattle.net_meaning.specs.Guards.{is_let_in, is_let_out}
-use Rattle.net_meaning.specs.Places.{switch_port}
 use Rattle.net_meaning.specs.Tracked.{Ruled, ruled}
-use Rattle.net_meaning.specs.Walk.{Passed, Part, Parts, Walked, walk}
+use Rattle.net_meaning.specs.Walk.{Passed, Part}
 use Rattle.net_meaning.specs.Walk.Passed.{GoesOn, Drops, Makes}
 use Rattle.net_meaning.specs.Walk.Target.{OnePort, Ports}
 use Rattle.net_meaning.specs.declared.answer.Answer.TheVariants.{Reject}
@@ -167,20 +166,9 @@ leaving_by net port packet state = after_acls (ruled net To port packet state) (
 abbrev pub leaving_late : Port → Values → State → Did
 leaving_late port packet state = record { passed = let_out port packet; state = state }
 
--- ---- the direct meaning
+-- ---- a part of the direct meaning
 
--- what is done at a port of a switch, without notes; where there is no such port nothing is
+-- what is done at a port, without notes; where there is no such port nothing is
 abbrev pub part_of : State → Option Did → Part (Unit {0}) State
 part_of state None = record { notes = []; passed = None; state = state }
 part_of state (Some did) = record { notes = []; passed = Some did.passed; state = did.state }
-
-abbrev pub at_port : Network → (Port → Values → State → Did) → ObjId → Values → State → Part (Unit {0}) State
-at_port net does port packet state = part_of state (option_map (λ own. does own packet state) (switch_port net port))
-
--- the parts of the network
-abbrev pub direct_parts : Network → Parts (Unit {0}) State
-direct_parts net = record { arriving = at_port net (arriving_at net); leaving = at_port net (leaving_by net); late = at_port net leaving_late }
-
--- what the network does with a packet that comes in by a port and may take so many hops, from a state on
-abbrev pub meaning : Network → ℕ → ObjId → Values → State → Walked (Unit {0}) State
-meaning net hops port packet state = walk net (direct_parts net) hops port packet state

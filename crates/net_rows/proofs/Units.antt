@@ -1,12 +1,8 @@
--- The rows of a network: those of its units, in row order.
-use Rattle.std.proofs.Common.{◌≡◌, List, [], ◌⊎◌, inl, inr, arith, ◌++◌}
-use Rattle.std.specs.Prelude.{◌↔◌}
+-- The rows of the units of the switches of a network.
+use Rattle.std.proofs.Common.{◌≡◌, List, ◌⊎◌, inl, inr, ◌++◌}
 use Rattle.std.specs.List.{Contains, flat_map}
 use Rattle.std.proofs.lemmas.List.Elements.{Contains-append_left, Contains-append_right, Contains-append_cases}
 use Rattle.sb_model.specs.declared.row.Row.{Row}
-use Rattle.sb_rows.specs.Row.{IsInRowOrder}
-use Rattle.sb_rows.proofs.AllAtOnce.{put_rows_ordered}
-use Rattle.sb_rows.proofs.Select.{Contains-from_put_rows, Contains-put_rows_new}
 use Rattle.nb_records.specs.declared.acl.Acl.{Acl}
 use Rattle.nb_records.specs.declared.balancer.Lb.{Lb}
 use Rattle.nb_records.specs.declared.balancer.Vip.{Vip}
@@ -15,11 +11,11 @@ use Rattle.nb_records.specs.declared.switch.Switch.{Switch}
 use Rattle.nb_model.specs.Applies.{lbs_on, switches_of_acl}
 use Rattle.nb_model.specs.Network.{Network}
 use Rattle.net_rows.specs.Acls.{acl_on_rules}
-use Rattle.net_rows.specs.Build.{acl_on_input, switch_rules, port_rules, switch_rows, port_rows, acl_on_rows, acl_rows, lb_on_rows, lb_rows, all_rows, rows, vip_input, vip_on_rows}
+use Rattle.net_rows.specs.Build.{acl_on_input, switch_rules, port_rules, switch_rows, port_rows, acl_on_rows, acl_rows, lb_on_rows, lb_rows, all_rows, vip_input, vip_on_rows}
 use Rattle.net_rows.specs.LoadBalancers.{vip_switch_rules}
 use Rattle.net_rows.specs.Unit.{unit_of, unit_of_datapath, row_of}
 use Rattle.net_rows.specs.declared.rule.Rule.{Rule}
-use Rattle.net_rows.proofs.Elements.{one_of_none, Contains-from_map, Contains-map, Contains-from_flat_map, Contains-flat_map}
+use Rattle.net_rows.proofs.Elements.{Contains-from_map, Contains-map, Contains-from_flat_map, Contains-flat_map}
 
 -- ---- where a row comes from
 
@@ -109,15 +105,6 @@ module _ (net : Network) (row : Row) where
   abbrev of_lbs : List Row
   of_lbs = flat_map (lb_rows net) net.switches
 
-  -- the rows of the units and no others
-  pub rows-members : Contains (rows net) row ↔ Contains (all_rows net) row
-  unfolding rows
-  rows-members = (λ there. by (Contains-from_put_rows (all_rows net) [] row there), Contains-put_rows_new (all_rows net) [] row)
-    where
-      by : Contains [] row ⊎ Contains (all_rows net) row → Contains (all_rows net) row
-      by (inl none) = absurd (one_of_none row none)
-      by (inr at) = at
-
   -- each row comes from a switch, a port, an ACL or a load balancer
   pub all_rows-gives : Contains (all_rows net) row → IsRow net row
   all_rows-gives there = by (Contains-append_cases of_switches (of_ports ++ (of_acls ++ of_lbs)) row there)
@@ -134,34 +121,26 @@ module _ (net : Network) (row : Row) where
       by (inl at) = inl (switch_row at)
       by (inr at) = later (Contains-append_cases of_ports (of_acls ++ of_lbs) row at)
 
-  pub rows-gives : Contains (rows net) row → IsRow net row
-  rows-gives there = all_rows-gives (rows-members.0 there)
-
--- in row order
-pub rows-in_order : (net : Network) → IsInRowOrder (rows net)
-unfolding rows
-rows-in_order net = put_rows_ordered (all_rows net) [] (λ k d le lt. absurd (omega arith))
-
 module _ (net : Network) where
   -- the rows of one part are among those of all
-  switches_there : (row : Row) → Contains (of_switches net row) row → Contains (rows net) row
-  switches_there row at = (rows-members net row).1 (Contains-append_left (of_switches net row) (of_ports net row ++ (of_acls net row ++ of_lbs net row)) row at)
+  switches_there : (row : Row) → Contains (of_switches net row) row → Contains (all_rows net) row
+  switches_there row at = Contains-append_left (of_switches net row) (of_ports net row ++ (of_acls net row ++ of_lbs net row)) row at
 
-  later_there : (row : Row) → Contains (of_ports net row ++ (of_acls net row ++ of_lbs net row)) row → Contains (rows net) row
-  later_there row at = (rows-members net row).1 (Contains-append_right (of_switches net row) (of_ports net row ++ (of_acls net row ++ of_lbs net row)) row at)
+  later_there : (row : Row) → Contains (of_ports net row ++ (of_acls net row ++ of_lbs net row)) row → Contains (all_rows net) row
+  later_there row at = Contains-append_right (of_switches net row) (of_ports net row ++ (of_acls net row ++ of_lbs net row)) row at
 
-  last_there : (row : Row) → Contains (of_acls net row ++ of_lbs net row) row → Contains (rows net) row
+  last_there : (row : Row) → Contains (of_acls net row ++ of_lbs net row) row → Contains (all_rows net) row
   last_there row at = later_there row (Contains-append_right (of_ports net row) (of_acls net row ++ of_lbs net row) row at)
 
   -- each rule of each switch is there
-  pub rows-switch : (switch : Switch) (says : Rule) → Contains net.switches switch → Contains (switch_rules net switch.id) says → Contains (rows net) (row_of (unit_of_datapath switch.id) says)
+  pub rows-switch : (switch : Switch) (says : Rule) → Contains net.switches switch → Contains (switch_rules net switch.id) says → Contains (all_rows net) (row_of (unit_of_datapath switch.id) says)
   unfolding switch_rows
   rows-switch switch says there in_it =
       let row = row_of (unit_of_datapath switch.id) says in
       switches_there row (Contains-flat_map (switch_rows net) net.switches switch row there (Contains-map (row_of (unit_of_datapath switch.id)) (switch_rules net switch.id) says in_it))
 
   -- and of each port
-  pub rows-port : (port : Port) (says : Rule) → Contains net.ports port → Contains (port_rules net port) says → Contains (rows net) (row_of (unit_of port.switch port.id) says)
+  pub rows-port : (port : Port) (says : Rule) → Contains net.ports port → Contains (port_rules net port) says → Contains (all_rows net) (row_of (unit_of port.switch port.id) says)
   unfolding port_rows
   rows-port port says there in_it =
       let row = row_of (unit_of port.switch port.id) says in
@@ -171,7 +150,7 @@ module _ (net : Network) where
 
   -- and of each ACL on each switch to which it applies
   pub rows-acl : (acl : Acl) (switch : Switch) (says : Rule) → Contains net.acls acl → Contains (switches_of_acl net acl) switch → Contains (acl_on_rules (acl_on_input net acl switch.id)) says
-      → Contains (rows net) (row_of (unit_of switch.id acl.id) says)
+      → Contains (all_rows net) (row_of (unit_of switch.id acl.id) says)
   unfolding acl_on_rows
   rows-acl acl switch says there applied in_it =
       let row = row_of (unit_of switch.id acl.id) says in
@@ -182,7 +161,7 @@ module _ (net : Network) where
 
   -- and of each VIP of each load balancer on each switch to which it is attached
   pub rows-lb : (switch : Switch) (lb : Lb) (vip : Vip) (says : Rule) → Contains net.switches switch → Contains (lbs_on net switch.id) lb → Contains lb.vips vip → Contains (vip_switch_rules (vip_input lb vip)) says
-      → Contains (rows net) (row_of (unit_of switch.id lb.id) says)
+      → Contains (all_rows net) (row_of (unit_of switch.id lb.id) says)
   unfolding vip_on_rows
   rows-lb switch lb vip says there attached in_lb in_it =
       let row = row_of (unit_of switch.id lb.id) says in

@@ -11,7 +11,6 @@ use Rattle.nb_model.specs.Applies.{switches_of_acl}
 use Rattle.nb_model.specs.Belongs.{is_to_router, peer_router_port}
 use Rattle.nb_model.specs.Network.{Network}
 use Rattle.sb_model.specs.declared.row.Row.{Row}
-use Rattle.sb_rows.specs.Row.{put_rows}
 use Rattle.nb_model.specs.Applies.{tracks, balances, lbs_on}
 use Rattle.nb_model.specs.Ports.{is_open, takes_unknown}
 use Rattle.net_rows.specs.Acls.{switch_acl_rules, port_acl_rules, acl_on_rules}
@@ -107,7 +106,3 @@ lb_rows net switch = flat_map (lb_on_rows switch) (lbs_on net switch.id)
 abbrev pub all_rows : Network → List Row
 all_rows net =
     flat_map (switch_rows net) net.switches ++ (flat_map (port_rows net) net.ports ++ (flat_map (acl_rows net) net.acls ++ flat_map (lb_rows net) net.switches))
-
--- the rows of the network, in row order
-unfoldable pub rows : Network → List Row
-rows net = put_rows [] (all_rows net)

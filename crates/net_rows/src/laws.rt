@@ -1,17 +1,9 @@
-//! Laws of the rows of a network: which they are, and in which order; and of the rows of a sound one.
-ghost use Rattle.std.specs.Prelude.{◌↔◌};
-ghost use Rattle.std.specs.List.{All, Contains};
+//! Laws of the rows of the switches of a sound network.
+ghost use Rattle.std.specs.List.{All};
 ghost use Rattle.nb_model.specs.Network.{Network};
 ghost use Rattle.nb_model.specs.Sound.{IsSound};
-ghost use Rattle.sb_model.specs.declared.row.Row.{Row};
-ghost use Rattle.sb_rows.specs.Row.{AreApart, HasTypedMatch, IsInRowOrder};
-ghost use Rattle.net_rows.specs.Build.{all_rows, rows};
-
-/// The rows of a network are the rows of its units and no others, and they are in row order.
-pub fn rows_are_those_of_the_units()
-    ensures members { (net : Network) (row : Row) → (Contains (rows net) row) ↔ (Contains (all_rows net) row) }
-    ensures ordered { (net : Network) → IsInRowOrder (rows net) }
-{}
+ghost use Rattle.sb_rows.specs.Row.{AreApart, HasTypedMatch};
+ghost use Rattle.net_rows.specs.Build.{all_rows};
 
 /// Each row of the units of a sound network has a well-typed match.
 pub fn rows_of_sound_networks_are_typed()

@@ -13,8 +13,6 @@ pub use inputs::{
     AclOnInput, PortAclInput, PortL2Input, PortSecInput, SwitchAclInput, SwitchL2Input, VipInput,
 };
 pub use kind::UnitKind;
-pub use laws::{
-    rows_are_those_of_the_units, rows_of_sound_networks_are_apart, rows_of_sound_networks_are_typed,
-};
+pub use laws::{rows_of_sound_networks_are_apart, rows_of_sound_networks_are_typed};
 pub use rule::{Rule, Unit};
 pub use vip::{balances_to, opens, priority_of_vip, vip_input};

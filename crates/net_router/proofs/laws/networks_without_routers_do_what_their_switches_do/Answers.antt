@@ -1,5 +1,5 @@
-use Rattle.net_router.proofs.SwitchesAlone.{meaning_same}
+use Rattle.net_router.proofs.SwitchesAlone.{switches_alone}
 use Rattle.net_router.proofs.laws.networks_without_routers_do_what_their_switches_do.Goals as goal
 
 pub returns : goal.returns
-returns c = meaning_same
+returns c = switches_alone

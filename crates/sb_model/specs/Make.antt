@@ -1,5 +1,5 @@
 -- The matches and actions that rows are made of.
-use Rattle.std.specs.Prelude.{ℕ, true, List, [], ◌∷◌, map}
+use Rattle.std.specs.Prelude.{ℕ, true, List, [], ◌∷◌, map, codes}
 use Rattle.nv_base.specs.declared.field.Field.{Field}
 use Rattle.act_core.specs.declared.action.Action.{Action}
 use Rattle.act_core.specs.declared.action.Action.TheVariants as action

@@ -12,6 +12,7 @@ use Rattle.nb_records.specs.declared.refusal.Refusal.{Refusal}
 use Rattle.nb_records.specs.declared.refusal.Refusal.TheVariants.{WrongWords, NotInProfile}
 use Rattle.nb_records.specs.declared.router.NatKind.{NatKind}
 use Rattle.nb_records.specs.declared.router.RouteBy.{RouteBy}
+use Rattle.nb_records.specs.declared.router.RouteBy.TheVariants.{Dst, Src}
 use Rattle.nb_edit.specs.declared.verb.Verb.{Verb}
 use Rattle.nb_edit.specs.declared.verb.Verb.TheVariants as verb
 use Rattle.nb_read.specs.Then.{and_then}

@@ -1,5 +1,5 @@
 -- What of the state goes with the objects that a line removes (this profile's own): what is removed and made again has a new number.
-use Rattle.std.specs.Prelude.{Bool, not, filter}
+use Rattle.std.specs.Prelude.{Bool, not, List, filter}
 use Rattle.ct_core.specs.declared.zone.Zone.{Zone}
 use Rattle.ct_core.specs.declared.zone.Zone.TheVariants.{Port, Dnat, Snat}
 use Rattle.ct_core.specs.State.{State}

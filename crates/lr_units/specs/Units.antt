@@ -5,7 +5,7 @@ use Rattle.nv_base.specs.declared.ip4.Ip4.{Ip4}
 use Rattle.nv_base.specs.declared.object.ObjId.{ObjId}
 use Rattle.nb_records.specs.declared.balancer.Frontend.{Frontend}
 use Rattle.nb_records.specs.declared.balancer.Lb.{Lb}
-use Rattle.nb_records.specs.declared.balancer.Vip.{Vip}
+use Rattle.nb_records.specs.declared.balancer.Vip.{}
 use Rattle.nb_records.specs.declared.router.Binding.{Binding}
 use Rattle.nb_records.specs.declared.router.Nat.{Nat}
 use Rattle.nb_records.specs.declared.router.Route.{Route}

@@ -21,7 +21,7 @@ use Rattle.net_rows.specs.Unit.{said_by, unit_of, unit_of_datapath}
 use Rattle.net_rows.specs.declared.rule.Rule.{Rule}
 use Rattle.net_rows.specs.declared.rule.Unit.{Unit}
 use Rattle.net_rows.proofs.Elements.{Contains-flat_map, Contains-from_flat_map}
-use Rattle.lr_units.specs.Build.{router_rows, rows_of}
+use Rattle.lr_units.specs.Build.{router_rows}
 use Rattle.lr_units.specs.Network.{rows_of_units}
 use Rattle.net_units.specs.Build.{acl_on_rows, port_acl_rows, port_l2_rows, port_sec_rows, rows_by_kind, rows_of_ports, rows_of_switches, switch_acl_rows, switch_l2_rows, switch_lb_rows, switch_sec_rows, vip_switch_rows}
 

@@ -1,2 +1,4 @@
 pub mod Build
+pub mod Counts
+pub mod Keys
 pub mod Units

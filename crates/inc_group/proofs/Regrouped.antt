@@ -1,23 +1,28 @@
 -- A table of groups after the changes of one group more.
-use Rattle.std.proofs.Common.{◌≡◌, Bool, true, false, cond, List, [], ◌∷◌, ◌++◌, refl, sym, ap, ◌∙◌, subst, None, Some, Option}
+use Rattle.std.proofs.Common.{◌≡◌, Bool, true, false, cond, List, [], ◌∷◌, ◌++◌, append-nil, refl, sym, ap, ◌∙◌, subst, None, Some, Option}
 use Rattle.std.specs.Prelude.{option_and_then}
 use Rattle.std.proofs.lemmas.Cmp.{eq_by_cmp_equiv}
 use Rattle.std.proofs.lemmas.Map.Lookups.{CmpEqualImpliesEq}
 use Rattle.std.specs.Cmp.{IsTotalOrder}
 use Rattle.std.specs.Ordering.{is_eq}
 use Rattle.std.specs.declared.cmp.Ordering.{Ordering}
-use Rattle.nv_map.specs.Map.{value_at}
+use Rattle.nv_map.specs.Map.{KeysRise, value_at}
 use Rattle.inc_table.specs.declared.delta.Change.{Change}
-use Rattle.inc_table.specs.Delta.{IsAbove, IsApplied, after_change, change_to}
+use Rattle.inc_table.specs.Delta.{IsAbove, IsApplied, after_change, change_to, told_at}
 use Rattle.inc_table.specs.Nested.{value_in}
 use Rattle.inc_table.proofs.Applied.{applied_at, tied}
-use Rattle.inc_table.proofs.Ends.{above_none, or_else, or_else_none, value_append}
+use Rattle.inc_table.proofs.Ends.{above_none, or_else, or_else_none, rise_last, value_append}
 use Rattle.inc_table.proofs.Outputs.{left_to}
 use Rattle.inc_group.specs.inner.Moves.{AreWhole, IsRegrouped, IsWhole, entries_in}
 
 value_entries : {K V : Type 0} (cmp : K → K → Ordering) (k : K) (v : Option (List (K × V))) → option_and_then (value_at cmp k) v ≡ value_at cmp k (entries_in v)
 value_entries cmp k None = refl
 value_entries cmp k (Some l) = refl
+
+-- with what is told of a key above all that was told, the keys rise still
+pub rise_told : {K V : Type 0} {cmp : K → K → Ordering} → IsTotalOrder cmp → (told more : List (K × Change V)) (q : K) (change : Option (Change V)) → KeysRise cmp told → IsAbove cmp q told → more ≡ told ++ told_at q change → KeysRise cmp more
+rise_told {K} {V} {cmp} o told more q None r a is = subst (λ l. KeysRise cmp l) (sym (is ∙ append-nil told)) r
+rise_told {K} {V} {cmp} o told more q (Some change) r a is = subst (λ l. KeysRise cmp l) (sym is) (rise_last o (q, change) told r a)
 
 pub regrouped_none : {K V G : Type 0} (outer : G → G → Ordering) (inner : K → K → Ordering) (table : List (G × List (K × V))) → IsRegrouped outer inner [] table table
 regrouped_none outer inner table group key = refl

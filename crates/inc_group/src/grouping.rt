@@ -39,6 +39,7 @@ where
     ensures rise { OnOk result (KeysRise G.Key.cmp inputs.new) }
     ensures grouped { OnOk result (IsGrouped G.Group.cmp G.groups_of inputs.new table.new) }
     ensures changed { IfOk result (λ changed. IsDifference G.Group.cmp (same_members G.Key.eq G.Value.eq) table.old table.new changed) }
+    ensures told { IfOk result (λ changed. KeysRise G.Group.cmp changed) }
 {
     let moves = apply_to_inputs(alloc, groups, inputs, delta)?;
     let changed = regroup(alloc, table, moves.parts())?;
@@ -154,6 +155,7 @@ fn regroup<K: Ord + Kept + Drop, V: Kept + Drop, A: Ord + Kept + Drop>(
     ensures whole { OnOk result (AreWhole A.cmp K.cmp table.new) }
     ensures rise { OnOk result (KeysRise A.cmp table.new) }
     ensures changed { IfOk result (λ changed. IsDifference A.cmp (same_members K.eq V.eq) table.old table.new changed) }
+    ensures told { IfOk result (λ changed. KeysRise A.cmp changed) }
 {
     let mut changed = table.unchanged();
     for (group, changes) in moves.iter() {

@@ -37,6 +37,7 @@ where
     G::Value: Drop,
     G::Group: Drop,
 {
+    ghost use Rattle.nv_map.specs.Map.{KeysRise};
     ghost use Rattle.inc_table.specs.declared.node.NodeState.TheVariants.{Fresh, Stale};
     ghost use Rattle.inc_table.specs.Delta.{IsApplied, IsDifference, alters_each};
     ghost use Rattle.inc_group.specs.Group.{IsGrouped, same_members};
@@ -54,9 +55,9 @@ where
         }
     }
 
-    /// Applies a delta to the inputs, changes the groups that its keys leave or enter, and answers what changed in the table. Each of
-    /// its changes is one: a value that is put differs from what is there, and a key that goes is there. Where memory runs out the
-    /// answer is `OutOfMemory`, and the node is stale.
+    /// Applies a delta to the inputs, changes the groups that its keys leave or enter, and answers what changed in the table, as a delta
+    /// that may be handed to a node whose inputs are that table. Each change of the delta is one: a value that is put differs from what
+    /// is there, and a key that goes is there. Where memory runs out the answer is `OutOfMemory`, and the node is stale.
     pub fn change(
         &mut self,
         delta: Delta<G::Key, G::Value>,
@@ -66,6 +67,9 @@ where
         ensures inputs { OnOk result (IsApplied G.Key.cmp delta self.old.inputs self.new.inputs) }
         ensures table { OnOk result (IsGrouped G.Group.cmp G.groups_of self.new.inputs self.new.table) }
         ensures changed { IfOk result (λ changed. IsDifference G.Group.cmp (same_members G.Key.eq G.Value.eq) self.old.table self.new.table changed) }
+        ensures rise { IfOk result (λ changed. KeysRise G.Group.cmp changed) }
+        ensures applied { IfOk result (λ changed. IsApplied G.Group.cmp changed self.old.table self.new.table) }
+        ensures alters { IfOk result (λ changed. IsTrue (alters_each G.Group.cmp (same_members G.Key.eq G.Value.eq) changed self.old.table)) }
         ensures fresh { OnOk result (self.new.state ≡ Fresh) }
         ensures stale { OnErr result (self.new.state ≡ Stale) }
     {
@@ -114,7 +118,8 @@ where
 
     /// The inputs by key.
     pub fn inputs(&self) -> &Owned<G::Key, G::Value>
-        ensures { result.now ≡ self.now.inputs }
+        ensures inputs { result.now ≡ self.now.inputs }
+        ensures rise { self.now.state ≡ Fresh → KeysRise G.Key.cmp self.now.inputs }
     {
         &self.inputs
     }

@@ -1,9 +1,10 @@
 use crate::grouped::{Grouped, Regrouped};
 use crate::joined::{Joined, Told};
 use crate::kept::Doubled;
-use crate::script::{Fault, read_delta, read_key};
+use crate::led::Led;
+use crate::script::{Fault, read_asked, read_delta, read_key};
 use inc_group::Members;
-use inc_table::{Change, NodeState, Owned, Report};
+use inc_table::{Change, Delta, NodeState, Owned, Report};
 use nv_base::{OutOfMemory, put_dec};
 use std::alloc::Global;
 
@@ -11,13 +12,14 @@ use std::alloc::Global;
 const WRITTEN: usize = 8;
 
 /// Two nodes that double: one that makes all anew at a delta of more than 2 keys, and one at a delta of more than 1,024. And one that
-/// joins, and one that groups.
+/// joins, one that groups, and one that keeps first members.
 #[derive(Drop)]
 pub(crate) struct Nodes {
     few: Doubled<2>,
     many: Doubled<1024>,
     join: Joined,
     group: Grouped,
+    first: Led,
 }
 
 impl Nodes {
@@ -27,6 +29,7 @@ impl Nodes {
             many: Doubled::new(alloc, 0),
             join: Joined::new(alloc, 0),
             group: Grouped::new(alloc, 0),
+            first: Led::new(alloc, 0),
         }
     }
 
@@ -52,6 +55,8 @@ impl Nodes {
             answer_join(alloc, out, &mut self.join, &words[1..])
         } else if words[0] == b"group".as_slice() {
             answer_group(alloc, out, &mut self.group, &words[1..])
+        } else if words[0] == b"first".as_slice() {
+            answer_first(alloc, out, &mut self.first, &words[1..])
         } else {
             Err(Fault::Word(1))
         };
@@ -163,6 +168,48 @@ fn answer_group(
         return Err(Fault::Word(3));
     } else {
         return ask_group(out, grouped, command);
+    }
+    Ok(())
+}
+
+// The same, of the node that keeps first members.
+fn answer_first(
+    alloc: Global,
+    out: &mut Vec<u8>,
+    led: &mut Led,
+    words: &[&[u8]],
+) -> Result<(), Fault> {
+    if words.is_empty() {
+        return Err(Fault::Word(2));
+    }
+    let command = words[0];
+    if command == b"feed".as_slice() {
+        let (asked, keys) = read_asked(alloc, &words[1..], 3)?;
+        put_led(out, &led.feed(alloc, &asked, &keys)?)?;
+    } else if command == b"start".as_slice() {
+        *led = Led::new(alloc, read_refused(&words[1..])?);
+        put_text(out, b"started")?;
+    } else if words.len() > 1 {
+        return Err(Fault::Word(3));
+    } else {
+        return ask_first(out, led, command);
+    }
+    Ok(())
+}
+
+// Does what a command of one word says, of the node that keeps first members.
+fn ask_first(out: &mut Vec<u8>, led: &mut Led, command: &[u8]) -> Result<(), Fault> {
+    if command == b"rebuild".as_slice() {
+        led.rebuild()?;
+        put_text(out, b"looked up anew")?;
+    } else if command == b"settle".as_slice() {
+        put_count(out, b"made ", led.settle()?)?;
+    } else if command == b"table".as_slice() {
+        put_firsts(out, led.node.table())?;
+    } else if command == b"state".as_slice() {
+        put_state(out, led.node.state())?;
+    } else {
+        return Err(Fault::Word(2));
     }
     Ok(())
 }
@@ -328,6 +375,40 @@ fn put_groups(out: &mut Vec<u8>, table: &Owned<u32, Members<u32, u32>>) -> Resul
     put_count(out, b"groups: ", table.len() as u64)?;
     for (group, members) in table.iter().take(WRITTEN) {
         put_members(out, *group, members)?;
+    }
+    if table.len() > WRITTEN {
+        out.extend_from_slice(b" ..")?;
+    }
+    Ok(())
+}
+
+// A group with its first member.
+fn put_first(out: &mut Vec<u8>, group: u32, member: u32) -> Result<(), OutOfMemory> {
+    put_count(out, b" ", u64::from(group))?;
+    put_count(out, b":", u64::from(member))
+}
+
+// What changed in a table of first members.
+fn put_led(out: &mut Vec<u8>, told: &Delta<u32, u32>) -> Result<(), OutOfMemory> {
+    out.extend_from_slice(b"changed")?;
+    let changes = told.as_slice();
+    if changes.len() > WRITTEN {
+        return put_count(out, b" groups: ", changes.len() as u64);
+    }
+    for (group, change) in changes {
+        match change {
+            Change::Put(member) => put_first(out, *group, *member)?,
+            Change::Gone => put_count(out, b" -", u64::from(*group))?,
+        }
+    }
+    Ok(())
+}
+
+// The groups with their first members, or the first ones and how many there are.
+fn put_firsts(out: &mut Vec<u8>, table: &Owned<u32, u32>) -> Result<(), OutOfMemory> {
+    put_count(out, b"groups: ", table.len() as u64)?;
+    for (group, member) in table.iter().take(WRITTEN) {
+        put_first(out, *group, *member)?;
     }
     if table.len() > WRITTEN {
         out.extend_from_slice(b" ..")?;

@@ -1,5 +1,5 @@
-//! `ovn_nodes`: reads a script of deltas on standard input, applies each to a node that doubles, joins or groups numbers, and answers
-//! each line by what was made and what changed.
+//! `ovn_nodes`: reads a script of deltas on standard input, applies each to a node that doubles, joins or groups numbers, or keeps the
+//! first number of each group, and answers each line by what was made and what changed.
 #![tactic(auto)]
 
 mod answer;
@@ -8,6 +8,7 @@ mod grouped;
 mod hundreds;
 mod joined;
 mod kept;
+mod led;
 mod names;
 mod script;
 

@@ -1,5 +1,7 @@
 //! The words of a line: changes of keys and of ranges of keys.
-use inc_table::{Change, Delta};
+use crate::led::Asked;
+use inc_feed::Keys;
+use inc_table::{Change, Delta, Owned};
 use nv_base::{OutOfMemory, read_number};
 use std::alloc::Global;
 
@@ -45,6 +47,39 @@ pub(crate) fn read_delta(
         place = place.saturating_add(1);
     }
     Ok(delta)
+}
+
+/// What these words want, the first of which has this place, and the keys at which they say so: in any order, and any of them several
+/// times. The last one of a key counts.
+pub(crate) fn read_asked(
+    alloc: Global,
+    words: &[&[u8]],
+    first: usize,
+) -> Result<(Asked, Keys<u32>), Fault> {
+    let mut values = Owned::new(alloc);
+    let mut keys = Vec::new(alloc);
+    let mut place = first;
+    for word in words {
+        let span = read_span(word).ok_or(Fault::Word(place))?;
+        ask(&mut values, &mut keys, span)?;
+        place = place.saturating_add(1);
+    }
+    Ok((Asked { values }, Keys::new(keys)))
+}
+
+// Wants at the keys of a span what it says.
+fn ask(values: &mut Owned<u32, u32>, keys: &mut Vec<u32>, span: Span) -> Result<(), OutOfMemory> {
+    let Span { low, high, value } = span;
+    for key in low..=high {
+        keys.push(key)?;
+        match value {
+            Some(value) => values.set(&key, value)?,
+            None => {
+                values.remove(&key);
+            }
+        }
+    }
+    Ok(())
 }
 
 // Puts the changes of a span last.

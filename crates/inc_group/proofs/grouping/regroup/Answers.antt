@@ -2,12 +2,16 @@ use Rattle.std.proofs.Common.{◌≡◌, ◌∙◌, ◌∷◌, [], List, Option,
 use Rattle.std.specs.Map.Iter.{deref_pair}
 use Rattle.std.proofs.lemmas.List.{map-append}
 use Rattle.std.proofs.lemmas.Map.Iter.{iter_end}
+use Rattle.nv_map.specs.Map.{value_at}
+use Rattle.nv_map.proofs.Rising.{rise_none}
 use Rattle.nv_map.proofs.Values.{exact_order}
-use Rattle.inc_table.specs.Delta.{IsAbove, IsApplied}
+use Rattle.inc_table.specs.declared.delta.Change.{Change}
+use Rattle.inc_table.specs.Delta.{IsAbove, IsApplied, change_between}
 use Rattle.inc_table.proofs.Ends.{above_end}
 use Rattle.inc_table.proofs.Gone.{above_gone, split_at}
+use Rattle.inc_group.specs.Group.{same_members}
 use Rattle.inc_group.specs.inner.Moves.{IsRegrouped, entries_in}
-use Rattle.inc_group.proofs.Regrouped.{regrouped_more, regrouped_none, whole_more}
+use Rattle.inc_group.proofs.Regrouped.{regrouped_more, regrouped_none, rise_told, whole_more}
 use Rattle.inc_group.proofs.grouping.regroup.Goals as goal
 
 pub loop-group-init : goal.loop-group-init
@@ -16,6 +20,7 @@ loop-group-init g c = record {
   whole = c.requires;
   rise = c.unchanged-changed.ensures.rise;
   told = c.unchanged-changed.ensures.difference;
+  rises = rw c.unchanged-changed.ensures.none (rise_none (Change (List (g.row.K.Denot × g.row.V.Denot))) g.A.Ord.cmp);
   above = λ k a. rw c.unchanged-changed.ensures.none tt;
 }
 
@@ -38,6 +43,7 @@ loop-group-preserved g c =
       whole = whole_more g.met.A.Ord.total exact g.K.Ord.cmp c.in-Some.group.now c.in_ok-members.members c.loop-group.table c.change_at.new.self c.in_ok-members.ensures.whole c.in_ok-change_at.ensures.applied c.loop-group.invariant.whole;
       rise = c.change_at.ensures.rise;
       told = c.in_ok-change_at.ensures.difference c.args.table.now c.loop-group.invariant.told;
+      rises = rise_told g.met.A.Ord.total c.loop-group.changed c.change_at.new.told c.in-Some.group.now (change_between (same_members g.K.PartialEq.eq g.V.PartialEq.eq) (value_at g.A.Ord.cmp c.in-Some.group.now c.loop-group.table) c.in_ok-members.members) c.loop-group.invariant.rises (c.loop-group.invariant.above c.in-Some.group.now above) c.in_ok-change_at.ensures.told;
       above = λ k a. c.in_ok-change_at.ensures.above k (above_end g.A.Ord.cmp k (map deref_pair c.loop-group.yielded) (deref_pair (c.in-Some.group, c.in-Some.changes)) (subst (λ l. IsAbove g.A.Ord.cmp k l) grown a));
     }
 
@@ -52,6 +58,9 @@ returns-clause-whole g c = c.loop-group.invariant.whole
 
 pub returns-clause-rise : goal.returns-clause-rise
 returns-clause-rise g c = c.loop-group.invariant.rise
+
+pub returns-clause-told : goal.returns-clause-told
+returns-clause-told g c = c.loop-group.invariant.rises
 
 pub returns-clause-changed : goal.returns-clause-changed
 returns-clause-changed g c = c.loop-group.invariant.told

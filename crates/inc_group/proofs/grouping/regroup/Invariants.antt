@@ -13,5 +13,6 @@ invariant-loop-group g l = record {
   whole : AreWhole g.A.Ord.cmp g.K.Ord.cmp l.table;
   rise : KeysRise g.A.Ord.cmp l.table;
   told : IsDifference g.A.Ord.cmp (same_members g.K.PartialEq.eq g.V.PartialEq.eq) l.fn.table l.table l.changed;
+  rises : KeysRise g.A.Ord.cmp l.changed;
   above : (k : g.row.A.Denot) → IsAbove g.A.Ord.cmp k (map deref_pair l.yielded) → IsAbove g.A.Ord.cmp k l.changed;
 }

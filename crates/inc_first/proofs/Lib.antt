@@ -1,0 +1,3 @@
+pub mod Ordered
+pub mod Following
+pub mod Marked

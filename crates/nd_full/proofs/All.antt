@@ -32,11 +32,11 @@ use Rattle.lr_units.specs.Network.{rows_of_units}
 use Rattle.nd_full.specs.inner.Between.{rows_of_each}
 use Rattle.nd_full.specs.inner.Made.{acl_unit, acl_units, balancer_units, datapath_rows, port_units, rows_at, switch_units, vip_unit}
 use Rattle.nd_router.specs.Members.{HaveSameRows}
-use Rattle.nd_router.specs.inner.Made.{of_number}
+use Rattle.nd_inputs.specs.inner.Numbered.{of_number}
 use Rattle.nd_router.proofs.All.{on_each}
-use Rattle.nd_router.proofs.Attached.{attached_to_listed, listed_to_attached}
+use Rattle.nd_inputs.proofs.Attached.{attached_to_listed, listed_to_attached}
 use Rattle.nd_full.specs.inner.Owners.{acls_of, AreOwners, ports_on}
-use Rattle.nd_router.proofs.Any.{kept_passes}
+use Rattle.nd_inputs.proofs.Any.{kept_passes}
 use Rattle.nd_full.proofs.Applied.{applies_to, has_owner}
 use Rattle.nd_full.proofs.Sound.{switches_rise}
 use Rattle.nv_table.specs.Table.{record_of}

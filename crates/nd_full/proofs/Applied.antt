@@ -22,7 +22,7 @@ use Rattle.net_rows.proofs.Elements.{any_from, any_gives, Contains-filter, Conta
 use Rattle.nd_full.specs.inner.Made.{has_related}
 use Rattle.nd_full.specs.inner.Owners.{acls_of, groups_of_port, groups_on, groups_with, ports_on, AreOwners}
 use Rattle.nv_table.proofs.Through.{all_left, none_left}
-use Rattle.nd_router.proofs.Any.{any_agree, any_kept, any_members, both_pass, both_ways, kept_passes, same_turned}
+use Rattle.nd_inputs.proofs.Any.{any_agree, any_kept, any_members, both_pass, both_ways, kept_passes, same_turned}
 
 module _ (net : Network) (switch : ObjId) where
   -- the port is on the switch and in the group

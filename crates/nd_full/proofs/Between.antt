@@ -20,7 +20,7 @@ use Rattle.net_rows.proofs.Elements.{Contains-filter, Contains-flat_map, Contain
 use Rattle.lr_units.proofs.Numbers.{switch_is_no_router}
 use Rattle.nd_router.specs.Members.{HaveSameRows}
 use Rattle.nd_router.specs.Router.{rows_on}
-use Rattle.nd_router.proofs.Any.{kept_passes}
+use Rattle.nd_inputs.proofs.Any.{kept_passes}
 use Rattle.nd_router.proofs.Same.{same_back, same_both, same_equal, same_itself, same_through, same_turned_round}
 use Rattle.nd_full.specs.inner.Between.{is_before, routers_between, rows_of_each}
 use Rattle.nd_full.specs.inner.Made.{datapath_rows}

@@ -1,7 +1,7 @@
 //! The rows of the load balancers on a switch.
 ghost use Rattle.std.specs.Prelude.{◌≡◌, ◌++◌, OnOk};
 ghost use Rattle.std.specs.List.{flat_map};
-ghost use Rattle.nd_router.specs.inner.Made.{of_number};
+ghost use Rattle.nd_inputs.specs.inner.Numbered.{of_number};
 ghost use Rattle.nd_full.specs.inner.Made.{balancer_units};
 
 use crate::made::MadeRows;

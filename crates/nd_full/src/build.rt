@@ -10,7 +10,7 @@ ghost use Rattle.nd_full.specs.inner.Between.{rows_of_each};
 ghost use Rattle.nd_full.specs.inner.Made.{datapath_rows, port_units};
 ghost use Rattle.nd_full.specs.inner.Owners.{ports_on};
 
-use crate::inputs::{is_for_unknown, switch_acl_input};
+use crate::inputs::switch_acl_input;
 use crate::made::MadeRows;
 use crate::owners::owners_on;
 use crate::ports::add_rows_of_port;
@@ -18,6 +18,7 @@ use crate::routers::add_rows_of_routers;
 use crate::switches::add_rows_of_switch;
 use nb_records::Switch;
 use nb_store::Records;
+use nd_inputs::is_for_unknown;
 use nv_base::{ObjId, OutOfMemory};
 use sb_rows::{NewRows, RowList, Rows};
 use std::alloc::Global;

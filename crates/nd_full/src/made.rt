@@ -7,13 +7,13 @@ ghost use Rattle.net_rows.specs.PortSecurity.{switch_sec_rules, port_sec_rules};
 ghost use Rattle.net_rows.specs.Unit.{unit_of, unit_of_datapath, unit_rows};
 ghost use Rattle.nd_full.specs.inner.Made.{acl_unit, switch_units, vip_unit};
 
-use crate::inputs::acl_on_input;
 use inc_table::Maker;
 use ls_acl::{AclOn, PortAcl, SwitchAcl};
 use ls_l2::{PortL2, SwitchL2};
 use ls_lb::{SwitchLb, VipSwitch};
 use ls_sec::{PortSec, SwitchSec};
 use nb_records::{Acl, Lb, Vip};
+use nd_inputs::acl_on_input;
 use nd_maker::UnitMaker;
 use net_rows::{PortAclInput, PortL2Input, PortSecInput, SwitchAclInput, SwitchL2Input, vip_input};
 use nv_base::{ObjId, OutOfMemory};

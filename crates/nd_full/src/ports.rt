@@ -8,10 +8,10 @@ ghost use Rattle.net_rows.specs.PortSecurity.{port_sec_rules};
 ghost use Rattle.net_rows.specs.Unit.{unit_of, unit_rows};
 ghost use Rattle.nd_full.specs.inner.Made.{acl_rules_where, port_units};
 
-use crate::inputs::{is_to_router, port_acl_input, port_l2_input, port_sec_input};
 use crate::made::MadeRows;
 use nb_records::Port;
 use nb_store::Records;
+use nd_inputs::{is_to_router, port_acl_input, port_l2_input, port_sec_input};
 use nv_base::{Kept, Name, OutOfMemory};
 use std::alloc::Global;
 

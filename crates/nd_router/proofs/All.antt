@@ -47,10 +47,11 @@ use Rattle.lr_units.proofs.Datapaths.{row_on_router}
 use Rattle.lr_units.proofs.Sources.{EachKind, each_of_balancers, each_of_map, each_of_pieces, every_row}
 use Rattle.nd_router.specs.Members.{HaveSameRows}
 use Rattle.nd_router.specs.Router.{rows_on}
-use Rattle.nd_router.specs.inner.Made.{balancer_rows, binding_rows, made_rows, nat_rows, neighbour_rows, of_number, own_rows, port_rows, reached_rows, route_rows, routes_of, rows_across, vip_rows}
+use Rattle.nd_router.specs.inner.Made.{balancer_rows, binding_rows, made_rows, nat_rows, neighbour_rows, own_rows, port_rows, reached_rows, route_rows, routes_of, rows_across, vip_rows}
+use Rattle.nd_inputs.specs.inner.Numbered.{of_number}
 use Rattle.nd_router.proofs.Among.{has_rows, in_balancers, in_map, in_pieces, of_binding, of_nat_rule, of_neighbour, of_port_in, of_port_route, of_router_in, of_router_nat, of_router_route, of_static_route, of_vip_addr, of_vip_router, on_unit, once_from, once_has}
-use Rattle.nd_router.proofs.Any.{is_that, kept_passes, same_turned}
-use Rattle.nd_router.proofs.Attached.{from_attached, to_attached}
+use Rattle.nd_inputs.proofs.Any.{is_that, kept_passes, same_turned}
+use Rattle.nd_inputs.proofs.Attached.{from_attached, to_attached}
 use Rattle.nd_router.proofs.Same.{same_equal, same_through}
 use Rattle.net_rows.specs.Build.{vip_input}
 

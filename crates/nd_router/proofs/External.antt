@@ -15,9 +15,9 @@ use Rattle.nb_store.proofs.Peering.{found_passes}
 use Rattle.nv_table.specs.Table.{is_after, record_of}
 use Rattle.lr_units.specs.Words.{free_addresses}
 use Rattle.nd_router.specs.inner.Externals.{AreExternal}
-use Rattle.nd_router.specs.inner.Made.{of_number}
-use Rattle.nd_router.proofs.Any.{any_members, is_that}
-use Rattle.nd_router.proofs.Attached.{from_attached, to_attached}
+use Rattle.nd_inputs.specs.inner.Numbered.{of_number}
+use Rattle.nd_inputs.proofs.Any.{any_members, is_that}
+use Rattle.nd_inputs.proofs.Attached.{from_attached, to_attached}
 
 -- an element of two lists, where the second has those of another one
 second_part : {X : Type 0} (xs ys zs : List X) (x : X) → (Contains ys x → Contains zs x) → Contains (xs ++ ys) x → Contains (xs ++ zs) x

@@ -1,7 +1,8 @@
 //! The rows of the load balancers at a router.
 ghost use Rattle.std.specs.Prelude.{◌≡◌, ◌++◌, OnOk};
 ghost use Rattle.std.specs.List.{flat_map};
-ghost use Rattle.nd_router.specs.inner.Made.{balancer_rows, of_number, vip_rows};
+ghost use Rattle.nd_router.specs.inner.Made.{balancer_rows, vip_rows};
+ghost use Rattle.nd_inputs.specs.inner.Numbered.{of_number};
 
 use crate::unit::put_unit;
 use lr_nat::{VipAddr, VipRouter};

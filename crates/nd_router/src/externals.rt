@@ -5,7 +5,7 @@ ghost use Rattle.nb_model.specs.Sound.{IsSound};
 ghost use Rattle.nb_router.specs.Vocabulary.{is_address, nats_of, vip_addresses};
 ghost use Rattle.nv_table.specs.Table.{record_of};
 ghost use Rattle.nd_router.specs.inner.Externals.{AreExternal};
-ghost use Rattle.nd_router.specs.inner.Made.{of_number};
+ghost use Rattle.nd_inputs.specs.inner.Numbered.{of_number};
 
 use nb_records::{Router, Vip};
 use nb_store::Records;

@@ -12,9 +12,10 @@ use crate::neighbours::put_neighbours;
 use crate::unit::put_unit;
 use lr_in::PortIn;
 use lr_route::PortRoute;
-use lr_rows::{BindingInput, Host, PortInInput, PortRouteInput};
+use lr_rows::{PortInInput, PortRouteInput};
 use nb_records::{Binding, RouterPort};
 use nb_store::Records;
+use nd_inputs::binding_input;
 use nv_base::{Ip4, Items, Kept, ObjId, OutOfMemory, Prefix};
 use sb_rows::NewRows;
 use std::alloc::Global;
@@ -148,13 +149,6 @@ fn put_binding(
 ) -> Result<(), OutOfMemory>
     ensures { OnOk result (rows.new ≡ rows.old ++ binding_rows port.now binding.now) }
 {
-    let input = BindingInput {
-        dp: port.router,
-        name: port.name.copy(alloc)?,
-        host: Host {
-            mac: binding.mac,
-            addr: binding.addr,
-        },
-    };
+    let input = binding_input(alloc, port, binding)?;
     put_unit(alloc, rows, &lr_route::Binding, &binding.id, &input)
 }

@@ -8,16 +8,16 @@ ghost use Rattle.nd_router.specs.inner.Made.{own_rows};
 
 use crate::balancers::put_balancers;
 use crate::externals::external_addresses;
-use crate::nats::{changes_destinations, put_nats};
+use crate::nats::put_nats;
 use crate::ports::put_ports;
 use crate::routes::put_routes;
 use crate::unit::put_unit;
 use lr_in::RouterIn;
 use lr_nat::RouterNat;
 use lr_route::RouterRoute;
-use lr_rows::RouterNatInput;
 use nb_records::Router;
 use nb_store::Records;
+use nd_inputs::router_nat_input;
 use nv_base::OutOfMemory;
 use sb_rows::{NewRows, RowList};
 use std::alloc::Global;
@@ -54,11 +54,14 @@ fn put_own(
     requires there { record_of (λ x. x.id) router.now.id records.now.routers ≡ Some router.now }
     ensures { OnOk result (rows.new ≡ rows.old ++ own_rows records.now router.now.id) }
 {
-    let nat = RouterNatInput {
-        dnats: changes_destinations(records, router),
-    };
     put_unit(alloc, rows, &RouterIn, &router.id, &())?;
     put_unit(alloc, rows, &RouterRoute, &router.id, &())?;
-    put_unit(alloc, rows, &RouterNat, &router.id, &nat)?;
+    put_unit(
+        alloc,
+        rows,
+        &RouterNat,
+        &router.id,
+        &router_nat_input(records, router),
+    )?;
     Ok(())
 }

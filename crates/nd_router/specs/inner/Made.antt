@@ -1,5 +1,5 @@
 -- What is made of the network's objects, router by router: the rows of each unit.
-use Rattle.std.specs.Prelude.{not, ◌&&◌, if◌then◌else◌, List, [], ◌++◌, filter, Option, Some, None}
+use Rattle.std.specs.Prelude.{not, ◌&&◌, if◌then◌else◌, List, [], ◌++◌, filter}
 use Rattle.std.specs.List.{flat_map}
 use Rattle.nv_base.specs.declared.ip4.Ip4.{Ip4}
 use Rattle.nv_base.specs.declared.object.ObjId.{ObjId}
@@ -12,7 +12,6 @@ use Rattle.nb_records.specs.declared.router.Router.{Router}
 use Rattle.nb_records.specs.declared.router.RouterPort.{RouterPort}
 use Rattle.nb_records.specs.declared.switch.Port.{Port}
 use Rattle.nb_model.specs.Network.{Network, same}
-use Rattle.nv_table.specs.Table.{record_of}
 use Rattle.nb_router.specs.Vocabulary.{addresses_at, dnats, is_address, nats_of, ports_of}
 use Rattle.sb_model.specs.declared.row.Row.{Row}
 use Rattle.net_rows.specs.Unit.{said_by, unit_of, unit_of_datapath}
@@ -26,6 +25,7 @@ use Rattle.lr_rows.specs.declared.inputs.PortRouteInput.{PortRouteInput}
 use Rattle.lr_units.specs.Units.{binding_input, bindings_of, nat_rule_input, neighbour_input, port_in_input, static_route_input, vip_addr_input}
 use Rattle.lr_units.specs.Words.{across}
 use Rattle.net_rows.specs.Build.{vip_input}
+use Rattle.nd_inputs.specs.inner.Numbered.{of_number}
 
 -- ---- of a router itself
 
@@ -93,14 +93,6 @@ vip_rows router lb vip =
 
 abbrev pub balancer_rows : ObjId → Lb → List Row
 balancer_rows router lb = flat_map (vip_rows router lb) lb.vips
-
-abbrev pub of_found : {X : Type 0} → (Lb → List X) → Option Lb → List X
-of_found give None = []
-of_found give (Some lb) = give lb
-
--- what the load balancer of a number gives, where there is one
-abbrev pub of_number : {X : Type 0} → Network → (Lb → List X) → ObjId → List X
-of_number net give number = of_found give (record_of (λ lb. lb.id) number net.lbs)
 
 -- ---- of all these
 

@@ -1,6 +1,6 @@
 use Rattle.std.proofs.Common.{◌≡◌, ◌++◌, take}
 use Rattle.std.specs.List.{flat_map}
-use Rattle.nd_router.specs.inner.Made.{of_number}
+use Rattle.nd_inputs.specs.inner.Numbered.{of_number}
 use Rattle.nd_full.specs.inner.Made.{balancer_units}
 use Rattle.nd_full.proofs.balancers.add_rows_of_balancers.Given as goal
 

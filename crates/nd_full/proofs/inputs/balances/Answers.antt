@@ -1,6 +1,6 @@
 use Rattle.std.proofs.Common.{length, not, ap, ◌∙◌}
 use Rattle.std.specs.Prelude.{◌==◌}
-use Rattle.nd_router.proofs.Any.{none_long}
+use Rattle.nd_inputs.proofs.Any.{none_long}
 use Rattle.nd_full.proofs.inputs.balances.Goals as goal
 
 pub returns : goal.returns

@@ -5,9 +5,9 @@ use Rattle.nb_store.proofs.Peering.{found_is_record}
 use Rattle.nv_table.specs.Table.{is_after}
 use Rattle.nv_table.proofs.Through.{these_after, these_fewer}
 use Rattle.nd_router.specs.Router.{rows_on}
-use Rattle.nd_router.proofs.First.{none_left, one_left}
+use Rattle.nd_inputs.proofs.First.{none_left, one_left}
 use Rattle.nd_router.proofs.Same.{same_appended, same_first, same_itself, same_none}
-use Rattle.nd_router.proofs.Sound.{routers_rise}
+use Rattle.nd_inputs.proofs.Sound.{routers_rise}
 use Rattle.nd_full.specs.inner.Between.{is_before, routers_between, rows_of_each}
 use Rattle.nd_full.proofs.routers.add_rows_of_routers.Goals as goal
 

@@ -1,6 +1,7 @@
 use Rattle.std.proofs.Common.{◌≡◌, ◌++◌, take}
 use Rattle.std.specs.List.{flat_map}
-use Rattle.nd_router.specs.inner.Made.{balancer_rows, of_number}
+use Rattle.nd_router.specs.inner.Made.{balancer_rows}
+use Rattle.nd_inputs.specs.inner.Numbered.{of_number}
 use Rattle.nd_router.proofs.balancers.put_balancers.Given as goal
 
 -- the rows of the load balancers so far are after what was there

@@ -5,8 +5,8 @@ use Rattle.nb_records.specs.declared.router.Nat.{Nat}
 use Rattle.nb_model.specs.Network.{same}
 use Rattle.nv_table.proofs.Through.{all_left, these_after, these_fewer, these_next, these_whole}
 use Rattle.nb_router.specs.Vocabulary.{nats_of}
-use Rattle.nd_router.proofs.First.{one_by_one}
-use Rattle.nd_router.proofs.Sound.{nats_rise}
+use Rattle.nd_inputs.proofs.First.{one_by_one}
+use Rattle.nd_inputs.proofs.Sound.{nats_rise}
 use Rattle.nd_router.proofs.externals.add_addresses_of_nats.Goals as goal
 
 pub loop-nat-init : goal.loop-nat-init

@@ -1,7 +1,7 @@
 use Rattle.std.proofs.Common.{◌++◌, map, ap, ◌∙◌}
 use Rattle.std.specs.List.{flat_map}
 use Rattle.nb_router.specs.Vocabulary.{nats_of, vip_addresses}
-use Rattle.nd_router.specs.inner.Made.{of_number}
+use Rattle.nd_inputs.specs.inner.Numbered.{of_number}
 use Rattle.nd_router.proofs.External.{are_collected}
 use Rattle.nd_router.proofs.externals.external_addresses.Goals as goal
 

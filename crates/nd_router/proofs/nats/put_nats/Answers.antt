@@ -6,7 +6,7 @@ use Rattle.nb_model.specs.Network.{same}
 use Rattle.nv_table.proofs.Through.{all_left, these_after, these_fewer, these_next, these_whole}
 use Rattle.nb_router.specs.Vocabulary.{nats_of}
 use Rattle.nd_router.specs.inner.Made.{nat_rows}
-use Rattle.nd_router.proofs.Sound.{nats_rise}
+use Rattle.nd_inputs.proofs.Sound.{nats_rise}
 use Rattle.nd_router.proofs.nats.put_nats.Goals as goal
 
 pub loop-nat-init : goal.loop-nat-init

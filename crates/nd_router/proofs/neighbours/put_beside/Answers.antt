@@ -8,8 +8,8 @@ use Rattle.lr_units.specs.Words.{beside}
 use Rattle.nb_store.proofs.Peering.{found_is_record}
 use Rattle.nv_table.specs.Table.{is_after}
 use Rattle.nd_router.specs.inner.Made.{neighbour_rows, rows_if_other}
-use Rattle.nd_router.proofs.First.{given}
-use Rattle.nd_router.proofs.Sound.{ports_rise}
+use Rattle.nd_inputs.proofs.First.{given}
+use Rattle.nd_inputs.proofs.Sound.{ports_rise}
 use Rattle.nd_router.proofs.neighbours.put_beside.Goals as goal
 
 pub put_if_other-requires-clause-there : goal.put_if_other-requires-clause-there

@@ -6,7 +6,7 @@ use Rattle.nb_model.specs.Network.{same}
 use Rattle.nv_table.proofs.Through.{all_left, these_after, these_fewer, these_next, these_whole}
 use Rattle.lr_units.specs.Units.{bindings_of}
 use Rattle.nd_router.specs.inner.Made.{binding_rows}
-use Rattle.nd_router.proofs.Sound.{bindings_rise}
+use Rattle.nd_inputs.proofs.Sound.{bindings_rise}
 use Rattle.nd_router.proofs.ports.put_bindings.Goals as goal
 
 pub loop-binding-init : goal.loop-binding-init

@@ -7,7 +7,7 @@ use Rattle.nv_table.proofs.Through.{all_left, these_after, these_fewer, these_ne
 use Rattle.nb_router.specs.Vocabulary.{ports_of}
 use Rattle.nd_router.specs.inner.Made.{port_rows}
 use Rattle.nd_router.proofs.External.{at_port}
-use Rattle.nd_router.proofs.Sound.{router_ports_rise}
+use Rattle.nd_inputs.proofs.Sound.{router_ports_rise}
 use Rattle.nd_router.proofs.ports.put_ports.Goals as goal
 
 pub put_port-requires-clause-external : goal.put_port-requires-clause-external

@@ -5,7 +5,7 @@ use Rattle.nb_records.specs.declared.router.Route.{Route}
 use Rattle.nb_model.specs.Network.{same}
 use Rattle.nv_table.proofs.Through.{all_left, these_after, these_fewer, these_next, these_whole}
 use Rattle.nd_router.specs.inner.Made.{route_rows, routes_of}
-use Rattle.nd_router.proofs.Sound.{routes_rise}
+use Rattle.nd_inputs.proofs.Sound.{routes_rise}
 use Rattle.nd_router.proofs.routes.put_routes.Goals as goal
 
 pub loop-route-init : goal.loop-route-init

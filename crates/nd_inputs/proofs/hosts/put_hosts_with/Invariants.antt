@@ -1,5 +1,5 @@
 use Rattle.std.proofs.Common.{◌≡◌, ◌++◌, map, take}
-use Rattle.nd_router.proofs.neighbours.put_hosts_with.Given as goal
+use Rattle.nd_inputs.proofs.hosts.put_hosts_with.Given as goal
 
 -- the hosts of the addresses so far are after what was there
 abbrev pub invariant-loop-ip : goal.invariant-loop-ip

@@ -5,8 +5,8 @@ use Rattle.nb_model.specs.Belongs.{is_snat}
 use Rattle.nb_model.specs.Network.{same}
 use Rattle.nb_router.specs.Vocabulary.{nats_of}
 use Rattle.nv_table.proofs.Through.{all_left, these_fail, these_fewer, these_none, these_pass}
-use Rattle.nd_router.proofs.Sound.{nats_rise}
-use Rattle.nd_router.proofs.nats.has_dnat.Goals as goal
+use Rattle.nd_inputs.proofs.Sound.{nats_rise}
+use Rattle.nd_inputs.proofs.nats.has_dnat.Goals as goal
 
 pub loop-nat-init : goal.loop-nat-init
 loop-nat-init c = ap (list_any (λ (x : Nat). not (is_snat x.kind))) (all_left (λ (x : Nat). x.id) (nats_of c.args.records.now c.args.router))

@@ -1,9 +1,9 @@
 use Rattle.std.proofs.Common.{not, ◌||◌, length, sym, ap, ◌∙◌}
 use Rattle.std.specs.Prelude.{◌==◌}
 use Rattle.nb_model.specs.Applies.{is_empty}
-use Rattle.nd_router.proofs.Any.{none_long}
-use Rattle.nd_router.proofs.Attached.{dnats_is}
-use Rattle.nd_router.proofs.nats.changes_destinations.Goals as goal
+use Rattle.nd_inputs.proofs.Any.{none_long}
+use Rattle.nd_inputs.proofs.Attached.{dnats_is}
+use Rattle.nd_inputs.proofs.nats.changes_destinations.Goals as goal
 
 pub returns-else-has_dnat : goal.returns-else-has_dnat
 returns-else-has_dnat c =

@@ -1,5 +1,5 @@
-use Rattle.nd_router.proofs.Sound.{ports_rise}
-use Rattle.nd_router.proofs.neighbours.hosts_at.Goals as goal
+use Rattle.nd_inputs.proofs.Sound.{ports_rise}
+use Rattle.nd_inputs.proofs.ports.peer_mac.Goals as goal
 
 pub peer_router_port-requires-clause-rise : goal.peer_router_port-requires-clause-rise
 peer_router_port-requires-clause-rise c = ports_rise c.args.records.now c.requires.sound

@@ -2,7 +2,7 @@ use Rattle.std.proofs.Common.{rules, ◌∙◌}
 use Rattle.std.proofs.lemmas.Iterator.{YieldsList-from_slice}
 use Rattle.std.proofs.lemmas.Iterator.Search.{find_from_yields_List}
 use Rattle.lr_units.specs.Words.{holds}
-use Rattle.nd_router.proofs.routes.net_with.Goals as goal
+use Rattle.nd_inputs.proofs.routes.net_with.Goals as goal
 
 pub returns : goal.returns
 returns c =

@@ -1,5 +1,5 @@
 use Rattle.std.proofs.Common.{◌≡◌, map, take}
-use Rattle.nd_router.proofs.neighbours.hosts_of_peer.Given as goal
+use Rattle.nd_inputs.proofs.hosts.hosts_of_peer.Given as goal
 
 -- the hosts are those of the networks so far
 abbrev pub invariant-loop-net : goal.invariant-loop-net

@@ -5,9 +5,9 @@ use Rattle.lr_units.specs.Words.{holds}
 use Rattle.nb_model.specs.Network.{same}
 use Rattle.nb_router.specs.Vocabulary.{ports_of}
 use Rattle.nv_table.proofs.Through.{all_left, these_fewer}
-use Rattle.nd_router.proofs.First.{among, first_left, first_none, first_this}
-use Rattle.nd_router.proofs.Sound.{router_ports_rise}
-use Rattle.nd_router.proofs.routes.port_near.Goals as goal
+use Rattle.nd_inputs.proofs.First.{among, first_left, first_none, first_this}
+use Rattle.nd_inputs.proofs.Sound.{router_ports_rise}
+use Rattle.nd_inputs.proofs.routes.port_near.Goals as goal
 
 pub loop-port-init : goal.loop-port-init
 loop-port-init c =

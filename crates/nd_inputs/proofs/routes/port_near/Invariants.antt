@@ -3,7 +3,7 @@ use Rattle.std.specs.List.{find, list_any}
 use Rattle.lr_units.specs.Words.{holds}
 use Rattle.nb_model.specs.Network.{same}
 use Rattle.nv_table.proofs.Through.{these_after}
-use Rattle.nd_router.proofs.routes.port_near.Given as goal
+use Rattle.nd_inputs.proofs.routes.port_near.Given as goal
 
 -- the first such port is the first among those that are left
 abbrev pub invariant-loop-port : goal.invariant-loop-port

@@ -4,7 +4,7 @@ use Rattle.nb_model.specs.Belongs.{is_snat}
 use Rattle.nb_model.specs.Network.{same}
 use Rattle.nb_router.specs.Vocabulary.{nats_of}
 use Rattle.nv_table.proofs.Through.{these_after}
-use Rattle.nd_router.proofs.nats.has_dnat.Given as goal
+use Rattle.nd_inputs.proofs.nats.has_dnat.Given as goal
 
 -- there is such a rule where one of those that are left is such
 abbrev pub invariant-loop-nat : goal.invariant-loop-nat

@@ -1,7 +1,7 @@
 use Rattle.std.proofs.Common.{◌≡◌, take}
 use Rattle.std.specs.List.{flat_map}
 use Rattle.lr_units.specs.Words.{hosts_of}
-use Rattle.nd_router.proofs.neighbours.hosts_of_all.Given as goal
+use Rattle.nd_inputs.proofs.hosts.hosts_of_all.Given as goal
 
 -- the hosts are those of the addresses so far
 abbrev pub invariant-loop-address : goal.invariant-loop-address

@@ -16,9 +16,9 @@ use Rattle.nv_table.specs.Table.{NumbersRise, has_number, record_of}
 use Rattle.nv_table.proofs.Found.{found_there, own_record}
 use Rattle.net_rows.proofs.Elements.{any_from, any_gives, Contains-filter, Contains-flat_map, Contains-from_filter, Contains-from_flat_map, Contains-from_map, one_first, one_of_none}
 use Rattle.net_rows.proofs.Sound.{each_passes}
-use Rattle.nd_router.specs.inner.Made.{of_found, of_number}
-use Rattle.nd_router.proofs.Any.{both_pass, is_that, kept_passes}
-use Rattle.nd_router.proofs.Sound.{lbs_rise, routers_rise}
+use Rattle.nd_inputs.specs.inner.Numbered.{of_found, of_number}
+use Rattle.nd_inputs.proofs.Any.{both_pass, is_that, kept_passes}
+use Rattle.nd_inputs.proofs.Sound.{lbs_rise, routers_rise}
 
 -- ---- attached to a record of one kind, which lists load balancers by their numbers
 

@@ -1,0 +1,4 @@
+pub mod Any
+pub mod Attached
+pub mod First
+pub mod Sound

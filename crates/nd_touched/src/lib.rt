@@ -1,0 +1,7 @@
+//! What a line of edits touched, kind by kind, and what of a network stays where nothing of it was touched.
+#![tactic(auto)]
+
+mod picks;
+mod touched;
+
+pub use touched::Touched;

@@ -15,7 +15,7 @@ use Rattle.inc_table.specs.Delta.{IsAbove, after_change, alters, alters_each, ch
 use Rattle.inc_table.proofs.Applied.{tied}
 use Rattle.inc_table.proofs.Ends.{above_append, above_more, above_none, none_either, or_else, or_else_none, rise_last, value_append}
 use Rattle.inc_table.proofs.Told.{told_above}
-use Rattle.inc_feed.specs.Feed.{IsFeed, LeadsTo, has_key}
+use Rattle.inc_feed.specs.Feed.{IsFeed, LeadsTo, TellsChange, has_key}
 
 -- what is told of a key, at that key and at others
 told_value : {K V : Type 0} (cmp : K → K → Ordering) (k q : K) (t : Option (Change V)) → value_at cmp k (told_at q t) ≡ cond (is_eq (cmp k q)) t None
@@ -117,3 +117,15 @@ module _ {K V : Type 0} {cmp : K → K → Ordering} (o : IsTotalOrder cmp) (eq 
 
   pub feed_alters : (delta : List (K × Change V)) → KeysRise cmp delta → IsFeed cmp eq keys there wanted delta → alters_each cmp eq delta there ≡ true
   feed_alters delta r feed = all_alter delta delta r feed (λ x c. c)
+
+  -- and it tells what changes to entries that have what is wanted
+  pub feed_tells : ((v : V) → eq v v ≡ true) → (delta : List (K × Change V)) → IsFeed cmp eq keys there wanted delta → TellsChange cmp eq keys there wanted delta
+  feed_tells itself delta feed new led k = feed k ∙ by (has_key cmp k keys) ∙ ap (change_between eq (value_at cmp k there)) (sym (led k))
+    where
+      none : (v : Option V) → None ≡ change_between eq v v
+      none None = refl
+      none (Some v) = ap (λ b. cond b None (Some (Put v))) (sym (itself v))
+
+      by : (b : Bool) → cond b (change_between eq (value_at cmp k there) (wanted k)) None ≡ change_between eq (value_at cmp k there) (cond b (wanted k) (value_at cmp k there))
+      by true = refl
+      by false = none (value_at cmp k there)

@@ -5,7 +5,7 @@ use Rattle.std.specs.Ordering.{is_eq}
 use Rattle.std.specs.declared.cmp.Ordering.{Ordering}
 use Rattle.nv_map.specs.Map.{value_at}
 use Rattle.inc_table.specs.declared.delta.Change.{Change}
-use Rattle.inc_table.specs.Delta.{IsApplied, change_between}
+use Rattle.inc_table.specs.Delta.{IsApplied, IsDifference, change_between}
 
 -- whether a key is among these
 abbrev pub has_key : {K : Type 0} → (K → K → Ordering) → K → List K → Bool
@@ -23,3 +23,7 @@ module _ {K V : Type 0} (cmp : K → K → Ordering) where
   -- applied to what is there, it leads to what is wanted at these keys
   abbrev pub LeadsTo : List K → List (K × V) → (K → Option V) → List (K × Change V) → Type 0
   LeadsTo keys there wanted delta = (new : List (K × V)) → IsApplied cmp delta there new → (key : K) → value_at cmp key new ≡ fed_at keys there wanted key
+
+  -- it tells what changes from what is there to any entries that have what is wanted at these keys, and at any other what is there
+  abbrev pub TellsChange : (V → V → Bool) → List K → List (K × V) → (K → Option V) → List (K × Change V) → Type 0
+  TellsChange eq keys there wanted delta = (new : List (K × V)) → ((key : K) → value_at cmp key new ≡ fed_at keys there wanted key) → IsDifference cmp eq there new delta

@@ -2,7 +2,7 @@ ghost use Rattle.std.specs.Prelude.{◌≡◌, ◌++◌, OnOk, IfOk, IsTrue};
 ghost use Rattle.std.specs.Option.{option_copied};
 ghost use Rattle.nv_map.specs.Map.{KeysRise};
 ghost use Rattle.inc_table.specs.Delta.{IsAbove, alters_each, change_between, told_at};
-ghost use Rattle.inc_feed.specs.Feed.{IsFeed, LeadsTo};
+ghost use Rattle.inc_feed.specs.Feed.{IsFeed, LeadsTo, TellsChange};
 
 use crate::{Entries, Keys, Wanted};
 use inc_table::{Change, Delta};
@@ -23,6 +23,7 @@ where
     ensures feed { IfOk result (λ delta. IsFeed W.Key.cmp W.Value.eq keys.now (E.entries_of there.now) (W.wanted_of wanted.now) delta) }
     ensures rise { IfOk result (λ delta. KeysRise W.Key.cmp delta) }
     ensures alters { IfOk result (λ delta. IsTrue (alters_each W.Key.cmp W.Value.eq delta (E.entries_of there.now))) }
+    ensures tells { IfOk result (λ delta. TellsChange W.Key.cmp W.Value.eq keys.now (E.entries_of there.now) (W.wanted_of wanted.now) delta) }
     ensures leads { IfOk result (λ delta. LeadsTo W.Key.cmp keys.now (E.entries_of there.now) (W.wanted_of wanted.now) delta) }
 {
     let mut delta = Delta::new(alloc);

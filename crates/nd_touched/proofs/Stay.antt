@@ -6,6 +6,7 @@ use Rattle.std.specs.Option.{option_map}
 use Rattle.std.proofs.lemmas.Bool.{eqb-true}
 use Rattle.std.specs.Cmp.{unsigned_tied}
 use Rattle.nv_base.specs.declared.object.ObjId.{ObjId}
+use Rattle.nb_store.specs.Touched.{AreAlikeBut}
 use Rattle.nv_map.specs.Map.{value_at}
 use Rattle.nv_table.specs.Table.{NumbersRise, has_number, record_of, unkeyed}
 use Rattle.nv_table.specs.inner.Index.{keyed}
@@ -81,3 +82,22 @@ module _ {R : Type 0} (number : R → ObjId) where
       ap (λ b. cond b (Some (give r)) (value_at by_number n (map (λ x. (number x, give x)) rs))) (unsigned_tied n.0 (number r).0)
       ∙ ap (cond (has_number number n r) (Some (give r))) (value_given give n rs)
       ∙ over_cond give (has_number number n r) r (record_of number n rs)
+
+  -- what a record that stays gives stays
+  pub given_stays : {I : Type 0} (give : R → I) (old new : List R) (n : ObjId) → record_of number n old ≡ record_of number n new → value_at by_number n (map (λ r. (number r, give r)) old) ≡ value_at by_number n (map (λ r. (number r, give r)) new)
+  given_stays give old new n same = value_given give n old ∙ ap (option_map give) same ∙ sym (value_given give n new)
+
+  -- what the record that is found gives, in the list in which it is looked for
+  pub found_gives : {I : Type 0} (give : R → I) (n : ObjId) (rs list : List R) (found : Option R) → found ≡ record_of number n list → list ≡ rs → option_map give found ≡ value_at by_number n (map (λ r. (number r, give r)) rs)
+  found_gives give n rs list found is same = ap (option_map give) (is ∙ ap (record_of number n) same) ∙ sym (value_given give n rs)
+
+  -- a record is there, or none is, where two are alike but for what they list
+  pub there_stays : {S : Type 0} (moved : ObjId → Type 0) (lists : R → List ObjId) (rest : R → S) (old new : List R) (n : ObjId) → AreAlikeBut moved lists rest (record_of number n old) (record_of number n new)
+      → value_at by_number n (map (λ r. (number r, tt {0})) old) ≡ value_at by_number n (map (λ r. (number r, tt {0})) new)
+  there_stays {S} moved lists rest old new n alike = value_given (λ r. tt) n old ∙ by (record_of number n old) (record_of number n new) alike ∙ sym (value_given (λ r. tt) n new)
+    where
+      by : (a b : Option R) → AreAlikeBut moved lists rest a b → option_map (λ (r : R). tt {0}) a ≡ option_map (λ (r : R). tt {0}) b
+      by None None alike = refl
+      by (Some a) (Some b) alike = refl
+      by None (Some b) alike = absurd alike
+      by (Some a) None alike = absurd alike

@@ -4,7 +4,7 @@ use Rattle.nv_map.specs.Map.{value_at}
 use Rattle.nv_map.proofs.Values.{exact_order}
 use Rattle.inc_table.specs.Delta.{change_between, told_at}
 use Rattle.inc_feed.specs.Feed.{IsFeed}
-use Rattle.inc_feed.proofs.Fed.{IsAboveAll, above_end, above_told, feed_alters, feed_leads, feed_more, rise_told}
+use Rattle.inc_feed.proofs.Fed.{IsAboveAll, above_end, above_told, feed_alters, feed_leads, feed_more, feed_tells, rise_told}
 use Rattle.inc_feed.proofs.Sorted.{below_place}
 use Rattle.inc_feed.proofs.feed.delta_of.Goals as goal
 
@@ -39,4 +39,10 @@ pub returns-clause-leads : goal.returns-clause-leads
 returns-clause-leads g c =
     let all = take_all c.loop-key.key-index c.args.keys.now (subst (λ (l : List g.row.W-Key.Denot). length l ≤ c.loop-key.key-index) c.as_slice-key-items.ensures.keys (omega (arith, c.loop-key-test.false))) in
     feed_leads g.met.W.Key.Ord.total g.W.Value.PartialEq.eq c.args.keys.now (g.E.Entries.entries_of c.args.there.now) (g.W.Wanted.wanted_of c.args.wanted.now) g.met.W.Value.Kept.exact c.loop-key.delta
+    (subst (λ l. IsFeed g.W.Key.Ord.cmp g.W.Value.PartialEq.eq l (g.E.Entries.entries_of c.args.there.now) (g.W.Wanted.wanted_of c.args.wanted.now) c.loop-key.delta) all c.loop-key.invariant.feed)
+
+pub returns-clause-tells : goal.returns-clause-tells
+returns-clause-tells g c =
+    let all = take_all c.loop-key.key-index c.args.keys.now (subst (λ (l : List g.row.W-Key.Denot). length l ≤ c.loop-key.key-index) c.as_slice-key-items.ensures.keys (omega (arith, c.loop-key-test.false))) in
+    feed_tells g.met.W.Key.Ord.total g.W.Value.PartialEq.eq c.args.keys.now (g.E.Entries.entries_of c.args.there.now) (g.W.Wanted.wanted_of c.args.wanted.now) g.met.W.Value.Eq.laws.refl c.loop-key.delta
     (subst (λ l. IsFeed g.W.Key.Ord.cmp g.W.Value.PartialEq.eq l (g.E.Entries.entries_of c.args.there.now) (g.W.Wanted.wanted_of c.args.wanted.now) c.loop-key.delta) all c.loop-key.invariant.feed)

@@ -1,0 +1,62 @@
+ghost use Rattle.std.specs.Prelude.{IfOk, IsTrue};
+ghost use Rattle.inc_table.specs.Delta.{IsDifference, alters_each};
+ghost use Rattle.nb_model.specs.Network.{Network};
+ghost use Rattle.nd_touched.specs.Touched.{AreSameButFor};
+ghost use Rattle.nd_touched.specs.Units.{HasUnits};
+ghost use Rattle.lr_rows.specs.contracts.inputs.PortRouteInputPartialEq.TheImpl as input;
+ghost use Rattle.net_units.specs.Keys.{by_number};
+ghost use Rattle.lr_units.specs.Units.{port_route_units};
+ghost use Rattle.nv_map.specs.Map.{KeysRise};
+
+use inc_feed::{Wanted, delta_of};
+use inc_table::{Delta, Owned};
+use lr_rows::PortRouteInput;
+use nb_store::Records;
+use nd_inputs::port_route_input;
+use nd_touched::Touched;
+use nv_base::{ObjId, OutOfMemory};
+use std::alloc::Global;
+
+// The units of routing to the networks of ports that a network has.
+#[derive(Drop)]
+struct PortRouteUnits<'a> {
+    records: &'a Records,
+}
+
+impl Wanted for PortRouteUnits<'_> {
+    ghost use Rattle.net_units.specs.Keys.{by_number};
+    ghost use Rattle.lr_units.specs.Units.{port_route_units};
+    ghost use Rattle.nv_map.specs.Map.{value_at};
+
+    type Key = ObjId;
+
+    type Value = PortRouteInput;
+
+    ghost wanted_of = { λ units key. value_at by_number key (port_route_units units.records.now) };
+
+    fn wanted(&self, alloc: Global, key: &ObjId) -> Result<Option<PortRouteInput>, OutOfMemory> {
+        match self.records.router_ports().get(*key) {
+            Some(port) => Ok(Some(port_route_input(alloc, port)?)),
+            None => Ok(None),
+        }
+    }
+}
+
+/// What changed of the units of routing to the networks of ports of routers, where this was touched. Where memory runs out the answer is `OutOfMemory`.
+pub fn port_route_delta(
+    alloc: Global,
+    records: &Records,
+    touched: &Touched,
+    there: &Owned<ObjId, PortRouteInput>,
+) -> Result<Delta<ObjId, PortRouteInput>, OutOfMemory>
+    ensures tells { IfOk result (λ delta. (old : Network) → AreSameButFor touched.now old records.now → HasUnits by_number (port_route_units old) there.now → IsDifference by_number (input.ghosts).eq there.now (port_route_units records.now) delta) }
+    ensures rise { IfOk result (λ delta. KeysRise by_number delta) }
+    ensures alters { IfOk result (λ delta. IsTrue (alters_each by_number (input.ghosts).eq delta there.now)) }
+{
+    Ok(delta_of(
+        alloc,
+        &PortRouteUnits { records },
+        &touched.router_ports,
+        there,
+    )?)
+}

@@ -1,3 +1,4 @@
 pub mod Fed
 pub mod Picked
 pub mod Stay
+pub mod Told

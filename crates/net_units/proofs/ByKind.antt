@@ -1,8 +1,8 @@
--- The rows of a network by the kinds of its units are its rows object by object.
-use Rattle.std.proofs.Common.{◌≡◌, Bool, true, false, List, [], ◌∷◌, ◌++◌, map, sym, ap, refl, ◌∙◌, subst, ◌⊎◌, inl, inr, append_assoc}
-use Rattle.std.specs.Prelude.{◌↔◌, if◌then◌else◌, ⊤}
+-- The rows of a network by the kinds of its units are its rows object by object, in another order.
+use Rattle.std.proofs.Common.{◌≡◌, Bool, true, false, List, [], ◌∷◌, ◌++◌, map, sym, ap, refl, ◌∙◌, subst, append_assoc}
+use Rattle.std.specs.Prelude.{◌↔◌, if◌then◌else◌, ⊤, IsPermutation}
 use Rattle.std.specs.List.{Contains, filter, flat_map}
-use Rattle.std.proofs.lemmas.List.Elements.{Contains-append_left, Contains-append_right, Contains-append_cases}
+use Rattle.std.proofs.lemmas.List.Sorted.{Contains-permutation, IsPermutation-append, IsPermutation-append_comm, IsPermutation-append_left, IsPermutation-append_right, IsPermutation-refl, IsPermutation-sym, IsPermutation-trans}
 use Rattle.nv_base.specs.declared.object.ObjId.{ObjId}
 use Rattle.nb_records.specs.declared.acl.Acl.{Acl}
 use Rattle.nb_records.specs.declared.balancer.Lb.{Lb}
@@ -20,57 +20,30 @@ use Rattle.net_rows.specs.PortSecurity.{port_sec_rules, switch_sec_rules}
 use Rattle.net_rows.specs.Unit.{said_by, unit_of, unit_of_datapath}
 use Rattle.net_rows.specs.declared.rule.Rule.{Rule}
 use Rattle.net_rows.specs.declared.rule.Unit.{Unit}
-use Rattle.net_rows.proofs.Elements.{Contains-flat_map, Contains-from_flat_map}
 use Rattle.lr_units.specs.Build.{router_rows}
 use Rattle.lr_units.specs.Network.{rows_of_units}
 use Rattle.net_units.specs.Build.{acl_on_rows, port_acl_rows, port_l2_rows, port_sec_rows, rows_by_kind, rows_of_ports, rows_of_switches, switch_acl_rows, switch_l2_rows, switch_lb_rows, switch_sec_rows, vip_switch_rows}
 
--- ---- lists with the same members
+-- ---- lists of the same elements
 
--- each member of the one is one of the other
-abbrev Alike : {X : Type 0} → List X → List X → Type 0
-Alike {X} xs ys = ((x : X) → Contains xs x → Contains ys x) × ((x : X) → Contains ys x → Contains xs x)
+in_order : {X : Type 0} (xs ys : List X) → xs ≡ ys → IsPermutation xs ys
+in_order xs ys same = subst (IsPermutation xs) same (IsPermutation-refl xs)
 
-alike_refl : {X : Type 0} (xs : List X) → Alike xs xs
-alike_refl xs = ((λ x there. there), (λ x there. there))
+-- the inner two of four change places
+exchanged : {X : Type 0} (a b c d : List X) → IsPermutation ((a ++ b) ++ (c ++ d)) ((a ++ c) ++ (b ++ d))
+exchanged a b c d =
+    let inner : IsPermutation (b ++ (c ++ d)) (c ++ (b ++ d)) =
+    subst (λ l. IsPermutation l (c ++ (b ++ d))) (append_assoc b c d) (subst (IsPermutation ((b ++ c) ++ d)) (append_assoc c b d) (IsPermutation-append_left d (b ++ c) (c ++ b) (IsPermutation-append_comm b c))) in
+    subst (λ l. IsPermutation l ((a ++ c) ++ (b ++ d))) (sym (append_assoc a b (c ++ d)))
+    (subst (IsPermutation (a ++ (b ++ (c ++ d)))) (sym (append_assoc a c (b ++ d))) (IsPermutation-append_right a (b ++ (c ++ d)) (c ++ (b ++ d)) inner))
 
-alike_trans : {X : Type 0} (xs ys zs : List X) → Alike xs ys → Alike ys zs → Alike xs zs
-alike_trans xs ys zs first second = ((λ x there. second.0 x (first.0 x there)), (λ x there. first.1 x (second.1 x there)))
-
-alike_from : {X : Type 0} (xs ys : List X) → xs ≡ ys → Alike xs ys
-alike_from xs ys same = subst (Alike xs) same (alike_refl xs)
-
-part_in : {X : Type 0} (xs ys : List X) (us vs : List X) → ((x : X) → Contains xs x → Contains us x) → ((x : X) → Contains ys x → Contains vs x) → (x : X) → Contains (xs ++ ys) x → Contains (us ++ vs) x
-part_in xs ys us vs one other x there = by (Contains-append_cases xs ys x there)
-  where
-    by : Contains xs x ⊎ Contains ys x → Contains (us ++ vs) x
-    by (inl is) = Contains-append_left us vs x (one x is)
-    by (inr is) = Contains-append_right us vs x (other x is)
-
-alike_append : {X : Type 0} (xs ys us vs : List X) → Alike xs us → Alike ys vs → Alike (xs ++ ys) (us ++ vs)
-alike_append xs ys us vs one other = (part_in xs ys us vs one.0 other.0, part_in us vs xs ys one.1 other.1)
-
--- ---- what the elements of a list give in two parts is given part by part
-
-module _ {X Y : Type 0} (f g : X → List Y) (xs : List X) where
-  into : (y : Y) → Contains (flat_map (λ x. f x ++ g x) xs) y → Contains (flat_map f xs ++ flat_map g xs) y
-  into y there =
-      let at = Contains-from_flat_map (λ x. f x ++ g x) xs y there in
-      by at.0 at.1 (Contains-append_cases (f at.0) (g at.0) y at.2)
-    where
-      by : (x : X) → Contains xs x → Contains (f x) y ⊎ Contains (g x) y → Contains (flat_map f xs ++ flat_map g xs) y
-      by x in_it (inl is) = Contains-append_left (flat_map f xs) (flat_map g xs) y (Contains-flat_map f xs x y in_it is)
-      by x in_it (inr is) = Contains-append_right (flat_map f xs) (flat_map g xs) y (Contains-flat_map g xs x y in_it is)
-
-  back : (y : Y) → Contains (flat_map f xs ++ flat_map g xs) y → Contains (flat_map (λ x. f x ++ g x) xs) y
-  back y there = by (Contains-append_cases (flat_map f xs) (flat_map g xs) y there)
-    where
-      by : Contains (flat_map f xs) y ⊎ Contains (flat_map g xs) y → Contains (flat_map (λ x. f x ++ g x) xs) y
-      by (inl is) = let at = Contains-from_flat_map f xs y is in Contains-flat_map (λ x. f x ++ g x) xs at.0 y at.1 (Contains-append_left (f at.0) (g at.0) y at.2)
-      by (inr is) = let at = Contains-from_flat_map g xs y is in Contains-flat_map (λ x. f x ++ g x) xs at.0 y at.1 (Contains-append_right (f at.0) (g at.0) y at.2)
-
-  part_by_part : Alike (flat_map f xs ++ flat_map g xs) (flat_map (λ x. f x ++ g x) xs)
-  part_by_part = (back, into)
+-- what the elements of a list give in two parts is given part by part
+part_by_part : {X Y : Type 0} (f g : X → List Y) (xs : List X) → IsPermutation (flat_map f xs ++ flat_map g xs) (flat_map (λ x. f x ++ g x) xs)
+part_by_part f g [] = IsPermutation-refl []
+part_by_part f g (x ∷ xs) =
+    IsPermutation-trans ((f x ++ flat_map f xs) ++ (g x ++ flat_map g xs)) ((f x ++ g x) ++ (flat_map f xs ++ flat_map g xs)) ((f x ++ g x) ++ flat_map (λ y. f y ++ g y) xs)
+    (exchanged (f x) (flat_map f xs) (g x) (flat_map g xs))
+    (IsPermutation-append_right (f x ++ g x) (flat_map f xs ++ flat_map g xs) (flat_map (λ y. f y ++ g y) xs) (part_by_part f g xs))
 
 -- ---- lists of lists, flattened
 
@@ -138,8 +111,8 @@ module _ (net : Network) where
       ∙ ap (λ rest. sec_of switch ++ rest) (said_append unit acl (switch_lb_rules ++ l2)
       ∙ ap (λ rest. acl_of switch ++ rest) (said_append unit switch_lb_rules l2))
 
-  switches_alike : Alike (rows_of_switches net) (flat_map (build.switch_rows net) net.switches)
-  switches_alike =
+  switches_permuted : IsPermutation (rows_of_switches net) (flat_map (build.switch_rows net) net.switches)
+  switches_permuted =
       let one = flat_map (λ switch. lb_of switch ++ l2_of switch) net.switches in
       let two = flat_map (λ switch. acl_of switch ++ (lb_of switch ++ l2_of switch)) net.switches in
       let all = flat_map (λ switch. sec_of switch ++ (acl_of switch ++ (lb_of switch ++ l2_of switch))) net.switches in
@@ -147,19 +120,19 @@ module _ (net : Network) where
       let acl_is : switch_acl_rows net ≡ flat_map acl_of net.switches = flat_of_map _ _ net.switches in
       let lb_is : switch_lb_rows net ≡ flat_map lb_of net.switches = flat_of_map (λ (unit : ObjId × ⊤). said_by (unit_of_datapath unit.0) switch_lb_rules) _ net.switches in
       let l2_is : switch_l2_rows net ≡ flat_map l2_of net.switches = flat_of_map _ _ net.switches in
-      let last : Alike (switch_lb_rows net ++ switch_l2_rows net) one =
-      alike_trans (switch_lb_rows net ++ switch_l2_rows net) (flat_map lb_of net.switches ++ flat_map l2_of net.switches) one
-      (alike_append (switch_lb_rows net) (switch_l2_rows net) (flat_map lb_of net.switches) (flat_map l2_of net.switches) (alike_from (switch_lb_rows net) (flat_map lb_of net.switches) lb_is) (alike_from (switch_l2_rows net) (flat_map l2_of net.switches) l2_is))
+      let last : IsPermutation (switch_lb_rows net ++ switch_l2_rows net) one =
+      IsPermutation-trans (switch_lb_rows net ++ switch_l2_rows net) (flat_map lb_of net.switches ++ flat_map l2_of net.switches) one
+      (IsPermutation-append (switch_lb_rows net) (flat_map lb_of net.switches) (switch_l2_rows net) (flat_map l2_of net.switches) (in_order (switch_lb_rows net) (flat_map lb_of net.switches) lb_is) (in_order (switch_l2_rows net) (flat_map l2_of net.switches) l2_is))
       (part_by_part lb_of l2_of net.switches) in
-      let middle : Alike (switch_acl_rows net ++ (switch_lb_rows net ++ switch_l2_rows net)) two =
-      alike_trans (switch_acl_rows net ++ (switch_lb_rows net ++ switch_l2_rows net)) (flat_map acl_of net.switches ++ one) two
-      (alike_append (switch_acl_rows net) (switch_lb_rows net ++ switch_l2_rows net) (flat_map acl_of net.switches) one (alike_from (switch_acl_rows net) (flat_map acl_of net.switches) acl_is) last)
+      let middle : IsPermutation (switch_acl_rows net ++ (switch_lb_rows net ++ switch_l2_rows net)) two =
+      IsPermutation-trans (switch_acl_rows net ++ (switch_lb_rows net ++ switch_l2_rows net)) (flat_map acl_of net.switches ++ one) two
+      (IsPermutation-append (switch_acl_rows net) (flat_map acl_of net.switches) (switch_lb_rows net ++ switch_l2_rows net) one (in_order (switch_acl_rows net) (flat_map acl_of net.switches) acl_is) last)
       (part_by_part acl_of (λ switch. lb_of switch ++ l2_of switch) net.switches) in
-      let whole : Alike (rows_of_switches net) all =
-      alike_trans (rows_of_switches net) (flat_map sec_of net.switches ++ two) all
-      (alike_append (switch_sec_rows net) (switch_acl_rows net ++ (switch_lb_rows net ++ switch_l2_rows net)) (flat_map sec_of net.switches) two (alike_from (switch_sec_rows net) (flat_map sec_of net.switches) sec_is) middle)
+      let whole : IsPermutation (rows_of_switches net) all =
+      IsPermutation-trans (rows_of_switches net) (flat_map sec_of net.switches ++ two) all
+      (IsPermutation-append (switch_sec_rows net) (flat_map sec_of net.switches) (switch_acl_rows net ++ (switch_lb_rows net ++ switch_l2_rows net)) two (in_order (switch_sec_rows net) (flat_map sec_of net.switches) sec_is) middle)
       (part_by_part sec_of (λ switch. acl_of switch ++ (lb_of switch ++ l2_of switch)) net.switches) in
-      subst (Alike (rows_of_switches net)) (sym (flat_alike (build.switch_rows net) (λ switch. sec_of switch ++ (acl_of switch ++ (lb_of switch ++ l2_of switch))) net.switches switch_is)) whole
+      subst (IsPermutation (rows_of_switches net)) (sym (flat_alike (build.switch_rows net) (λ switch. sec_of switch ++ (acl_of switch ++ (lb_of switch ++ l2_of switch))) net.switches switch_is)) whole
 
   -- of a port in each of its three
   abbrev port_sec_of : Port → List Row
@@ -181,22 +154,22 @@ module _ (net : Network) where
       ∙ ap (λ rest. port_sec_of port ++ rest) (said_append unit acl l2
       ∙ ap (λ first. first ++ port_l2_of port) (said_if unit (build.is_untracked net port) (port_acl_rules (build.port_acl_input port))))
 
-  ports_alike : Alike (rows_of_ports net) (flat_map (build.port_rows net) net.ports)
-  ports_alike =
+  ports_permuted : IsPermutation (rows_of_ports net) (flat_map (build.port_rows net) net.ports)
+  ports_permuted =
       let one = flat_map (λ port. port_acl_of port ++ port_l2_of port) net.ports in
       let all = flat_map (λ port. port_sec_of port ++ (port_acl_of port ++ port_l2_of port)) net.ports in
       let sec_is : port_sec_rows net ≡ flat_map port_sec_of net.ports = flat_of_map _ _ net.ports in
       let acl_is : port_acl_rows net ≡ flat_map port_acl_of net.ports = flat_of_map _ _ (filter (build.is_untracked net) net.ports) ∙ flat_kept (build.is_untracked net) _ net.ports in
       let l2_is : port_l2_rows net ≡ flat_map port_l2_of net.ports = flat_of_map _ _ net.ports in
-      let last : Alike (port_acl_rows net ++ port_l2_rows net) one =
-      alike_trans (port_acl_rows net ++ port_l2_rows net) (flat_map port_acl_of net.ports ++ flat_map port_l2_of net.ports) one
-      (alike_append (port_acl_rows net) (port_l2_rows net) (flat_map port_acl_of net.ports) (flat_map port_l2_of net.ports) (alike_from (port_acl_rows net) (flat_map port_acl_of net.ports) acl_is) (alike_from (port_l2_rows net) (flat_map port_l2_of net.ports) l2_is))
+      let last : IsPermutation (port_acl_rows net ++ port_l2_rows net) one =
+      IsPermutation-trans (port_acl_rows net ++ port_l2_rows net) (flat_map port_acl_of net.ports ++ flat_map port_l2_of net.ports) one
+      (IsPermutation-append (port_acl_rows net) (flat_map port_acl_of net.ports) (port_l2_rows net) (flat_map port_l2_of net.ports) (in_order (port_acl_rows net) (flat_map port_acl_of net.ports) acl_is) (in_order (port_l2_rows net) (flat_map port_l2_of net.ports) l2_is))
       (part_by_part port_acl_of port_l2_of net.ports) in
-      let whole : Alike (rows_of_ports net) all =
-      alike_trans (rows_of_ports net) (flat_map port_sec_of net.ports ++ one) all
-      (alike_append (port_sec_rows net) (port_acl_rows net ++ port_l2_rows net) (flat_map port_sec_of net.ports) one (alike_from (port_sec_rows net) (flat_map port_sec_of net.ports) sec_is) last)
+      let whole : IsPermutation (rows_of_ports net) all =
+      IsPermutation-trans (rows_of_ports net) (flat_map port_sec_of net.ports ++ one) all
+      (IsPermutation-append (port_sec_rows net) (flat_map port_sec_of net.ports) (port_acl_rows net ++ port_l2_rows net) one (in_order (port_sec_rows net) (flat_map port_sec_of net.ports) sec_is) last)
       (part_by_part port_sec_of (λ port. port_acl_of port ++ port_l2_of port) net.ports) in
-      subst (Alike (rows_of_ports net)) (sym (flat_alike (build.port_rows net) (λ port. port_sec_of port ++ (port_acl_of port ++ port_l2_of port)) net.ports port_is)) whole
+      subst (IsPermutation (rows_of_ports net)) (sym (flat_alike (build.port_rows net) (λ port. port_sec_of port ++ (port_acl_of port ++ port_l2_of port)) net.ports port_is)) whole
 
   acl_is : (acl : Acl) (switch : Switch) → build.acl_on_rows net acl switch ≡ said_by (unit_of switch.id acl.id) (acl_on_rules (build.acl_on_input net acl switch.id))
   acl_is acl switch = unfold build.acl_on_rows in refl
@@ -216,18 +189,20 @@ module _ (net : Network) where
       flat_of_flat _ _ (lbs_on net switch.id)
       ∙ flat_alike _ (build.lb_on_rows switch) (lbs_on net switch.id) (λ lb. flat_of_map _ _ lb.vips ∙ flat_alike _ (build.vip_on_rows switch lb) lb.vips (λ vip. sym (vip_is switch lb vip))))
 
-  units_alike : Alike (rows_by_kind net) (rows_of_units net)
-  units_alike =
+  pub units_permuted : IsPermutation (rows_by_kind net) (rows_of_units net)
+  units_permuted =
       let others = acl_on_rows net ++ vip_switch_rows net in
       let theirs = flat_map (build.acl_rows net) net.acls ++ flat_map (build.lb_rows net) net.switches in
-      let tail : Alike others theirs =
-      alike_append (acl_on_rows net) (vip_switch_rows net) (flat_map (build.acl_rows net) net.acls) (flat_map (build.lb_rows net) net.switches)
-      (alike_from (acl_on_rows net) (flat_map (build.acl_rows net) net.acls) acls_same) (alike_from (vip_switch_rows net) (flat_map (build.lb_rows net) net.switches) vips_same) in
-      let ports : Alike (rows_of_ports net ++ others) (flat_map (build.port_rows net) net.ports ++ theirs) =
-      alike_append (rows_of_ports net) others (flat_map (build.port_rows net) net.ports) theirs ports_alike tail in
-      let switches : Alike (rows_of_switches net ++ (rows_of_ports net ++ others)) (build.all_rows net) =
-      alike_append (rows_of_switches net) (rows_of_ports net ++ others) (flat_map (build.switch_rows net) net.switches) (flat_map (build.port_rows net) net.ports ++ theirs) switches_alike ports in
-      alike_append (rows_of_switches net ++ (rows_of_ports net ++ others)) (router_rows net) (build.all_rows net) (router_rows net) switches (alike_refl (router_rows net))
+      let tail : IsPermutation others theirs =
+      IsPermutation-append (acl_on_rows net) (flat_map (build.acl_rows net) net.acls) (vip_switch_rows net) (flat_map (build.lb_rows net) net.switches)
+      (in_order (acl_on_rows net) (flat_map (build.acl_rows net) net.acls) acls_same) (in_order (vip_switch_rows net) (flat_map (build.lb_rows net) net.switches) vips_same) in
+      let ports : IsPermutation (rows_of_ports net ++ others) (flat_map (build.port_rows net) net.ports ++ theirs) =
+      IsPermutation-append (rows_of_ports net) (flat_map (build.port_rows net) net.ports) others theirs ports_permuted tail in
+      let switches : IsPermutation (rows_of_switches net ++ (rows_of_ports net ++ others)) (build.all_rows net) =
+      IsPermutation-append (rows_of_switches net) (flat_map (build.switch_rows net) net.switches) (rows_of_ports net ++ others) (flat_map (build.port_rows net) net.ports ++ theirs) switches_permuted ports in
+      IsPermutation-append (rows_of_switches net ++ (rows_of_ports net ++ others)) (build.all_rows net) (router_rows net) (router_rows net) switches (IsPermutation-refl (router_rows net))
 
 pub rows_alike : (net : Network) (row : Row) → (Contains (rows_by_kind net) row) ↔ (Contains (rows_of_units net) row)
-rows_alike net row = let both = units_alike net in (both.0 row, both.1 row)
+rows_alike net row =
+    let both = units_permuted net in
+    (Contains-permutation (rows_by_kind net) (rows_of_units net) row both, Contains-permutation (rows_of_units net) (rows_by_kind net) row (IsPermutation-sym (rows_by_kind net) (rows_of_units net) both))

@@ -1,28 +1,31 @@
 -- Lists of units in which no key stands twice.
 use Rattle.std.proofs.Common.{◌≡◌, ◌≢◌, ◌<◌, false, List, [], ◌∷◌, ◌⊎◌, inl, inr, map, refl, sym, ap, ◌∙◌, arith}
 use Rattle.std.specs.List.{AllByRecursion, Contains, IsDistinct, flat_map}
-use Rattle.std.specs.Cmp.{ties}
+use Rattle.std.specs.Cmp.{IsTotalOrder, ties}
 use Rattle.std.specs.Map.{keys_of}
 use Rattle.std.specs.Ordering.{eq_by_cmp, ordering_then}
 use Rattle.std.specs.declared.cmp.Ordering.{Ordering}
 use Rattle.std.specs.declared.cmp.Ordering.TheVariants.{Less, Equal, Greater}
+use Rattle.std.proofs.lemmas.Cmp.{on_total, then_total}
 use Rattle.std.proofs.lemmas.Map.Keys.{IsDistinct-cons}
 use Rattle.std.proofs.lemmas.Map.Lookups.{CmpEqualImpliesEq}
 use Rattle.nv_base.specs.inner.Exact.{address, object}
 use Rattle.nv_base.specs.contracts.ip4.Ip4Ord.TheImpl as addr_ord
 use Rattle.nv_base.specs.contracts.ip4.Ip4PartialEq.TheImpl as addr_eq
-use Rattle.nv_base.specs.contracts.ip4.Ip4Ord.TheImpl.Laws.{matches_partial_cmp-law as addrs_as_partial}
+use Rattle.nv_base.specs.contracts.ip4.Ip4Ord.TheImpl.Laws.{matches_partial_cmp-law as addrs_as_partial, total-law as addr_total}
 use Rattle.nv_base.specs.contracts.ip4.Ip4PartialOrd.TheImpl.Laws.{laws-law as addrs_partial}
 use Rattle.nv_base.specs.contracts.object.ObjIdPartialEq.TheImpl as number_eq
-use Rattle.nv_base.specs.contracts.object.ObjIdOrd.TheImpl.Laws.{matches_partial_cmp-law as numbers_as_partial}
+use Rattle.nv_base.specs.contracts.object.ObjIdOrd.TheImpl.Laws.{matches_partial_cmp-law as numbers_as_partial, total-law as number_total}
 use Rattle.nv_base.specs.contracts.object.ObjIdPartialOrd.TheImpl.Laws.{laws-law as numbers_partial}
+use Rattle.nv_base.specs.declared.ip4.Ip4.{Ip4}
 use Rattle.nv_base.specs.declared.object.ObjId.{ObjId}
 use Rattle.nv_map.proofs.Values.{apart_by, exact_order}
 use Rattle.nb_records.specs.contracts.balancer.FrontendOrd.TheImpl as frontend_ord
 use Rattle.nb_records.specs.contracts.balancer.FrontendPartialEq.TheImpl as frontend_eq
-use Rattle.nb_records.specs.contracts.balancer.FrontendOrd.TheImpl.Laws.{matches_partial_cmp-law as frontends_as_partial}
+use Rattle.nb_records.specs.contracts.balancer.FrontendOrd.TheImpl.Laws.{matches_partial_cmp-law as frontends_as_partial, total-law as frontend_total}
 use Rattle.nb_records.specs.contracts.balancer.FrontendPartialOrd.TheImpl.Laws.{laws-law as frontends_partial}
 use Rattle.nb_records.specs.inner.Exact as of_records
+use Rattle.nb_records.specs.declared.balancer.Frontend.{Frontend}
 use Rattle.nb_records.specs.declared.balancer.Lb.{Lb}
 use Rattle.net_rows.proofs.Elements.{Contains-from_flat_map, Contains-from_map, one_of, one_of_none}
 use Rattle.net_rows.proofs.Pairs.{OfPairs, every_from_members, every_member, pairs_as, pairs_flat_map, pairs_map}
@@ -65,6 +68,21 @@ vip_exact = three_exact (frontend_ord.ghosts).cmp frontend_exact
 
 pub addrs_exact : CmpEqualImpliesEq by_addr
 addrs_exact = three_exact (addr_ord.ghosts).cmp addr_exact
+
+-- ---- and any two keys are in order
+
+pub numbers_total : IsTotalOrder by_numbers
+numbers_total = then_total (on_total (λ (k : ObjId × ObjId). k.0) number_total) (on_total (λ (k : ObjId × ObjId). k.1) number_total)
+
+pub vips_total : IsTotalOrder by_vip
+vips_total =
+    then_total (then_total (on_total (λ (k : ObjId × Frontend × ObjId). k.0) number_total) (on_total (λ (k : ObjId × Frontend × ObjId). k.1) frontend_total))
+    (on_total (λ (k : ObjId × Frontend × ObjId). k.2) number_total)
+
+pub addrs_total : IsTotalOrder by_addr
+addrs_total =
+    then_total (then_total (on_total (λ (k : ObjId × Ip4 × ObjId). k.0) number_total) (on_total (λ (k : ObjId × Ip4 × ObjId). k.1) addr_total))
+    (on_total (λ (k : ObjId × Ip4 × ObjId). k.2) number_total)
 
 -- ---- units with two keys
 

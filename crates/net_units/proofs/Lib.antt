@@ -4,4 +4,5 @@ pub mod Distinct
 pub mod OnRouters
 pub mod OnSwitches
 pub mod Once
+pub mod OneUnit
 pub mod Unchanged

@@ -2,12 +2,9 @@
 use Rattle.std.proofs.Common.{◌≡◌, ℕ, Bool, List, ◌∷◌, replicate, refl, ap, ◌∙◌}
 use Rattle.std.specs.Prelude.{⊤}
 use Rattle.std.specs.Cmp.{IsEquivalence}
-use Rattle.std.proofs.lemmas.Cmp.{on_total, then_total}
-use Rattle.nv_base.specs.contracts.ip4.Ip4Ord.TheImpl.Laws.{total-law as addrs_total}
 use Rattle.nv_base.specs.contracts.object.ObjIdOrd.TheImpl.Laws.{total-law as number_total}
 use Rattle.nv_base.specs.declared.ip4.Ip4.{Ip4}
 use Rattle.nv_base.specs.declared.object.ObjId.{ObjId}
-use Rattle.nb_records.specs.contracts.balancer.FrontendOrd.TheImpl.Laws.{total-law as frontends_total}
 use Rattle.nb_records.specs.declared.balancer.Frontend.{Frontend}
 use Rattle.nb_model.specs.Network.{Network}
 use Rattle.net_rows.specs.contracts.inputs.AclOnInputEq.TheImpl.Laws.{laws-law as acl_on_laws}
@@ -30,27 +27,20 @@ use Rattle.net_units.specs.Counts.{changed, makes, same_none}
 use Rattle.net_units.specs.Keys.{AllKeysStandOnce, KeysStandOnce, by_addr, by_number, by_numbers, by_vip}
 use Rattle.net_units.specs.Units.{acl_on_units, port_acl_units, port_l2_units, port_sec_units, switch_acl_units, switch_l2_units, switch_units, vip_switch_units}
 use Rattle.net_units.proofs.Counting.{nothing_made}
-use Rattle.net_units.proofs.Distinct.{addrs_exact, number_exact, numbers_exact, vip_exact}
+use Rattle.net_units.proofs.Distinct.{addrs_exact, addrs_total, number_exact, numbers_exact, numbers_total, vip_exact, vips_total}
 
 module _ {I : Type 0} (eq : I → I → Bool) (laws : IsEquivalence eq) where
   of_number : (units : List (ObjId × I)) → KeysStandOnce by_number units → makes by_number eq units units ≡ 0
   of_number units once = nothing_made number_total number_exact eq laws.refl units once
 
   of_numbers : (units : List ((ObjId × ObjId) × I)) → KeysStandOnce by_numbers units → makes by_numbers eq units units ≡ 0
-  of_numbers units once =
-      nothing_made (then_total (on_total (λ (k : ObjId × ObjId). k.0) number_total) (on_total (λ (k : ObjId × ObjId). k.1) number_total)) numbers_exact eq laws.refl units once
+  of_numbers units once = nothing_made numbers_total numbers_exact eq laws.refl units once
 
   of_vip : (units : List ((ObjId × Frontend × ObjId) × I)) → KeysStandOnce by_vip units → makes by_vip eq units units ≡ 0
-  of_vip units once =
-      nothing_made
-      (then_total (then_total (on_total (λ (k : ObjId × Frontend × ObjId). k.0) number_total) (on_total (λ (k : ObjId × Frontend × ObjId). k.1) frontends_total)) (on_total (λ (k : ObjId × Frontend × ObjId). k.2) number_total))
-      vip_exact eq laws.refl units once
+  of_vip units once = nothing_made vips_total vip_exact eq laws.refl units once
 
   of_addr : (units : List ((ObjId × Ip4 × ObjId) × I)) → KeysStandOnce by_addr units → makes by_addr eq units units ≡ 0
-  of_addr units once =
-      nothing_made
-      (then_total (then_total (on_total (λ (k : ObjId × Ip4 × ObjId). k.0) number_total) (on_total (λ (k : ObjId × Ip4 × ObjId). k.1) addrs_total)) (on_total (λ (k : ObjId × Ip4 × ObjId). k.2) number_total))
-      addrs_exact eq laws.refl units once
+  of_addr units once = nothing_made addrs_total addrs_exact eq laws.refl units once
 
 of_plain : (units : List (ObjId × ⊤)) → KeysStandOnce by_number units → makes by_number same_none units units ≡ 0
 of_plain units once = nothing_made number_total number_exact same_none (λ i. refl) units once

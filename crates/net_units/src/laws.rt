@@ -1,6 +1,6 @@
 //! Laws of the units of a network.
 ghost use Rattle.std.specs.Prelude.{◌≡◌, ◌↔◌, List, replicate};
-ghost use Rattle.std.specs.List.{Contains};
+ghost use Rattle.std.specs.List.{AllPairs, Contains};
 ghost use Rattle.nv_map.specs.Map.{KeysRise, value_at};
 ghost use Rattle.nb_model.specs.Network.{Network};
 ghost use Rattle.nb_model.specs.Sound.{IsSound};
@@ -9,9 +9,10 @@ ghost use Rattle.inc_table.specs.Delta.{IsDifference};
 ghost use Rattle.inc_table.specs.Node.{made_by};
 ghost use Rattle.sb_model.specs.declared.row.Row.{Row};
 ghost use Rattle.lr_units.specs.Network.{rows_of_units};
-ghost use Rattle.net_units.specs.Build.{rows_by_kind};
+ghost use Rattle.net_units.specs.Build.{rows_by_kind, rows_of_kinds};
 ghost use Rattle.net_units.specs.Counts.{changed, makes};
 ghost use Rattle.net_units.specs.Keys.{AllKeysStandOnce, KeysStandOnce};
+ghost use Rattle.net_units.specs.OneUnit.{AllRowsOfOneUnit, ShareNoRow};
 
 use nv_base::Kept;
 
@@ -23,6 +24,12 @@ pub fn rows_by_kind_are_those_of_the_units()
 /// No two units of one kind of a sound network have one key.
 pub fn keys_of_units_stand_once()
     ensures { (net : Network) → IsSound net → AllKeysStandOnce net }
+{}
+
+/// No row of a sound network is of two units: neither of two of one kind, nor of two kinds.
+pub fn rows_are_of_one_unit()
+    ensures within { (net : Network) → IsSound net → AllRowsOfOneUnit net }
+    ensures between { (net : Network) → IsSound net → AllPairs ShareNoRow (rows_of_kinds net) }
 {}
 
 /// What a node makes of the difference of two lists of units, in which no key stands twice, is what is counted of these. The count is

@@ -6,5 +6,5 @@ mod laws;
 
 pub use laws::{
     differences_make_what_is_counted, keys_of_units_stand_once, no_change_makes_no_unit,
-    rows_by_kind_are_those_of_the_units,
+    rows_are_of_one_unit, rows_by_kind_are_those_of_the_units,
 };

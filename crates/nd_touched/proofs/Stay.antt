@@ -1,6 +1,6 @@
 -- Records that stay where they are not touched, and the lists of those that pass a test.
 use Rattle.std.proofs.Common.{◌≡◌, ℕ, Bool, true, false, cond, List, [], ◌∷◌, refl, sym, ap, ◌∙◌}
-use Rattle.std.specs.Prelude.{◌<◌, ◌==◌, Option, None, Some, filter, find, map}
+use Rattle.std.specs.Prelude.{◌<◌, Option, None, Some, filter, map}
 use Rattle.std.specs.List.{AllByRecursion}
 use Rattle.std.specs.Option.{option_map}
 use Rattle.std.proofs.lemmas.Bool.{eqb-true}

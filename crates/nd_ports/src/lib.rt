@@ -5,4 +5,4 @@ mod switch_l2;
 mod unknowns;
 
 pub use switch_l2::switch_l2_delta;
-pub use unknowns::{OnSwitch, unknown_delta};
+pub use unknowns::unknown_delta;

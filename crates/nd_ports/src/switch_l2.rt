@@ -3,7 +3,8 @@ ghost use Rattle.std.specs.Prelude.{◌≡◌, List, IfOk, IsTrue};
 ghost use Rattle.inc_table.specs.Delta.{IsDifference, alters_each};
 ghost use Rattle.nb_model.specs.Network.{Network};
 ghost use Rattle.nb_model.specs.Sound.{IsSound};
-ghost use Rattle.nd_ports.specs.Unknown.{AreUnknown};
+ghost use Rattle.nd_owners.specs.Owners.{HasFirstOfEach};
+ghost use Rattle.nd_ports.specs.Unknown.{unknown_ports};
 ghost use Rattle.nd_touched.specs.Touched.{AreSameButFor};
 ghost use Rattle.nd_touched.specs.Units.{HasUnits};
 ghost use Rattle.net_rows.specs.contracts.inputs.SwitchL2InputPartialEq.TheImpl as input;
@@ -62,7 +63,7 @@ pub fn switch_l2_delta(
 ) -> Result<Delta<ObjId, SwitchL2Input>, OutOfMemory>
     requires sound { IsSound records.now }
     ensures tells { IfOk result (λ delta. (old : Network) (before after was : List (ObjId × ObjId)) → IsSound old → AreSameButFor touched.now old records.now → HasUnits by_number (switch_l2_units old) there.now
-        → AreUnknown old before was → AreUnknown records.now after unknown.now → IsDifference by_number (number.ghosts).eq was unknown.now changed.now → IsDifference by_number (input.ghosts).eq there.now (switch_l2_units records.now) delta) }
+        → HasFirstOfEach (unknown_ports old) before was → HasFirstOfEach (unknown_ports records.now) after unknown.now → IsDifference by_number (number.ghosts).eq was unknown.now changed.now → IsDifference by_number (input.ghosts).eq there.now (switch_l2_units records.now) delta) }
     ensures rise { IfOk result (λ delta. KeysRise by_number delta) }
     ensures alters { IfOk result (λ delta. IsTrue (alters_each by_number (input.ghosts).eq delta there.now)) }
 {

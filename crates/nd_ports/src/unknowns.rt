@@ -11,40 +11,12 @@ ghost use Rattle.nv_base.specs.contracts.object.ObjIdPartialEq.TheImpl as number
 ghost use Rattle.nv_map.specs.Map.{KeysRise};
 
 use inc_feed::{Wanted, delta_of};
-use inc_group::Groups;
 use inc_table::{Delta, Owned};
 use nb_store::Records;
 use nd_inputs::is_for_unknown;
 use nd_touched::Touched;
 use nv_base::{ObjId, OutOfMemory};
 use std::alloc::Global;
-
-/// Ports with their switches, grouped by these.
-#[derive(Drop)]
-pub struct OnSwitch;
-
-impl Groups for OnSwitch {
-    ghost use Rattle.nd_ports.specs.Unknown.{of_switch};
-
-    type Key = ObjId;
-
-    type Value = ObjId;
-
-    type Group = ObjId;
-
-    ghost groups_of = { of_switch };
-
-    fn groups(
-        &self,
-        alloc: Global,
-        _port: &ObjId,
-        switch: &ObjId,
-    ) -> Result<Vec<ObjId>, OutOfMemory> {
-        let mut groups = Vec::new(alloc);
-        groups.push(*switch)?;
-        Ok(groups)
-    }
-}
 
 // The enabled ports of a network with the address `unknown`.
 #[derive(Drop)]
@@ -53,14 +25,15 @@ struct UnknownPorts<'a> {
 }
 
 impl Wanted for UnknownPorts<'_> {
-    ghost use Rattle.nd_ports.specs.inner.Found.{switch_where};
+    ghost use Rattle.nd_owners.specs.inner.Found.{owner_where};
+    ghost use Rattle.nd_ports.specs.Unknown.{is_for_unknown};
     ghost use Rattle.nv_table.specs.Table.{record_of};
 
     type Key = ObjId;
 
     type Value = ObjId;
 
-    ghost wanted_of = { λ ports key. switch_where (record_of (λ x. x.id) key ports.records.now.ports) };
+    ghost wanted_of = { λ ports key. owner_where (λ port. port.switch) is_for_unknown (record_of (λ x. x.id) key ports.records.now.ports) };
 
     fn wanted(&self, _alloc: Global, key: &ObjId) -> Result<Option<ObjId>, OutOfMemory> {
         match self.records.ports().get(*key) {

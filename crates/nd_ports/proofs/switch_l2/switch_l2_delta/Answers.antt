@@ -9,7 +9,8 @@ use Rattle.net_units.specs.Keys.{by_number}
 use Rattle.net_units.specs.Units.{switch_l2_units}
 use Rattle.nd_touched.proofs.Fed.{fed_units}
 use Rattle.nd_ports.specs.inner.Found.{input_where}
-use Rattle.nd_ports.proofs.Unknown.{first_stays, input_alike, l2_at, neither}
+use Rattle.nd_owners.proofs.Kept.{first_stays, neither}
+use Rattle.nd_ports.proofs.Unknown.{input_alike, l2_at}
 use Rattle.nd_ports.proofs.switch_l2.switch_l2_delta.Goals as goal
 
 pub returns-clause-tells : goal.returns-clause-tells

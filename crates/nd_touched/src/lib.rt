@@ -5,5 +5,5 @@ mod keys;
 mod picks;
 mod touched;
 
-pub use keys::and_changed;
+pub use keys::{and_changed, and_owners};
 pub use touched::Touched;

@@ -1,0 +1,2 @@
+pub mod Dnats
+pub mod inner

@@ -1,0 +1,10 @@
+pub mod Agree
+pub mod Covered
+pub mod Differing
+pub mod Fields
+pub mod Joined
+pub mod Loops
+pub mod Meaning
+pub mod Placed
+pub mod Related
+pub mod Shifts

@@ -4,6 +4,8 @@
 #[cfg(test)]
 mod copies;
 #[cfg(test)]
+mod covering;
+#[cfg(test)]
 mod holding;
 #[cfg(test)]
 mod network;
